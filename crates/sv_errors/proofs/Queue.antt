@@ -21,14 +21,14 @@ reported acts = unwrap_or (newest_report acts) NoError
 -- ---- what is left of the admitted reports
 
 -- a report that finds room is the newest of it
-left-admitted : (before : Counted) (place : ℕ) → before.taken ≤ length before.admitted → length (left before) < most
+left_admitted : (before : Counted) (place : ℕ) → before.taken ≤ length before.admitted → length (left before) < most
     → left (admit before place) ≡ left before ++ place ∷ []
-left-admitted before place few room = rw (lt-ltb (length (left before)) most room)
+left_admitted before place few room = rw (lt-ltb (length (left before)) most room)
     (drop-append-le before.taken before.admitted (place ∷ []) few)
 
 -- a report that finds none changes nothing
-admit-full : (before : Counted) (place : ℕ) → most ≤ length (left before) → admit before place ≡ before
-admit-full before place full = rw (le-ltb (length (left before)) most full) refl
+admit_full : (before : Counted) (place : ℕ) → most ≤ length (left before) → admit before place ≡ before
+admit_full before place full = rw (le-ltb (length (left before)) most full) refl
 
 any_or_none : (places : List ℕ) → (is_some (slice_get places 0) ≡ true) × (1 ≤ length places)
     ⊎ (is_some (slice_get places 0) ≡ false) × (places ≡ [])
@@ -36,22 +36,22 @@ any_or_none [] = inr (refl, refl)
 any_or_none (place ∷ places) = inl (refl, omega arith)
 
 -- taking leaves out the oldest
-left-taken : (before : Counted) → left (take_one before) ≡ drop 1 (left before)
-left-taken before = elim (any_or_none (left before)) [
+left_taken : (before : Counted) → left (take_one before) ≡ drop 1 (left before)
+left_taken before = elim (any_or_none (left before)) [
   | inl some ↦ rw some.0 (sym (drop-drop 1 before.taken before.admitted))
   | inr none ↦ rw none.0 (none.1 ∙ sym (ap (drop 1) none.1))
 ]
 
 -- no more are taken than were admitted
-taken-admitted : (before : Counted) (place : ℕ) → before.taken ≤ length before.admitted
+taken_admitted : (before : Counted) (place : ℕ) → before.taken ≤ length before.admitted
     → (admit before place).taken ≤ length (admit before place).admitted
-taken-admitted before place few = elim (cases_lt (length (left before)) most) [
+taken_admitted before place few = elim (cases_lt (length (left before)) most) [
   | inl room ↦ rw (lt-ltb (length (left before)) most room) (omega (arith, length-append before.admitted (place ∷ [])))
   | inr full ↦ rw (le-ltb (length (left before)) most full) few
 ]
 
-taken-taken : (before : Counted) → before.taken ≤ length before.admitted → (take_one before).taken ≤ length (take_one before).admitted
-taken-taken before few = elim (any_or_none (left before)) [
+taken_taken : (before : Counted) → before.taken ≤ length before.admitted → (take_one before).taken ≤ length (take_one before).admitted
+taken_taken before few = elim (any_or_none (left before)) [
   | inl some ↦ rw some.0 (omega (arith, some.1, length-drop before.taken before.admitted))
   | inr none ↦ rw none.0 few
 ]
@@ -59,80 +59,80 @@ taken-taken before few = elim (any_or_none (left before)) [
 -- ---- what an entry shows, one act later
 
 -- the acts up to a place stay
-up_to-more : (place : ℕ) (act : QueueAct) (acts : List QueueAct) → place ≤ length acts → up_to place (act ∷ acts) ≡ up_to place acts
-up_to-more place act acts le = let e : length (act ∷ acts) - place ≡ suc (length acts - place) = omega arith in
+up_to_more : (place : ℕ) (act : QueueAct) (acts : List QueueAct) → place ≤ length acts → up_to place (act ∷ acts) ≡ up_to place acts
+up_to_more place act acts le = let e : length (act ∷ acts) - place ≡ suc (length acts - place) = omega arith in
     ap (λ (n : ℕ). drop n (act ∷ acts)) e
 
 -- those up to the newest are all
-up_to-all : (acts : List QueueAct) → up_to (length acts) acts ≡ acts
-up_to-all acts = let e : length acts - length acts ≡ 0 = omega arith in ap (λ (n : ℕ). drop n acts) e
+up_to_all : (acts : List QueueAct) → up_to (length acts) acts ≡ acts
+up_to_all acts = let e : length acts - length acts ≡ 0 = omega arith in ap (λ (n : ℕ). drop n acts) e
 
 -- what came next after an older place stays
-overtaken-more : (place : ℕ) (act : QueueAct) (acts : List QueueAct) → place < length acts
+overtaken_more : (place : ℕ) (act : QueueAct) (acts : List QueueAct) → place < length acts
     → is_overtaken place (act ∷ acts) ≡ is_overtaken place acts
-overtaken-more place act acts lt =
+overtaken_more place act acts lt =
     ap (λ (b : Bool). b && is_report (up_to (place + 1) (act ∷ acts))) (lt-ltb place (suc (length acts)) (omega arith))
-    ∙ ap is_report (up_to-more (place + 1) act acts (omega arith))
+    ∙ ap is_report (up_to_more (place + 1) act acts (omega arith))
     ∙ sym (ap (λ (b : Bool). b && is_report (up_to (place + 1) acts)) (lt-ltb place (length acts) lt))
 
 -- nothing came after the newest place
-overtaken-newest : (acts : List QueueAct) → is_overtaken (length acts) acts ≡ false
-overtaken-newest acts = ap (λ (b : Bool). b && is_report (up_to (length acts + 1) acts)) (le-ltb (length acts) (length acts) (omega arith))
+overtaken_newest : (acts : List QueueAct) → is_overtaken (length acts) acts ≡ false
+overtaken_newest acts = ap (λ (b : Bool). b && is_report (up_to (length acts + 1) acts)) (le-ltb (length acts) (length acts) (omega arith))
 
 -- the new act comes next after it
-overtaken-next : (act : QueueAct) (acts : List QueueAct) → is_overtaken (length acts) (act ∷ acts) ≡ is_report (act ∷ acts)
-overtaken-next act acts =
+overtaken_next : (act : QueueAct) (acts : List QueueAct) → is_overtaken (length acts) (act ∷ acts) ≡ is_report (act ∷ acts)
+overtaken_next act acts =
     ap (λ (b : Bool). b && is_report (up_to (length acts + 1) (act ∷ acts))) (lt-ltb (length acts) (suc (length acts)) (omega arith))
-    ∙ ap (λ (n : ℕ). is_report (up_to n (act ∷ acts))) (add-one (length acts)) ∙ ap is_report (up_to-all (act ∷ acts))
+    ∙ ap (λ (n : ℕ). is_report (up_to n (act ∷ acts))) (add-one (length acts)) ∙ ap is_report (up_to_all (act ∷ acts))
 
 -- what is shown, by the acts up to the place
 abbrev shows : List QueueAct → Bool → Code
 shows acts overtaken = cond (is_full acts && overtaken) QueueOverflow (reported acts)
 
-shown-older : (place : ℕ) (act : QueueAct) (acts : List QueueAct) → place < length acts
+shown_older : (place : ℕ) (act : QueueAct) (acts : List QueueAct) → place < length acts
     → entry_code (act ∷ acts) place ≡ entry_code acts place
-shown-older place act acts lt =
-    ap (λ (rest : List QueueAct). shows rest (is_overtaken place (act ∷ acts))) (up_to-more place act acts (omega arith))
-    ∙ ap (shows (up_to place acts)) (overtaken-more place act acts lt)
+shown_older place act acts lt =
+    ap (λ (rest : List QueueAct). shows rest (is_overtaken place (act ∷ acts))) (up_to_more place act acts (omega arith))
+    ∙ ap (shows (up_to place acts)) (overtaken_more place act acts lt)
 
-shown-next : (act : QueueAct) (acts : List QueueAct) → entry_code (act ∷ acts) (length acts) ≡ shows acts (is_report (act ∷ acts))
-shown-next act acts =
+shown_next : (act : QueueAct) (acts : List QueueAct) → entry_code (act ∷ acts) (length acts) ≡ shows acts (is_report (act ∷ acts))
+shown_next act acts =
     ap (λ (rest : List QueueAct). shows rest (is_overtaken (length acts) (act ∷ acts)))
-    (up_to-more (length acts) act acts (omega arith) ∙ up_to-all acts) ∙ ap (shows acts) (overtaken-next act acts)
+    (up_to_more (length acts) act acts (omega arith) ∙ up_to_all acts) ∙ ap (shows acts) (overtaken_next act acts)
 
 -- the newest entry shows its report's code
-shown-newest : (acts : List QueueAct) → entry_code acts (length acts) ≡ reported acts
-shown-newest acts =
-    ap (λ (rest : List QueueAct). shows rest (is_overtaken (length acts) acts)) (up_to-all acts) ∙ ap (shows acts) (overtaken-newest acts)
+shown_newest : (acts : List QueueAct) → entry_code acts (length acts) ≡ reported acts
+shown_newest acts =
+    ap (λ (rest : List QueueAct). shows rest (is_overtaken (length acts) acts)) (up_to_all acts) ∙ ap (shows acts) (overtaken_newest acts)
     ∙ ap (λ (b : Bool). cond b QueueOverflow (reported acts)) (and_right (is_full acts) false refl)
 
 -- an act that is no report to a full queue changes nothing of what is shown
-shown-same : (place : ℕ) (act : QueueAct) (acts : List QueueAct) → (is_full acts && is_report (act ∷ acts)) ≡ false → place ≤ length acts
+shown_same : (place : ℕ) (act : QueueAct) (acts : List QueueAct) → (is_full acts && is_report (act ∷ acts)) ≡ false → place ≤ length acts
     → entry_code (act ∷ acts) place ≡ entry_code acts place
-shown-same place act acts quiet le = elim (cases_lt place (length acts)) [
-  | inl lt ↦ shown-older place act acts lt
+shown_same place act acts quiet le = elim (cases_lt place (length acts)) [
+  | inl lt ↦ shown_older place act acts lt
   | inr ge ↦ let e : place ≡ length acts = omega arith in
-      ap (entry_code (act ∷ acts)) e ∙ shown-next act acts ∙ ap (λ (b : Bool). cond b QueueOverflow (reported acts)) quiet
-      ∙ sym (shown-newest acts) ∙ sym (ap (entry_code acts) e)
+      ap (entry_code (act ∷ acts)) e ∙ shown_next act acts ∙ ap (λ (b : Bool). cond b QueueOverflow (reported acts)) quiet
+      ∙ sym (shown_newest acts) ∙ sym (ap (entry_code acts) e)
 ]
 
 -- ---- lists whose elements all have a property
 
-all-push : (P : ℕ → Type 0) (xs : List ℕ) (x : ℕ) → AllByRecursion P xs → P x → AllByRecursion P (xs ++ x ∷ [])
-all-push P [] x all p = (p, tt)
-all-push P (y ∷ xs) x all p = (all.0, all-push P xs x all.1 p)
+all_push : (P : ℕ → Type 0) (xs : List ℕ) (x : ℕ) → AllByRecursion P xs → P x → AllByRecursion P (xs ++ x ∷ [])
+all_push P [] x all p = (p, tt)
+all_push P (y ∷ xs) x all p = (all.0, all_push P xs x all.1 p)
 
-all-weaker : (P Q : ℕ → Type 0) (xs : List ℕ) → ((x : ℕ) → P x → Q x) → AllByRecursion P xs → AllByRecursion Q xs
-all-weaker P Q [] h all = tt
-all-weaker P Q (x ∷ xs) h all = (h x all.0, all-weaker P Q xs h all.1)
+all_weaker : (P Q : ℕ → Type 0) (xs : List ℕ) → ((x : ℕ) → P x → Q x) → AllByRecursion P xs → AllByRecursion Q xs
+all_weaker P Q [] h all = tt
+all_weaker P Q (x ∷ xs) h all = (h x all.0, all_weaker P Q xs h all.1)
 
-all-rest : (P : ℕ → Type 0) (xs : List ℕ) → AllByRecursion P xs → AllByRecursion P (drop 1 xs)
-all-rest P [] all = tt
-all-rest P (x ∷ xs) all = all.1
+all_rest : (P : ℕ → Type 0) (xs : List ℕ) → AllByRecursion P xs → AllByRecursion P (drop 1 xs)
+all_rest P [] all = tt
+all_rest P (x ∷ xs) all = all.1
 
-map-same : (P : ℕ → Type 0) (f g : ℕ → Code) (xs : List ℕ) → ((x : ℕ) → P x → f x ≡ g x) → AllByRecursion P xs → map f xs ≡ map g xs
-map-same P f g [] h all = refl
-map-same P f g (x ∷ xs) h all = ap (λ (c : Code). c ∷ map f xs) (h x all.0) ∙ ap (λ (cs : List Code). g x ∷ cs) (map-same P f g xs h all.1)
+map_same : (P : ℕ → Type 0) (f g : ℕ → Code) (xs : List ℕ) → ((x : ℕ) → P x → f x ≡ g x) → AllByRecursion P xs → map f xs ≡ map g xs
+map_same P f g [] h all = refl
+map_same P f g (x ∷ xs) h all = ap (λ (c : Code). c ∷ map f xs) (h x all.0) ∙ ap (λ (cs : List Code). g x ∷ cs) (map_same P f g xs h all.1)
 
 -- ---- what the entries are like
 
@@ -154,98 +154,98 @@ record IsValid (acts : List QueueAct) : Type 0 where
 
 -- ---- a report that finds room
 
-entries-reported : (code : Code) (acts : List QueueAct) → IsValid acts → length (entries acts) < most
+entries_reported : (code : Code) (acts : List QueueAct) → IsValid acts → length (entries acts) < most
     → entries (Report code ∷ acts) ≡ entries acts ++ (length acts + 1) ∷ []
-entries-reported code acts is room = left-admitted (count_acts acts) (length acts + 1) is.taken room
+entries_reported code acts is room = left_admitted (count_acts acts) (length acts + 1) is.taken room
 
-reported-full : (code : Code) (acts : List QueueAct) → IsValid acts → length (entries acts) < most
+reported_full : (code : Code) (acts : List QueueAct) → IsValid acts → length (entries acts) < most
     → length (entries (Report code ∷ acts)) ≡ most
     → IsFull (Report code ∷ acts)
-reported-full code acts is room many =
-    let split = entries-reported code acts is room in
+reported_full code acts is room many =
+    let split = entries_reported code acts is room in
     record {
       front = entries acts;
       last = length acts + 1;
       split = split;
       size = omega (arith, ap length split, length-append (entries acts) ((length acts + 1) ∷ []));
-      older = all-weaker (λ place. place ≤ length acts) (λ place. place < length (Report code ∷ acts)) (entries acts)
+      older = all_weaker (λ place. place ≤ length acts) (λ place. place < length (Report code ∷ acts)) (entries acts)
           (λ place le. omega arith) is.within;
       newest = inl (add-one (length acts));
     }
 
-valid-reported : (code : Code) (acts : List QueueAct) → IsValid acts → length (entries acts) < most → IsValid (Report code ∷ acts)
-valid-reported code acts is room =
-    let split = entries-reported code acts is room in
-    let wider = all-weaker (λ place. place ≤ length acts) (λ place. place ≤ length (Report code ∷ acts)) (entries acts)
+valid_reported : (code : Code) (acts : List QueueAct) → IsValid acts → length (entries acts) < most → IsValid (Report code ∷ acts)
+valid_reported code acts is room =
+    let split = entries_reported code acts is room in
+    let wider = all_weaker (λ place. place ≤ length acts) (λ place. place ≤ length (Report code ∷ acts)) (entries acts)
     (λ place le. omega arith) is.within in
     record {
-      taken = taken-admitted (count_acts acts) (length acts + 1) is.taken;
+      taken = taken_admitted (count_acts acts) (length acts + 1) is.taken;
       few = omega (arith, ap length split, length-append (entries acts) ((length acts + 1) ∷ []));
       within = subst (AllByRecursion (λ place. place ≤ length (Report code ∷ acts))) (sym split)
-          (all-push (λ place. place ≤ length (Report code ∷ acts)) (entries acts) (length acts + 1) wider (omega arith));
-      full = reported-full code acts is room;
+          (all_push (λ place. place ≤ length (Report code ∷ acts)) (entries acts) (length acts + 1) wider (omega arith));
+      full = reported_full code acts is room;
     }
 
 -- ---- a report that finds none
 
-entries-overflowed : (code : Code) (acts : List QueueAct) → most ≤ length (entries acts) → entries (Report code ∷ acts) ≡ entries acts
-entries-overflowed code acts full = ap left (admit-full (count_acts acts) (length acts + 1) full)
+entries_overflowed : (code : Code) (acts : List QueueAct) → most ≤ length (entries acts) → entries (Report code ∷ acts) ≡ entries acts
+entries_overflowed code acts full = ap left (admit_full (count_acts acts) (length acts + 1) full)
 
 -- the newest entry shows the overflow
-shown-overflowed : (code : Code) (acts : List QueueAct) (last : ℕ) → length (entries acts) ≡ most
+shown_overflowed : (code : Code) (acts : List QueueAct) (last : ℕ) → length (entries acts) ≡ most
     → (last ≡ length acts) ⊎ (last < length acts) × (entry_code acts last ≡ QueueOverflow)
     → entry_code (Report code ∷ acts) last ≡ QueueOverflow
-shown-overflowed code acts last many (inl e) =
-    ap (entry_code (Report code ∷ acts)) e ∙ shown-next (Report code) acts
+shown_overflowed code acts last many (inl e) =
+    ap (entry_code (Report code ∷ acts)) e ∙ shown_next (Report code) acts
     ∙ ap (λ (b : Bool). cond (b && true) QueueOverflow (reported acts)) (eq-eqb (length (entries acts)) most many)
-shown-overflowed code acts last many (inr older) = shown-older last (Report code) acts older.0 ∙ older.1
+shown_overflowed code acts last many (inr older) = shown_older last (Report code) acts older.0 ∙ older.1
 
-newest-within : (acts : List QueueAct) (last : ℕ) → (last ≡ length acts) ⊎ (last < length acts) × (entry_code acts last ≡ QueueOverflow)
+newest_within : (acts : List QueueAct) (last : ℕ) → (last ≡ length acts) ⊎ (last < length acts) × (entry_code acts last ≡ QueueOverflow)
     → last < suc (length acts)
-newest-within acts last (inl e) = omega arith
-newest-within acts last (inr older) = omega (arith, older.0)
+newest_within acts last (inl e) = omega arith
+newest_within acts last (inr older) = omega (arith, older.0)
 
-overflowed-full : (code : Code) (acts : List QueueAct) → length (entries acts) ≡ most → IsFull acts → IsFull (Report code ∷ acts)
-overflowed-full code acts many is = record {
+overflowed_full : (code : Code) (acts : List QueueAct) → length (entries acts) ≡ most → IsFull acts → IsFull (Report code ∷ acts)
+overflowed_full code acts many is = record {
   front = is.front;
   last = is.last;
-  split = entries-overflowed code acts (omega arith) ∙ is.split;
+  split = entries_overflowed code acts (omega arith) ∙ is.split;
   size = is.size;
-  older = all-weaker (λ place. place < length acts) (λ place. place < length (Report code ∷ acts)) is.front
+  older = all_weaker (λ place. place < length acts) (λ place. place < length (Report code ∷ acts)) is.front
       (λ place lt. omega arith) is.older;
-  newest = inr (newest-within acts is.last is.newest, shown-overflowed code acts is.last many is.newest);
+  newest = inr (newest_within acts is.last is.newest, shown_overflowed code acts is.last many is.newest);
 }
 
-valid-overflowed : (code : Code) (acts : List QueueAct) → IsValid acts → most ≤ length (entries acts) → IsValid (Report code ∷ acts)
-valid-overflowed code acts is full =
-    let same = entries-overflowed code acts full in
+valid_overflowed : (code : Code) (acts : List QueueAct) → IsValid acts → most ≤ length (entries acts) → IsValid (Report code ∷ acts)
+valid_overflowed code acts is full =
+    let same = entries_overflowed code acts full in
     let few = is.few in
     let many : length (entries acts) ≡ most = omega arith in
     record {
-      taken = taken-admitted (count_acts acts) (length acts + 1) is.taken;
+      taken = taken_admitted (count_acts acts) (length acts + 1) is.taken;
       few = omega (arith, ap length same);
       within = subst (AllByRecursion (λ place. place ≤ length (Report code ∷ acts))) (sym same)
-          (all-weaker (λ place. place ≤ length acts) (λ place. place ≤ length (Report code ∷ acts)) (entries acts)
+          (all_weaker (λ place. place ≤ length acts) (λ place. place ≤ length (Report code ∷ acts)) (entries acts)
           (λ place le. omega arith) is.within);
-      full = λ e. overflowed-full code acts many (is.full many);
+      full = λ e. overflowed_full code acts many (is.full many);
     }
 
 -- ---- a taking
 
-entries-taken : (acts : List QueueAct) → entries (Take ∷ acts) ≡ drop 1 (entries acts)
-entries-taken acts = left-taken (count_acts acts)
+entries_taken : (acts : List QueueAct) → entries (Take ∷ acts) ≡ drop 1 (entries acts)
+entries_taken acts = left_taken (count_acts acts)
 
-valid-taken : (acts : List QueueAct) → IsValid acts → IsValid (Take ∷ acts)
-valid-taken acts is =
-    let rest = entries-taken acts in
+valid_taken : (acts : List QueueAct) → IsValid acts → IsValid (Take ∷ acts)
+valid_taken acts is =
+    let rest = entries_taken acts in
     let few = is.few in
     let size : length (entries (Take ∷ acts)) ≡ length (entries acts) - 1 = ap length rest ∙ length-drop 1 (entries acts) in
     record {
-      taken = taken-taken (count_acts acts) is.taken;
+      taken = taken_taken (count_acts acts) is.taken;
       few = omega arith;
       within = subst (AllByRecursion (λ place. place ≤ length (Take ∷ acts))) (sym rest)
-          (all-rest (λ place. place ≤ length (Take ∷ acts)) (entries acts)
-          (all-weaker (λ place. place ≤ length acts) (λ place. place ≤ length (Take ∷ acts)) (entries acts)
+          (all_rest (λ place. place ≤ length (Take ∷ acts)) (entries acts)
+          (all_weaker (λ place. place ≤ length acts) (λ place. place ≤ length (Take ∷ acts)) (entries acts)
           (λ place le. omega arith) is.within));
       full = λ many. absurd (omega arith);
     }
@@ -254,115 +254,115 @@ valid-taken acts is =
 valid : (acts : List QueueAct) → IsValid acts
 valid [] = record { taken = omega arith; few = omega arith; within = tt; full = λ many. absurd (omega arith) }
 valid (Report code ∷ acts) = elim (cases_lt (length (entries acts)) most) [
-  | inl room ↦ valid-reported code acts (valid acts) room
+  | inl room ↦ valid_reported code acts (valid acts) room
   | inr full ↦
-      valid-overflowed code acts (valid acts) full
+      valid_overflowed code acts (valid acts) full
 ]
-valid (Take ∷ acts) = valid-taken acts (valid acts)
+valid (Take ∷ acts) = valid_taken acts (valid acts)
 valid (Clear ∷ acts) = record { taken = omega arith; few = omega arith; within = tt; full = λ many. absurd (omega arith) }
 
 -- ---- what is queued, one act later
 
 -- what the entries show stays, but where a report overflows
-shown-entries : (act : QueueAct) (acts : List QueueAct) → (is_full acts && is_report (act ∷ acts)) ≡ false
+shown_entries : (act : QueueAct) (acts : List QueueAct) → (is_full acts && is_report (act ∷ acts)) ≡ false
     → map (entry_code (act ∷ acts)) (entries acts) ≡ queue_codes acts
-shown-entries act acts quiet = map-same (λ place. place ≤ length acts) (entry_code (act ∷ acts)) (entry_code acts) (entries acts)
-    (λ place le. shown-same place act acts quiet le) (valid acts).within
+shown_entries act acts quiet = map_same (λ place. place ≤ length acts) (entry_code (act ∷ acts)) (entry_code acts) (entries acts)
+    (λ place le. shown_same place act acts quiet le) (valid acts).within
 
 -- each entry shows one code
-pub length-queued : (acts : List QueueAct) → length (queue_codes acts) ≡ length (entries acts)
-length-queued acts = length-map (entries acts) (entry_code acts)
+pub length_queued : (acts : List QueueAct) → length (queue_codes acts) ≡ length (entries acts)
+length_queued acts = length-map (entries acts) (entry_code acts)
 
 -- a report that finds room becomes the newest
-pub queued-reported : (code : Code) (acts : List QueueAct) → length (queue_codes acts) < most
+pub queued_reported : (code : Code) (acts : List QueueAct) → length (queue_codes acts) < most
     → queue_codes (Report code ∷ acts) ≡ queue_codes acts ++ code ∷ []
-queued-reported code acts few =
-    let room : length (entries acts) < most = omega (arith, few, length-queued acts) in
+queued_reported code acts few =
+    let room : length (entries acts) < most = omega (arith, few, length_queued acts) in
     let quiet : (is_full acts && true) ≡ false = ap (λ (b : Bool). b && true) (ne_eqb (length (entries acts)) most (λ e. omega arith)) in
-    ap (map (entry_code (Report code ∷ acts))) (entries-reported code acts (valid acts) room)
+    ap (map (entry_code (Report code ∷ acts))) (entries_reported code acts (valid acts) room)
     ∙ map_push (entry_code (Report code ∷ acts)) (entries acts) (length acts + 1)
-    ∙ ap (λ (cs : List Code). cs ++ entry_code (Report code ∷ acts) (length acts + 1) ∷ []) (shown-entries (Report code) acts quiet)
+    ∙ ap (λ (cs : List Code). cs ++ entry_code (Report code ∷ acts) (length acts + 1) ∷ []) (shown_entries (Report code) acts quiet)
     ∙ ap (λ (n : ℕ). queue_codes acts ++ entry_code (Report code ∷ acts) n ∷ []) (add-one (length acts))
-    ∙ ap (λ (c : Code). queue_codes acts ++ c ∷ []) (shown-newest (Report code ∷ acts))
+    ∙ ap (λ (c : Code). queue_codes acts ++ c ∷ []) (shown_newest (Report code ∷ acts))
 
 -- the entries of a full queue
-full-shown : (acts : List QueueAct) (now : List QueueAct) (is : IsFull acts)
+full_shown : (acts : List QueueAct) (now : List QueueAct) (is : IsFull acts)
     → map (entry_code now) (entries acts) ≡ map (entry_code now) is.front ++ entry_code now is.last ∷ []
-full-shown acts now is = ap (map (entry_code now)) is.split ∙ map_push (entry_code now) is.front is.last
+full_shown acts now is = ap (map (entry_code now)) is.split ∙ map_push (entry_code now) is.front is.last
 
 -- a report that finds none shows the overflow in the place of the newest
-pub queued-overflowed : (code : Code) (acts : List QueueAct) → length (queue_codes acts) ≡ most
+pub queued_overflowed : (code : Code) (acts : List QueueAct) → length (queue_codes acts) ≡ most
     → queue_codes (Report code ∷ acts) ≡ take (most - 1) (queue_codes acts) ++ QueueOverflow ∷ []
-queued-overflowed code acts full =
-    let many = sym (length-queued acts) ∙ full in
+queued_overflowed code acts full =
+    let many = sym (length_queued acts) ∙ full in
     let is = (valid acts).full many in
     let front : take (most - 1) (queue_codes acts) ≡ map (entry_code acts) is.front =
-    ap (take (most - 1)) (full-shown acts acts is) ∙ take_at (map (entry_code acts) is.front) (entry_code acts is.last ∷ []) (most - 1)
+    ap (take (most - 1)) (full_shown acts acts is) ∙ take_at (map (entry_code acts) is.front) (entry_code acts is.last ∷ []) (most - 1)
     (length-map is.front (entry_code acts) ∙ is.size) in
-    ap (map (entry_code (Report code ∷ acts))) (entries-overflowed code acts (omega arith))
-    ∙ full-shown acts (Report code ∷ acts) is
-    ∙ ap (λ (c : Code). map (entry_code (Report code ∷ acts)) is.front ++ c ∷ []) (shown-overflowed code acts is.last many is.newest)
+    ap (map (entry_code (Report code ∷ acts))) (entries_overflowed code acts (omega arith))
+    ∙ full_shown acts (Report code ∷ acts) is
+    ∙ ap (λ (c : Code). map (entry_code (Report code ∷ acts)) is.front ++ c ∷ []) (shown_overflowed code acts is.last many is.newest)
     ∙ ap (λ (cs : List Code). cs ++ QueueOverflow ∷ [])
-    (map-same (λ place. place < length acts) (entry_code (Report code ∷ acts)) (entry_code acts) is.front
-    (λ place lt. shown-older place (Report code) acts lt) is.older ∙ sym front)
+    (map_same (λ place. place < length acts) (entry_code (Report code ∷ acts)) (entry_code acts) is.front
+    (λ place lt. shown_older place (Report code) acts lt) is.older ∙ sym front)
 
 -- a taking leaves out the oldest
-pub queued-taken : (acts : List QueueAct) → queue_codes (Take ∷ acts) ≡ drop 1 (queue_codes acts)
-queued-taken acts =
-    ap (map (entry_code (Take ∷ acts))) (entries-taken acts) ∙ sym (drop-map (entry_code (Take ∷ acts)) 1 (entries acts))
-    ∙ ap (drop 1) (shown-entries Take acts (and_right (is_full acts) false refl))
+pub queued_taken : (acts : List QueueAct) → queue_codes (Take ∷ acts) ≡ drop 1 (queue_codes acts)
+queued_taken acts =
+    ap (map (entry_code (Take ∷ acts))) (entries_taken acts) ∙ sym (drop-map (entry_code (Take ∷ acts)) 1 (entries acts))
+    ∙ ap (drop 1) (shown_entries Take acts (and_right (is_full acts) false refl))
 
 -- ---- how many errors are lost
 
 -- a report that finds room loses nothing
-lost-reported : (code : Code) (acts : List QueueAct) → length (queue_codes acts) < most → lost (Report code ∷ acts) ≡ lost acts
-lost-reported code acts few =
+lost_reported : (code : Code) (acts : List QueueAct) → length (queue_codes acts) < most → lost (Report code ∷ acts) ≡ lost acts
+lost_reported code acts few =
     let room : (length (entries acts) == most) ≡ false =
-    ne_eqb (length (entries acts)) most (λ e. omega (arith, few, length-queued acts)) in
+    ne_eqb (length (entries acts)) most (λ e. omega (arith, few, length_queued acts)) in
     let step : lost (Report code ∷ acts) ≡ lost acts + 0 = ap (λ (b : Bool). lost acts + cond b 1 0) room in
     omega (arith, step)
 
 -- a report that finds none loses its error
-lost-overflowed : (code : Code) (acts : List QueueAct) → length (queue_codes acts) ≡ most → lost (Report code ∷ acts) ≡ lost acts + 1
-lost-overflowed code acts full =
-    ap (λ (b : Bool). lost acts + cond b 1 0) (eq-eqb (length (entries acts)) most (sym (length-queued acts) ∙ full))
+lost_overflowed : (code : Code) (acts : List QueueAct) → length (queue_codes acts) ≡ most → lost (Report code ∷ acts) ≡ lost acts + 1
+lost_overflowed code acts full =
+    ap (λ (b : Bool). lost acts + cond b 1 0) (eq-eqb (length (entries acts)) most (sym (length_queued acts) ∙ full))
 
 -- ---- what the queue holds stands for the acts
 
 -- a report that finds room
-pub StandsFor-reported : (queue : Queue) (code : Code) (acts : List QueueAct) → length queue.codes < most → StandsFor queue acts
+pub stands_for_reported : (queue : Queue) (code : Code) (acts : List QueueAct) → length queue.codes < most → StandsFor queue acts
     → StandsFor (record queue { codes = queue.codes ++ code ∷ [] }) (Report code ∷ acts)
-StandsFor-reported queue code acts room stands =
+stands_for_reported queue code acts room stands =
     let few : length (queue_codes acts) < most = omega (arith, room, ap length stands.codes) in
     record {
-      codes = ap (λ (cs : List Code). cs ++ code ∷ []) stands.codes ∙ sym (queued-reported code acts few);
-      lost_count = stands.lost_count ∙ ap (λ (n : ℕ). min n most_lost) (sym (lost-reported code acts few));
+      codes = ap (λ (cs : List Code). cs ++ code ∷ []) stands.codes ∙ sym (queued_reported code acts few);
+      lost_count = stands.lost_count ∙ ap (λ (n : ℕ). min n most_lost) (sym (lost_reported code acts few));
     }
 
 -- a report that finds none
-pub StandsFor-overflowed : (queue : Queue) (code : Code) (acts : List QueueAct) → length queue.codes ≡ most → StandsFor queue acts
+pub stands_for_overflowed : (queue : Queue) (code : Code) (acts : List QueueAct) → length queue.codes ≡ most → StandsFor queue acts
     → StandsFor (record { codes = take (most - 1) queue.codes ++ QueueOverflow ∷ []; lost_count = min (queue.lost_count + 1) most_lost })
     (Report code ∷ acts)
-StandsFor-overflowed queue code acts full stands =
+stands_for_overflowed queue code acts full stands =
     let many : length (queue_codes acts) ≡ most = sym (ap length stands.codes) ∙ full in
     record {
-      codes = ap (λ (cs : List Code). take (most - 1) cs ++ QueueOverflow ∷ []) stands.codes ∙ sym (queued-overflowed code acts many);
-      lost_count = omega (arith, stands.lost_count, lost-overflowed code acts many);
+      codes = ap (λ (cs : List Code). take (most - 1) cs ++ QueueOverflow ∷ []) stands.codes ∙ sym (queued_overflowed code acts many);
+      lost_count = omega (arith, stands.lost_count, lost_overflowed code acts many);
     }
 
 -- a taking
-pub StandsFor-taken : (queue : Queue) (acts : List QueueAct) → StandsFor queue acts
+pub stands_for_taken : (queue : Queue) (acts : List QueueAct) → StandsFor queue acts
     → StandsFor (record queue { codes = drop 1 queue.codes }) (Take ∷ acts)
-StandsFor-taken queue acts stands =
+stands_for_taken queue acts stands =
     let same : lost (Take ∷ acts) ≡ lost acts = omega arith in
     record {
-      codes = ap (drop 1) stands.codes ∙ sym (queued-taken acts);
+      codes = ap (drop 1) stands.codes ∙ sym (queued_taken acts);
       lost_count = stands.lost_count ∙ ap (λ (n : ℕ). min n most_lost) (sym same);
     }
 
 -- clearing leaves no errors
-pub StandsFor-cleared : (queue : Queue) (acts : List QueueAct) → StandsFor queue acts
+pub stands_for_cleared : (queue : Queue) (acts : List QueueAct) → StandsFor queue acts
     → StandsFor (record queue { codes = [] }) (Clear ∷ acts)
-StandsFor-cleared queue acts stands =
+stands_for_cleared queue acts stands =
     let same : lost (Clear ∷ acts) ≡ lost acts = omega arith in
     record { codes = refl; lost_count = stands.lost_count ∙ ap (λ (n : ℕ). min n most_lost) (sym same) }

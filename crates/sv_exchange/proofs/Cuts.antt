@@ -31,39 +31,39 @@ GoesOn before after new = (k : ℕ) (last first : List ℕ) (others : List (List
     → drop k after ≡ (last ++ first) ∷ others
 
 -- so do the parts with an empty one in front
-goes_on-behind : (before after new : List (List ℕ)) → HasFirst before → GoesOn before after new → GoesOn ([] ∷ before) ([] ∷ after) new
-goes_on-behind before after new some goes zero last first others h e = let f = some.2 in absurd cc
-goes_on-behind before after new some goes (suc k) last first others h e = goes k last first others h e
+goes_on_behind : (before after new : List (List ℕ)) → HasFirst before → GoesOn before after new → GoesOn ([] ∷ before) ([] ∷ after) new
+goes_on_behind before after new some goes zero last first others h e = let f = some.2 in absurd cc
+goes_on_behind before after new some goes (suc k) last first others h e = goes k last first others h e
 
 -- and those with a byte in front
-goes_on-onto : (b : ℕ) (before after new : List (List ℕ)) → HasFirst before → HasFirst after → GoesOn before after new
+goes_on_onto : (b : ℕ) (before after new : List (List ℕ)) → HasFirst before → HasFirst after → GoesOn before after new
     → GoesOn (onto b before) (onto b after) new
-goes_on-onto b before after new some more goes zero last first others h e =
+goes_on_onto b before after new some more goes zero last first others h e =
     let o : onto b before ≡ (b ∷ some.0) ∷ some.1 = ap (onto b) some.2 in
     let none : some.1 ≡ [] = cc in
     let front : b ∷ some.0 ≡ last = cc in
     let f = some.2 in
     ap (onto b) (goes 0 some.0 first others (cc) e) ∙ ap (λ (l : List ℕ). (l ++ first) ∷ others) front
-goes_on-onto b before after new some more goes (suc k) last first others h e =
+goes_on_onto b before after new some more goes (suc k) last first others h e =
     let rest : drop k some.1 ≡ last ∷ [] = sym (ap (λ (ps : List (List ℕ)). drop (suc k) (onto b ps)) some.2) ∙ h in
     ap (λ (ps : List (List ℕ)). drop (suc k) (onto b ps)) more.2 ∙ sym (ap (drop (suc k)) more.2)
     ∙ goes (suc k) last first others (ap (drop (suc k)) some.2 ∙ rest) e
 
 -- more text goes on with the last message
-pub messages-append : (old new : List Symbol) → GoesOn (messages old) (messages (old ++ new)) (messages new)
-messages-append [] new zero last first others h e = let l : [] ≡ last = cc in e ∙ ap (λ (l : List ℕ). (l ++ first) ∷ others) l
-messages-append [] new (suc zero) last first others h e = absurd cc
-messages-append [] new (suc (suc k)) last first others h e = absurd cc
-messages-append (End ∷ old) new k last first others h e =
-    goes_on-behind (messages old) (messages (old ++ new)) (messages new) (messages_some old)
-    (messages-append old new) k last first others h e
-messages-append (Byte b ∷ old) new k last first others h e = at (b == 10) (messages-append old new) k last first others h e
+pub messages_append : (old new : List Symbol) → GoesOn (messages old) (messages (old ++ new)) (messages new)
+messages_append [] new zero last first others h e = let l : [] ≡ last = cc in e ∙ ap (λ (l : List ℕ). (l ++ first) ∷ others) l
+messages_append [] new (suc zero) last first others h e = absurd cc
+messages_append [] new (suc (suc k)) last first others h e = absurd cc
+messages_append (End ∷ old) new k last first others h e =
+    goes_on_behind (messages old) (messages (old ++ new)) (messages new) (messages_some old)
+    (messages_append old new) k last first others h e
+messages_append (Byte b ∷ old) new k last first others h e = at (b == 10) (messages_append old new) k last first others h e
   where
     at : (t : Bool) → GoesOn (messages old) (messages (old ++ new)) (messages new)
         → GoesOn (cond t ([] ∷ messages old) (onto b (messages old))) (cond t ([] ∷ messages (old ++ new)) (onto b (messages (old ++ new))))
         (messages new)
-    at true goes = goes_on-behind (messages old) (messages (old ++ new)) (messages new) (messages_some old) goes
-    at false goes = goes_on-onto b (messages old) (messages (old ++ new)) (messages new) (messages_some old)
+    at true goes = goes_on_behind (messages old) (messages (old ++ new)) (messages new) (messages_some old) goes
+    at false goes = goes_on_onto b (messages old) (messages (old ++ new)) (messages new) (messages_some old)
         (messages_some (old ++ new)) goes
 
 -- the first message is cut off behind so many bytes of so many
@@ -72,9 +72,9 @@ cut_behind n size bytes mark = take n bytes ∷ following (nat_lt n size || mark
     (nat_lt n size && mark)
 
 -- a byte in front
-cut_behind-cons : (b n m : ℕ) (bytes : List ℕ) (mark : Bool) → m ≡ suc n
+cut_behind_cons : (b n m : ℕ) (bytes : List ℕ) (mark : Bool) → m ≡ suc n
     → onto b (cut_behind n (length bytes) bytes mark) ≡ cut_behind m (suc (length bytes)) (b ∷ bytes) mark
-cut_behind-cons b n m bytes mark e =
+cut_behind_cons b n m bytes mark e =
     elim (cases_lt n (length bytes)) [
       | inl lt ↦
           let next : suc n + 1 ≡ suc (n + 1) = omega arith in
@@ -94,4 +94,4 @@ first_cut (b ∷ bytes) mark = at (b == 10) (first_cut bytes mark)
         → cond t ([] ∷ messages (symbols bytes mark)) (onto b (messages (symbols bytes mark)))
         ≡ cut_behind (cond (not t) (1 + first_size bytes) 0) (suc (length bytes)) (b ∷ bytes) mark
     at true h = rw (lt-ltb 0 (suc (length bytes)) (omega arith)) refl
-    at false h = ap (onto b) h ∙ cut_behind-cons b (first_size bytes) (1 + first_size bytes) bytes mark (omega arith)
+    at false h = ap (onto b) h ∙ cut_behind_cons b (first_size bytes) (1 + first_size bytes) bytes mark (omega arith)

@@ -5,12 +5,12 @@ use Rattle.std.specs.List.{position_or_len}
 use Rattle.sv_exchange.specs.Limits.{max_read}
 
 -- among the first k
-pub place-take : (p : ℕ → Bool) (bytes : List ℕ) (k : ℕ)
+pub place_take : (p : ℕ → Bool) (bytes : List ℕ) (k : ℕ)
     → position_or_len p (take k bytes) ≡ min (position_or_len p bytes) (min k (length bytes))
-place-take p [] zero = refl
-place-take p [] (suc k) = omega arith
-place-take p (b ∷ bytes) zero = omega arith
-place-take p (b ∷ bytes) (suc k) = at (p b) (place-take p bytes k)
+place_take p [] zero = refl
+place_take p [] (suc k) = omega arith
+place_take p (b ∷ bytes) zero = omega arith
+place_take p (b ∷ bytes) (suc k) = at (p b) (place_take p bytes k)
   where
     at : (t : Bool) → position_or_len p (take k bytes) ≡ min (position_or_len p bytes) (min k (length bytes))
         → cond (not t) (1 + position_or_len p (take k bytes)) 0
@@ -23,4 +23,4 @@ pub count_by_place : (response : List ℕ) (most last limit place count : ℕ) �
     → place ≡ position_or_len (λ b. b == last) (take limit response)
     → count ≡ min limit (place + 1) → count ≡ read_count response most (Some last)
 count_by_place response most last limit place count e f h =
-    omega (arith, place-take (λ b. b == last) response limit)
+    omega (arith, place_take (λ b. b == last) response limit)

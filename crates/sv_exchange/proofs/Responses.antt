@@ -10,8 +10,8 @@ response_after [] before = before
 response_after (answer ∷ others) before = joined_answers (answer ∷ others) ++ 10 ∷ []
 
 -- a message was finished
-pub response-finished : (acts : List ExchangeAct) → response (Finished ∷ acts) ≡ response_after (answers acts) (response acts)
-response-finished acts = at (answers acts) refl
+pub response_finished : (acts : List ExchangeAct) → response (Finished ∷ acts) ≡ response_after (answers acts) (response acts)
+response_finished acts = at (answers acts) refl
   where
     at : (given : List (List ℕ)) → answers acts ≡ given
         → drop (bytes_read (cond (is_something given) [] (Finished ∷ since renews acts)))
@@ -21,5 +21,5 @@ response-finished acts = at (answers acts) refl
     at (answer ∷ others) e = ap (λ (g : List (List ℕ)). joined_answers g ++ 10 ∷ []) e
 
 -- bytes were read
-pub response-read : (acts : List ExchangeAct) (count : ℕ) → response (ResponseRead count ∷ acts) ≡ drop count (response acts)
-response-read acts count = sym (drop-drop count (bytes_read (since renews acts)) (new_response (newest renews acts)))
+pub response_read : (acts : List ExchangeAct) (count : ℕ) → response (ResponseRead count ∷ acts) ≡ drop count (response acts)
+response_read acts count = sym (drop-drop count (bytes_read (since renews acts)) (new_response (newest renews acts)))

@@ -7,8 +7,8 @@ use Rattle.sv_exchange.specs.Contents.{Contents, StandsFor, IsPlaced, IsShown, e
 use Rattle.sv_exchange.specs.Fields.{first_size, has_line, second_at, after_accept, after_finish, with_answer}
 use Rattle.sv_exchange.specs.FirstUnit.{IsFirst}
 use Rattle.sv_text.proofs.Places.{place_within}
-use Rattle.sv_exchange.proofs.Cuts.{messages-append, first_cut}
-use Rattle.sv_exchange.proofs.Responses.{response_after, response-finished, response-read}
+use Rattle.sv_exchange.proofs.Cuts.{messages_append, first_cut}
+use Rattle.sv_exchange.proofs.Responses.{response_after, response_finished, response_read}
 use Rattle.sv_exchange.proofs.Dues.{at_unit, readable_is}
 use Rattle.sv_exchange.specs.Limits.{max_message, max_response}
 
@@ -112,7 +112,7 @@ finish_stands contents new acts ended few is s =
       no_answers = λ unended. refl;
       overrun_reported = refl;
       answers_dropped = refl;
-      shows = (refl, response-finished acts ∙ said_after contents.answering contents.output (answers acts) (response acts) s.shows);
+      shows = (refl, response_finished acts ∙ said_after contents.answering contents.output (answers acts) (response acts) s.shows);
     })
 
 -- what is so where an answer may come
@@ -124,12 +124,12 @@ may_parts true false true h = absurd cc
 may_parts false lost something h = absurd cc
 
 -- one more answer
-joined-push : (given : List (List ℕ)) (answer : List ℕ) → given ≢ []
+joined_push : (given : List (List ℕ)) (answer : List ℕ) → given ≢ []
     → joined_answers (given ++ answer ∷ []) ≡ joined_answers given ++ 59 ∷ answer
-joined-push [] answer some = absurd (some refl)
-joined-push (first ∷ []) answer some = refl
-joined-push (first ∷ second ∷ given) answer some =
-    ap (λ (l : List ℕ). first ++ 59 ∷ l) (joined-push (second ∷ given) answer (λ e. cc))
+joined_push [] answer some = absurd (some refl)
+joined_push (first ∷ []) answer some = refl
+joined_push (first ∷ second ∷ given) answer some =
+    ap (λ (l : List ℕ). first ++ 59 ∷ l) (joined_push (second ∷ given) answer (λ e. cc))
     ∙ sym (append_assoc first (59 ∷ joined_answers (second ∷ given)) (59 ∷ answer))
 
 -- with one more answer there are some
@@ -140,7 +140,7 @@ push_some (first ∷ given) answer e = cc
 -- what is kept with an answer
 joined_with : (answering : Bool) (out : List ℕ) (given : List (List ℕ)) (readable answer : List ℕ) → IsShown answering out given readable
     → joined_answers (given ++ answer ∷ []) ≡ with_answer answering out answer
-joined_with true out given readable answer said = joined-push given answer said.0 ∙ ap (λ (l : List ℕ). l ++ 59 ∷ answer) (sym said.1)
+joined_with true out given readable answer said = joined_push given answer said.0 ∙ ap (λ (l : List ℕ). l ++ 59 ∷ answer) (sym said.1)
 joined_with false out given readable answer said = ap (λ (g : List (List ℕ)). joined_answers (g ++ answer ∷ [])) said.0
 
 -- whether an answer fits
@@ -241,7 +241,7 @@ accept_stands contents new acts bytes ended open_now is s =
     rw is (record {
       message = s.message ++ first;
       executed = [];
-      text_left = messages-append (text acts) (symbols bytes ended) (messages_finished acts) s.message first _ alone
+      text_left = messages_append (text acts) (symbols bytes ended) (messages_finished acts) s.message first _ alone
           (first_cut bytes ended);
       size = long_on contents.overlong s.message first contents.rest (first_size bytes) s.size size (s.whole unended);
       placed = λ short. placed_first _ _ _ (rest short) refl;
@@ -268,7 +268,7 @@ pub read_stands : (contents new : Contents) (acts : List ExchangeAct) (count : �
     → new ≡ record contents { output = drop count contents.output }
     → StandsFor contents acts → StandsFor new (ResponseRead count ∷ acts)
 read_stands contents new acts count few is s =
-    let left : response (ResponseRead count ∷ acts) ≡ drop count (response acts) = response-read acts count in
+    let left : response (ResponseRead count ∷ acts) ≡ drop count (response acts) = response_read acts count in
     output_stands contents new acts (ResponseRead count ∷ acts) _ _ _ is refl refl refl refl
     (λ later. left ∙ drop_all count (response acts) (omega (arith, ap length (s.no_response later)))) s.no_answers s.answers_dropped
     (rw left (read_said contents.answering contents.output (answers acts) (response acts) count few s.shows)) s

@@ -34,16 +34,16 @@ shares_form a b = same (map to_ascii_lowercase a) (map to_ascii_lowercase b)
 shares : Part → Part → Bool
 shares p q = (shares_form p.short q.short || shares_form p.short q.long) || (shares_form p.long q.short || shares_form p.long q.long)
 
-form-shared : (sent a b : List ℕ) → Same sent a → Same sent b → shares_form a b ≡ true
+form_shared : (sent a b : List ℕ) → Same sent a → Same sent b → shares_form a b ≡ true
 unfolding shares_form
-form-shared sent a b f g = subst (λ x. same (map to_ascii_lowercase a) x ≡ true) (sym f ∙ g) (same_self (map to_ascii_lowercase a))
+form_shared sent a b f g = subst (λ x. same (map to_ascii_lowercase a) x ≡ true) (sym f ∙ g) (same_self (map to_ascii_lowercase a))
 
-is-shared : (sent : List ℕ) (p q : Part) → IsForm sent p → IsForm sent q → shares p q ≡ true
+is_shared : (sent : List ℕ) (p q : Part) → IsForm sent p → IsForm sent q → shares p q ≡ true
 unfolding shares
-is-shared sent p q (inl f) (inl g) = or_left _ _ (or_left _ _ (form-shared sent p.short q.short f g))
-is-shared sent p q (inl f) (inr g) = or_left _ _ (or_right _ _ (form-shared sent p.short q.long f g))
-is-shared sent p q (inr f) (inl g) = or_right _ _ (or_left _ _ (form-shared sent p.long q.short f g))
-is-shared sent p q (inr f) (inr g) = or_right _ _ (or_right _ _ (form-shared sent p.long q.long f g))
+is_shared sent p q (inl f) (inl g) = or_left _ _ (or_left _ _ (form_shared sent p.short q.short f g))
+is_shared sent p q (inl f) (inr g) = or_left _ _ (or_right _ _ (form_shared sent p.short q.long f g))
+is_shared sent p q (inr f) (inl g) = or_right _ _ (or_left _ _ (form_shared sent p.long q.short f g))
+is_shared sent p q (inr f) (inr g) = or_right _ _ (or_right _ _ (form_shared sent p.long q.long f g))
 
 -- whether all may be absent
 all_absent : List Part → Bool
@@ -62,43 +62,43 @@ clash : List Part → List Part → Bool
 clash [] qs = all_absent qs
 clash (p ∷ ps) qs = clash_with p (clash ps) qs
 
-absent-fit : (qs : List Part) → Fits [] qs → all_absent qs ≡ true
+absent_fit : (qs : List Part) → Fits [] qs → all_absent qs ≡ true
 unfolding all_absent
-absent-fit [] h = refl
-absent-fit (q ∷ qs) (inl h) = absurd h
-absent-fit (q ∷ qs) (inr h) = rw h.0 (absent-fit qs h.1)
+absent_fit [] h = refl
+absent_fit (q ∷ qs) (inl h) = absurd h
+absent_fit (q ∷ qs) (inr h) = rw h.0 (absent_fit qs h.1)
 
-with-fit : (p : Part) (ps : List Part) → ((sent : List (List ℕ)) (qs : List Part) → Fits sent ps → Fits sent qs → clash ps qs ≡ true)
+with_fit : (p : Part) (ps : List Part) → ((sent : List (List ℕ)) (qs : List Part) → Fits sent ps → Fits sent qs → clash ps qs ≡ true)
     → (sent : List (List ℕ)) (qs : List Part) → Fits sent (p ∷ ps) → Fits sent qs → clash_with p (clash ps) qs ≡ true
 unfolding clash_with
-with-fit p ps others [] [] (inl f) g = absurd f
-with-fit p ps others (mnemonic ∷ sent) [] (inl f) g = absurd cc
-with-fit p ps others sent [] (inr f) g = rw f.0 (others sent [] f.1 g)
-with-fit p ps others sent (q ∷ qs) (inr f) g = or_left _ _
+with_fit p ps others [] [] (inl f) g = absurd f
+with_fit p ps others (mnemonic ∷ sent) [] (inl f) g = absurd cc
+with_fit p ps others sent [] (inr f) g = rw f.0 (others sent [] f.1 g)
+with_fit p ps others sent (q ∷ qs) (inr f) g = or_left _ _
     (or_right _ _ (where_both p.optional (clash ps (q ∷ qs)) f.0 (others sent (q ∷ qs) f.1 g)))
-with-fit p ps others [] (q ∷ qs) (inl f) (inl g) = absurd f
-with-fit p ps others (mnemonic ∷ sent) (q ∷ qs) (inl f) (inl g) =
-    or_left _ _ (or_left _ _ (where_both (shares p q) (clash ps qs) (is-shared mnemonic p q f.0 g.0) (others sent qs f.1 g.1)))
-with-fit p ps others sent (q ∷ qs) (inl f) (inr g) =
-    or_right _ _ (where_both q.optional (clash_with p (clash ps) qs) g.0 (with-fit p ps others sent qs (inl f) g.1))
+with_fit p ps others [] (q ∷ qs) (inl f) (inl g) = absurd f
+with_fit p ps others (mnemonic ∷ sent) (q ∷ qs) (inl f) (inl g) =
+    or_left _ _ (or_left _ _ (where_both (shares p q) (clash ps qs) (is_shared mnemonic p q f.0 g.0) (others sent qs f.1 g.1)))
+with_fit p ps others sent (q ∷ qs) (inl f) (inr g) =
+    or_right _ _ (where_both q.optional (clash_with p (clash ps) qs) g.0 (with_fit p ps others sent qs (inl f) g.1))
 
 -- what fits two lists of nodes makes them clash
-both-fit : (ps : List Part) (sent : List (List ℕ)) (qs : List Part) → Fits sent ps → Fits sent qs → clash ps qs ≡ true
+both_fit : (ps : List Part) (sent : List (List ℕ)) (qs : List Part) → Fits sent ps → Fits sent qs → clash ps qs ≡ true
 unfolding clash
-both-fit [] sent qs f g = absent-fit qs (subst (λ s. Fits s qs) f g)
-both-fit (p ∷ ps) sent qs f g = with-fit p ps (both-fit ps) sent qs f g
+both_fit [] sent qs f g = absent_fit qs (subst (λ s. Fits s qs) f g)
+both_fit (p ∷ ps) sent qs f g = with_fit p ps (both_fit ps) sent qs f g
 
 -- whether two tests tell the same
 agree : Bool → Bool → Bool
 agree true b = b
 agree false b = not b
 
-agree-same : (a b c : Bool) → a ≡ b → a ≡ c → agree b c ≡ true
+agree_same : (a b c : Bool) → a ≡ b → a ≡ c → agree b c ≡ true
 unfolding agree
-agree-same a true true f g = refl
-agree-same a true false f g = absurd cc
-agree-same a false true f g = absurd cc
-agree-same a false false f g = refl
+agree_same a true true f g = refl
+agree_same a true false f g = absurd cc
+agree_same a false true f g = absurd cc
+agree_same a false false f g = refl
 
 -- whether a header may fit both rows
 rows_clash : Row → Row → Bool
@@ -108,49 +108,49 @@ rows_clash r s =
       | false ↦ false
     ]
 
-rows-clash : (path : List (List ℕ)) (header : List ℕ) (r s : Row) → FitsRow path header r → FitsRow path header s → rows_clash r s ≡ true
+rows_all_clash : (path : List (List ℕ)) (header : List ℕ) (r s : Row) → FitsRow path header r → FitsRow path header s → rows_clash r s ≡ true
 unfolding rows_clash
-rows-clash path header r s f g =
-    where_both _ _ (agree-same _ r.common s.common f.0 g.0)
-    (where_both _ _ (agree-same _ r.query s.query f.1 g.1) (both-fit r.parts _ s.parts f.2 g.2))
+rows_all_clash path header r s f g =
+    where_both _ _ (agree_same _ r.common s.common f.0 g.0)
+    (where_both _ _ (agree_same _ r.query s.query f.1 g.1) (both_fit r.parts _ s.parts f.2 g.2))
 
 -- whether no row clashes with one behind it
 apart : List Row → Bool
 apart [] = true
 apart (r ∷ rows) = list_all (λ s. not (rows_clash r s)) rows && apart rows
 
-table-apart : apart table ≡ true
+table_apart : apart table ≡ true
 unfolding apart rows_clash agree clash clash_with all_absent shares shares_form same
-table-apart = refl
+table_apart = refl
 
 -- a row stands apart from each behind it
-apart-behind : (rows : List Row) (r s : Row) (k : ℕ) → list_all (λ t. not (rows_clash r t)) rows ≡ true → k < length rows
+apart_behind : (rows : List Row) (r s : Row) (k : ℕ) → list_all (λ t. not (rows_clash r t)) rows ≡ true → k < length rows
     → slice_index_or rows k s ≡ s → rows_clash r s ≡ true → ⊥
-apart-behind rows r s k all lt e clashes =
+apart_behind rows r s k all lt e clashes =
     let a : not (rows_clash r s) ≡ true = passes (λ t. not (rows_clash r t)) rows k s all lt e in
     let b : not true ≡ true = ap not (sym clashes) ∙ a in
     cc
 
 -- rows at two places don't clash
-apart-places : (rows : List Row) (j k : ℕ) (r s : Row) → apart rows ≡ true → j < k → k < length rows → slice_index_or rows j r ≡ r
+apart_places : (rows : List Row) (j k : ℕ) (r s : Row) → apart rows ≡ true → j < k → k < length rows → slice_index_or rows j r ≡ r
     → slice_index_or rows k s ≡ s
     → rows_clash r s ≡ true → ⊥
 unfolding apart
-apart-places [] j k r s a lt in_bounds e f = absurd (omega arith)
-apart-places (row ∷ rows) j zero r s a lt in_bounds e f = absurd (omega arith)
-apart-places (row ∷ rows) zero (suc k) r s a lt in_bounds e f =
-    subst (λ x. rows_clash x s ≡ true → ⊥) e (apart-behind rows row s k (and_parts _ _ a).0 (omega arith) f)
-apart-places (row ∷ rows) (suc j) (suc k) r s a lt in_bounds e f =
-    apart-places rows j k r s (and_parts _ _ a).1 (omega arith) (omega arith) e f
+apart_places [] j k r s a lt in_bounds e f = absurd (omega arith)
+apart_places (row ∷ rows) j zero r s a lt in_bounds e f = absurd (omega arith)
+apart_places (row ∷ rows) zero (suc k) r s a lt in_bounds e f =
+    subst (λ x. rows_clash x s ≡ true → ⊥) e (apart_behind rows row s k (and_parts _ _ a).0 (omega arith) f)
+apart_places (row ∷ rows) (suc j) (suc k) r s a lt in_bounds e f =
+    apart_places rows j k r s (and_parts _ _ a).1 (omega arith) (omega arith) e f
 
 -- two rows that a header fits are one
-pub one-pattern : OnePattern
-one-pattern path header r s a b f g =
+pub one_pattern : OnePattern
+one_pattern path header r s a b f g =
     elim (cases_lt a.0 b.0) [
-      | inl lt ↦ absurd (apart-places table a.0 b.0 r s table-apart lt b.1 a.2 b.2 (rows-clash path header r s f g))
+      | inl lt ↦ absurd (apart_places table a.0 b.0 r s table_apart lt b.1 a.2 b.2 (rows_all_clash path header r s f g))
       | inr ge ↦
           elim (cases_lt b.0 a.0) [
-            | inl lt ↦ absurd (apart-places table b.0 a.0 s r table-apart lt a.1 b.2 a.2 (rows-clash path header s r g f))
+            | inl lt ↦ absurd (apart_places table b.0 a.0 s r table_apart lt a.1 b.2 a.2 (rows_all_clash path header s r g f))
             | inr le ↦
                 let same_place : a.0 ≡ b.0 = omega arith in
                 sym a.2 ∙ ap (λ k. slice_index_or table k r) same_place ∙ get_or_default table b.0 r s b.1 ∙ b.2
@@ -158,6 +158,6 @@ one-pattern path header r s a b f g =
     ]
 
 -- so a header names at most one command
-pub one-command : OneCommand
-one-command path header first second a b =
-    sym a.2 ∙ ap (λ row. row.command) (one-pattern path header a.0 b.0 a.1 b.1 a.3 b.3) ∙ b.2
+pub one_command : OneCommand
+one_command path header first second a b =
+    sym a.2 ∙ ap (λ row. row.command) (one_pattern path header a.0 b.0 a.1 b.1 a.3 b.3) ∙ b.2

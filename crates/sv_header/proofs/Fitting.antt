@@ -22,30 +22,30 @@ abbrev is_small_row : Row → Bool
 is_small_row row = nat_le (length row.parts) 5 && list_all is_small row.parts
 
 -- a mnemonic that has as many characters as one of at most 12
-short-same : (sent form : List ℕ) → nat_le (length form) 12 ≡ true → Same sent form → is_short sent ≡ true
-short-same sent form h same =
+short_same : (sent form : List ℕ) → nat_le (length form) 12 ≡ true → Same sent form → is_short sent ≡ true
+short_same sent form h same =
     let e : length sent ≡ length form = sym (length-map sent _) ∙ ap length same ∙ length-map form _ in
     rw e h
 
-form-short : (sent : List ℕ) (part : Part) → is_small part ≡ true → IsForm sent part → is_short sent ≡ true
-form-short sent part s (inl h) = short-same sent part.short (and_parts _ _ s).0 h
-form-short sent part s (inr h) = short-same sent part.long (and_parts _ _ s).1 h
+form_short : (sent : List ℕ) (part : Part) → is_small part ≡ true → IsForm sent part → is_short sent ≡ true
+form_short sent part s (inl h) = short_same sent part.short (and_parts _ _ s).0 h
+form_short sent part s (inr h) = short_same sent part.long (and_parts _ _ s).1 h
 
 at_most : (n m : ℕ) → nat_le n m ≡ true → n ≤ m
 at_most n m h = leb-true n m h
 
 -- what fits has no more mnemonics than nodes, and none of more than 12 characters
-pub fits-small : (sent : List (List ℕ)) (parts : List Part) → list_all is_small parts ≡ true → Fits sent parts
+pub fits_small : (sent : List (List ℕ)) (parts : List Part) → list_all is_small parts ≡ true → Fits sent parts
     → (length sent ≤ length parts) × (list_all is_short sent ≡ true)
-fits-small sent [] s e = rw e (omega arith, refl)
-fits-small [] (part ∷ parts) s (inl f) = absurd f
-fits-small (mnemonic ∷ others) (part ∷ parts) s (inl f) =
+fits_small sent [] s e = rw e (omega arith, refl)
+fits_small [] (part ∷ parts) s (inl f) = absurd f
+fits_small (mnemonic ∷ others) (part ∷ parts) s (inl f) =
     let b : (is_small part ≡ true) × (list_all is_small parts ≡ true) = and_parts _ _ s in
-    let rest : (length others ≤ length parts) × (list_all is_short others ≡ true) = fits-small others parts b.1 f.1 in
-    (omega (arith, rest.0), rw (form-short mnemonic part b.0 f.0) rest.1)
-fits-small sent (part ∷ parts) s (inr f) =
+    let rest : (length others ≤ length parts) × (list_all is_short others ≡ true) = fits_small others parts b.1 f.1 in
+    (omega (arith, rest.0), rw (form_short mnemonic part b.0 f.0) rest.1)
+fits_small sent (part ∷ parts) s (inr f) =
     let b : (is_small part ≡ true) × (list_all is_small parts ≡ true) = and_parts _ _ s in
-    let rest : (length sent ≤ length parts) × (list_all is_short sent ≡ true) = fits-small sent parts b.1 f.1 in
+    let rest : (length sent ≤ length parts) × (list_all is_short sent ≡ true) = fits_small sent parts b.1 f.1 in
     (omega (arith, rest.0), rest.1)
 
 -- each row of a table that passes a test passes it
@@ -55,51 +55,51 @@ passes test [] k row all lt e = absurd (omega arith)
 passes test (r ∷ rows) zero row all lt e = ap test (sym e) ∙ (and_parts _ _ all).0
 passes test (r ∷ rows) (suc k) row all lt e = passes test rows k row (and_parts _ _ all).1 (omega arith) e
 
-table-small : list_all is_small_row table ≡ true
-table-small = refl
+table_small : list_all is_small_row table ≡ true
+table_small = refl
 
 -- what names a command is small
-pub resolves-small : (path : List (List ℕ)) (header : List ℕ) (command : CommandId) → Resolves path header command
+pub resolves_small : (path : List (List ℕ)) (header : List ℕ) (command : CommandId) → Resolves path header command
     → (length (full path header) ≤ 5) × (list_all is_short (full path header) ≡ true)
-resolves-small path header command h =
+resolves_small path header command h =
     let row = h.0 in
-    let b = and_parts _ _ (passes is_small_row table h.1.0 row table-small h.1.1 h.1.2) in
-    let f = fits-small (full path header) row.parts b.1 h.3.2 in
+    let b = and_parts _ _ (passes is_small_row table h.1.0 row table_small h.1.1 h.1.2) in
+    let f = fits_small (full path header) row.parts b.1 h.3.2 in
     let l = at_most _ _ b.0 in
     (omega (arith, l, f.0), f.1)
 
 -- a list without its last
-pub but_last-push : (path : List (List ℕ)) (last : List ℕ) → but_last (path ++ last ∷ []) ≡ path
-but_last-push [] last = refl
-but_last-push (part ∷ []) last = refl
-but_last-push (part ∷ other ∷ others) last = ap (λ ps. part ∷ ps) (but_last-push (other ∷ others) last)
+pub but_last_push : (path : List (List ℕ)) (last : List ℕ) → but_last (path ++ last ∷ []) ≡ path
+but_last_push [] last = refl
+but_last_push (part ∷ []) last = refl
+but_last_push (part ∷ other ∷ others) last = ap (λ ps. part ∷ ps) (but_last_push (other ∷ others) last)
 
 -- what is so of each of two lists together is so of each of the second
-all-behind : (test : List ℕ → Bool) (front behind : List (List ℕ)) → list_all test (front ++ behind) ≡ true → list_all test behind ≡ true
-all-behind test [] behind h = h
-all-behind test (part ∷ front) behind h = all-behind test front behind (and_parts _ _ h).1
+all_behind : (test : List ℕ → Bool) (front behind : List (List ℕ)) → list_all test (front ++ behind) ≡ true → list_all test behind ≡ true
+all_behind test [] behind h = h
+all_behind test (part ∷ front) behind h = all_behind test front behind (and_parts _ _ h).1
 
 -- a path and mnemonics are small together
 abbrev AreSmall : List (List ℕ) → List (List ℕ) → Type 0
 AreSmall path sent = (length path + length sent ≤ 5) × (list_all is_short sent ≡ true)
 
-small-at : (l : Lead) (path sent : List (List ℕ))
+small_at : (l : Lead) (path sent : List (List ℕ))
     → (length (path_before l path ++ sent) ≤ 5) × (list_all is_short (path_before l path ++ sent) ≡ true)
     → AreSmall (path_before l path) sent
-small-at l path sent h = (omega (arith, h.0, length-append (path_before l path) sent), all-behind is_short (path_before l path) sent h.1)
+small_at l path sent h = (omega (arith, h.0, length-append (path_before l path) sent), all_behind is_short (path_before l path) sent h.1)
 
 -- what names a command from the root is small
-pub root-small : (path : List (List ℕ)) (header : List ℕ) (command : CommandId) → lead header ≡ Root → Resolves path header command
+pub root_small : (path : List (List ℕ)) (header : List ℕ) (command : CommandId) → lead header ≡ Root → Resolves path header command
     → AreSmall [] (mnemonics header)
-root-small path header command e h =
+root_small path header command e h =
     let s : AreSmall (path_before (lead header) path) (mnemonics header) =
-    small-at (lead header) path (mnemonics header) (resolves-small path header command h) in
+    small_at (lead header) path (mnemonics header) (resolves_small path header command h) in
     subst (λ l. AreSmall (path_before l path) (mnemonics header)) e s
 
 -- what names one behind the path is so with the path
-pub onward-small : (path : List (List ℕ)) (header : List ℕ) (command : CommandId) → lead header ≡ Onward → Resolves path header command
+pub onward_small : (path : List (List ℕ)) (header : List ℕ) (command : CommandId) → lead header ≡ Onward → Resolves path header command
     → AreSmall path (mnemonics header)
-onward-small path header command e h =
+onward_small path header command e h =
     let s : AreSmall (path_before (lead header) path) (mnemonics header) =
-    small-at (lead header) path (mnemonics header) (resolves-small path header command h) in
+    small_at (lead header) path (mnemonics header) (resolves_small path header command h) in
     subst (λ l. AreSmall (path_before l path) (mnemonics header)) e s

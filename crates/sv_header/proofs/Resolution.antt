@@ -14,114 +14,114 @@ use Rattle.sv_header.specs.Table.{table, common_commands, other_commands}
 use Rattle.sv_header.specs.Resolve.{Resolves, full, leads_common}
 use Rattle.sv_header.specs.Inside.Tree.{ending_rows, below, rows_of, tree_rows, rows_with}
 use Rattle.sv_header.specs.Inside.Walk.{LeadsBelow, Leads, IsFound}
-use Rattle.sv_header.proofs.Rows.{SomeNames, some-left, some-right, some-cases, some-from_contains, contains-from_some, some-there, some-absent, some-below, some-ending_rows, ending_rows-cases}
+use Rattle.sv_header.proofs.Rows.{SomeNames, some_left, some_right, some_cases, some_from_contains, contains_from_some, some_there, some_absent, some_below, some_ending_rows, ending_rows_cases}
 
 -- what leads on below a node names its command by a row there
-names-below : (c q : Bool) (branch : Branch) (rows : List Row) (Below : List (List ℕ) → CommandId → Type 0)
+names_below : (c q : Bool) (branch : Branch) (rows : List Row) (Below : List (List ℕ) → CommandId → Type 0)
     → ((left : List (List ℕ)) (command : CommandId) → Below left command → SomeNames c q left command rows)
     → (left : List (List ℕ)) (command : CommandId) → LeadsBelow q branch (λ rest. Below rest command) left command
     → SomeNames c q left command (ending_rows c branch ++ rows)
-names-below c q branch rows Below names left command (inl ends) = some-ending_rows c q branch rows left command ends
-names-below c q branch rows Below names left command (inr on) =
-    some-right c q left command (ending_rows c branch) rows (names left command on)
+names_below c q branch rows Below names left command (inl ends) = some_ending_rows c q branch rows left command ends
+names_below c q branch rows Below names left command (inr on) =
+    some_right c q left command (ending_rows c branch) rows (names left command on)
 
 -- what leads to a command names it by a row
-pub names-from_leads : (fuel : ℕ) (c q : Bool) (branches : List Branch) (left : List (List ℕ)) (command : CommandId)
+pub names_from_leads : (fuel : ℕ) (c q : Bool) (branches : List Branch) (left : List (List ℕ)) (command : CommandId)
     → Leads fuel q branches left command → SomeNames c q left command (rows_of fuel c branches)
-names-from_leads zero c q branches left command h = absurd h
-names-from_leads (suc fuel) c q [] left command h = absurd h
-names-from_leads (suc fuel) c q (branch ∷ behind) left command (inl (inl there)) =
+names_from_leads zero c q branches left command h = absurd h
+names_from_leads (suc fuel) c q [] left command h = absurd h
+names_from_leads (suc fuel) c q (branch ∷ behind) left command (inl (inl there)) =
     let children = take branch.below behind in
     let rows = rows_of fuel c children in
     let Below = λ (rest : List (List ℕ)) (final : CommandId). Leads fuel q children rest final in
-    let on = names-below c q branch rows Below (names-from_leads fuel c q children) there.0 command there.2 in
-    some-left c q left command (map (below (part branch.node)) (ending_rows c branch ++ rows)) (rows_of fuel c (drop branch.below behind))
-    (some-there c q left there.0 (part branch.node) command (ending_rows c branch ++ rows) there.1 on)
-names-from_leads (suc fuel) c q (branch ∷ behind) left command (inl (inr absent)) =
+    let on = names_below c q branch rows Below (names_from_leads fuel c q children) there.0 command there.2 in
+    some_left c q left command (map (below (part branch.node)) (ending_rows c branch ++ rows)) (rows_of fuel c (drop branch.below behind))
+    (some_there c q left there.0 (part branch.node) command (ending_rows c branch ++ rows) there.1 on)
+names_from_leads (suc fuel) c q (branch ∷ behind) left command (inl (inr absent)) =
     let children = take branch.below behind in
     let rows = rows_of fuel c children in
     let Below = λ (rest : List (List ℕ)) (final : CommandId). Leads fuel q children rest final in
-    let on = names-below c q branch rows Below (names-from_leads fuel c q children) left command absent.1 in
-    some-left c q left command (map (below (part branch.node)) (ending_rows c branch ++ rows)) (rows_of fuel c (drop branch.below behind))
-    (some-absent c q left (part branch.node) command (ending_rows c branch ++ rows) absent.0 on)
-names-from_leads (suc fuel) c q (branch ∷ behind) left command (inr siblings) =
-    some-right c q left command (map (below (part branch.node)) (ending_rows c branch ++ rows_of fuel c (take branch.below behind)))
+    let on = names_below c q branch rows Below (names_from_leads fuel c q children) left command absent.1 in
+    some_left c q left command (map (below (part branch.node)) (ending_rows c branch ++ rows)) (rows_of fuel c (drop branch.below behind))
+    (some_absent c q left (part branch.node) command (ending_rows c branch ++ rows) absent.0 on)
+names_from_leads (suc fuel) c q (branch ∷ behind) left command (inr siblings) =
+    some_right c q left command (map (below (part branch.node)) (ending_rows c branch ++ rows_of fuel c (take branch.below behind)))
     (rows_of fuel c (drop branch.below behind))
-    (names-from_leads fuel c q (drop branch.below behind) left command siblings)
+    (names_from_leads fuel c q (drop branch.below behind) left command siblings)
 
 -- a row at or below a node is one to which what is left leads
-leads-below : (c q d : Bool) (branch : Branch) (rows : List Row) (Below : List (List ℕ) → CommandId → Type 0)
+leads_below : (c q d : Bool) (branch : Branch) (rows : List Row) (Below : List (List ℕ) → CommandId → Type 0)
     → ((left : List (List ℕ)) (command : CommandId) → SomeNames c q left command rows → Below left command)
     → (left : List (List ℕ)) (command : CommandId) → SomeNames c q left command (ending_rows d branch ++ rows)
     → LeadsBelow q branch (λ rest. Below rest command) left command
-leads-below c q d branch rows Below leads left command h =
-    elim (ending_rows-cases c q d branch rows left command h) [ inl ends ↦ inl ends.1 | inr on ↦ inr (leads left command on) ]
+leads_below c q d branch rows Below leads left command h =
+    elim (ending_rows_cases c q d branch rows left command h) [ inl ends ↦ inl ends.1 | inr on ↦ inr (leads left command on) ]
 
 -- what names a command by a row leads to it
-pub leads-from_names : (fuel : ℕ) (c q d : Bool) (branches : List Branch) (left : List (List ℕ)) (command : CommandId)
+pub leads_from_names : (fuel : ℕ) (c q d : Bool) (branches : List Branch) (left : List (List ℕ)) (command : CommandId)
     → SomeNames c q left command (rows_of fuel d branches) → Leads fuel q branches left command
-leads-from_names zero c q d branches left command h = absurd h
-leads-from_names (suc fuel) c q d [] left command h = absurd h
-leads-from_names (suc fuel) c q d (branch ∷ behind) left command h =
+leads_from_names zero c q d branches left command h = absurd h
+leads_from_names (suc fuel) c q d [] left command h = absurd h
+leads_from_names (suc fuel) c q d (branch ∷ behind) left command h =
     let children = take branch.below behind in
     let rows = rows_of fuel d children in
     let Below = λ (rest : List (List ℕ)) (final : CommandId). Leads fuel q children rest final in
-    let on = leads-below c q d branch rows Below (leads-from_names fuel c q d children) in
+    let on = leads_below c q d branch rows Below (leads_from_names fuel c q d children) in
     let at_node = map (below (part branch.node)) (ending_rows d branch ++ rows) in
-    elim (some-cases c q left command at_node (rows_of fuel d (drop branch.below behind)) h) [
+    elim (some_cases c q left command at_node (rows_of fuel d (drop branch.below behind)) h) [
       | inl here ↦
-          elim (some-below c q left (part branch.node) command (ending_rows d branch ++ rows) here) [
+          elim (some_below c q left (part branch.node) command (ending_rows d branch ++ rows) here) [
             | inl there ↦ inl (inl (there.0, there.1, on there.0 command there.2))
             | inr absent ↦ inl (inr (absent.0, on left command absent.1))
           ]
-      | inr siblings ↦ inr (leads-from_names fuel c q d (drop branch.below behind) left command siblings)
+      | inr siblings ↦ inr (leads_from_names fuel c q d (drop branch.below behind) left command siblings)
     ]
 
 -- no row of common commands is named by a header of another form, and none of the others by one of theirs
-not-common : (q : Bool) (left : List (List ℕ)) (command : CommandId) (rows : List Row) → list_all (λ row. row.common) rows ≡ true
+not_common : (q : Bool) (left : List (List ℕ)) (command : CommandId) (rows : List Row) → list_all (λ row. row.common) rows ≡ true
     → SomeNames false q left command rows → ⊥
-not-common q left command [] all h = h
-not-common q left command (row ∷ rows) all (inl h) =
+not_common q left command [] all h = h
+not_common q left command (row ∷ rows) all (inl h) =
     let e : false ≡ true = h.1 ∙ (and_parts _ _ all).0 in
     absurd cc
-not-common q left command (row ∷ rows) all (inr h) = not-common q left command rows (and_parts _ _ all).1 h
+not_common q left command (row ∷ rows) all (inr h) = not_common q left command rows (and_parts _ _ all).1 h
 
-only-common : (q : Bool) (left : List (List ℕ)) (command : CommandId) (rows : List Row)
+only_common : (q : Bool) (left : List (List ℕ)) (command : CommandId) (rows : List Row)
     → list_all (λ row. not row.common) rows ≡ true → SomeNames true q left command rows → ⊥
-only-common q left command [] all h = h
-only-common q left command (row ∷ rows) all (inl h) =
+only_common q left command [] all h = h
+only_common q left command (row ∷ rows) all (inl h) =
     let e : not true ≡ true = ap not h.1 ∙ (and_parts _ _ all).0 in
     absurd cc
-only-common q left command (row ∷ rows) all (inr h) = only-common q left command rows (and_parts _ _ all).1 h
+only_common q left command (row ∷ rows) all (inr h) = only_common q left command rows (and_parts _ _ all).1 h
 
 -- the table is its two parts
-table-parts : table ≡ common_commands ++ other_commands
-table-parts = refl
+table_parts : table ≡ common_commands ++ other_commands
+table_parts = refl
 
-common-common : list_all (λ row. row.common) common_commands ≡ true
-common-common = refl
+common_common : list_all (λ row. row.common) common_commands ≡ true
+common_common = refl
 
-others-other : list_all (λ row. not row.common) other_commands ≡ true
-others-other = refl
+others_other : list_all (λ row. not row.common) other_commands ≡ true
+others_other = refl
 
 -- so what names a command by the table does by the part of its form
-part-of_table : (c q : Bool) (left : List (List ℕ)) (command : CommandId) → SomeNames c q left command (common_commands ++ other_commands)
+part_of_table : (c q : Bool) (left : List (List ℕ)) (command : CommandId) → SomeNames c q left command (common_commands ++ other_commands)
     → SomeNames c q left command (rows_with c)
-part-of_table true q left command h =
-    elim (some-cases true q left command common_commands other_commands h) [
+part_of_table true q left command h =
+    elim (some_cases true q left command common_commands other_commands h) [
       | inl common ↦ common
-      | inr other ↦ absurd (only-common q left command other_commands others-other other)
+      | inr other ↦ absurd (only_common q left command other_commands others_other other)
     ]
-part-of_table false q left command h =
-    elim (some-cases false q left command common_commands other_commands h) [
-      | inl common ↦ absurd (not-common q left command common_commands common-common common)
+part_of_table false q left command h =
+    elim (some_cases false q left command common_commands other_commands h) [
+      | inl common ↦ absurd (not_common q left command common_commands common_common common)
       | inr other ↦ other
     ]
 
-table-of_part : (c q : Bool) (left : List (List ℕ)) (command : CommandId) → SomeNames c q left command (rows_with c)
+table_of_part : (c q : Bool) (left : List (List ℕ)) (command : CommandId) → SomeNames c q left command (rows_with c)
     → SomeNames c q left command (common_commands ++ other_commands)
-table-of_part true q left command h = some-left true q left command common_commands other_commands h
-table-of_part false q left command h = some-right false q left command common_commands other_commands h
+table_of_part true q left command h = some_left true q left command common_commands other_commands h
+table_of_part false q left command h = some_right false q left command common_commands other_commands h
 
 -- what the code asks about stands for a header behind a path
 pub record StandsFor (path : List (List ℕ)) (header : List ℕ) (sent : Sent) : Type 0 where
@@ -130,31 +130,31 @@ pub record StandsFor (path : List (List ℕ)) (header : List ℕ) (sent : Sent) 
   pub mnemonics : left_of sent.mnemonics ≡ full path header
 
 -- a header that leads to a command names it
-pub resolves-from_leads : (path : List (List ℕ)) (header : List ℕ) (sent : Sent) (roots : List Branch) (command : CommandId)
+pub resolves_from_leads : (path : List (List ℕ)) (header : List ℕ) (sent : Sent) (roots : List Branch) (command : CommandId)
     → StandsFor path header sent → tree_rows sent.common roots ≡ rows_with sent.common
     → Leads (length roots) sent.query roots (left_of sent.mnemonics) command → Resolves path header command
-resolves-from_leads path header sent roots command s whole h =
+resolves_from_leads path header sent roots command s whole h =
     let c = sent.common in
     let q = sent.query in
     let left = left_of sent.mnemonics in
-    let by_tree = names-from_leads (length roots) c q roots left command h in
-    let by_table = table-of_part c q left command (subst (λ rows. SomeNames c q left command rows) whole by_tree) in
-    let found = contains-from_some c q left command table (subst (λ rows. SomeNames c q left command rows) (sym table-parts) by_table) in
+    let by_tree = names_from_leads (length roots) c q roots left command h in
+    let by_table = table_of_part c q left command (subst (λ rows. SomeNames c q left command rows) whole by_tree) in
+    let found = contains_from_some c q left command table (subst (λ rows. SomeNames c q left command rows) (sym table_parts) by_table) in
     let names = found.2 in
     (found.0, found.1, names.0, (sym s.common ∙ names.1, sym s.query ∙ names.2, rw (← s.mnemonics) names.3))
 
 -- a header that names a command leads to it
-pub leads-from_resolves : (path : List (List ℕ)) (header : List ℕ) (sent : Sent) (roots : List Branch) (command : CommandId)
+pub leads_from_resolves : (path : List (List ℕ)) (header : List ℕ) (sent : Sent) (roots : List Branch) (command : CommandId)
     → StandsFor path header sent → tree_rows sent.common roots ≡ rows_with sent.common → Resolves path header command
     → Leads (length roots) sent.query roots (left_of sent.mnemonics) command
-leads-from_resolves path header sent roots command s whole h =
+leads_from_resolves path header sent roots command s whole h =
     let c = sent.common in
     let q = sent.query in
     let left = left_of sent.mnemonics in
-    let by_table = some-from_contains c q left command table h.1.0 h.0 h.1.1 h.1.2
+    let by_table = some_from_contains c q left command table h.1.0 h.0 h.1.1 h.1.2
     (h.2, s.common ∙ h.3.0, s.query ∙ h.3.1, rw s.mnemonics h.3.2) in
-    let by_part = part-of_table c q left command (subst (λ rows. SomeNames c q left command rows) table-parts by_table) in
-    leads-from_names (length roots) c q c roots left command (subst (λ rows. SomeNames c q left command rows) (sym whole) by_part)
+    let by_part = part_of_table c q left command (subst (λ rows. SomeNames c q left command rows) table_parts by_table) in
+    leads_from_names (length roots) c q c roots left command (subst (λ rows. SomeNames c q left command rows) (sym whole) by_part)
 
 -- so what the walk found is the command that the header names
 pub resolved : (path : List (List ℕ)) (header : List ℕ) (sent : Sent) (roots : List Branch) (found : Option CommandId)
@@ -162,6 +162,6 @@ pub resolved : (path : List (List ℕ)) (header : List ℕ) (sent : Sent) (roots
     → IsFound found (λ command. Leads (length roots) sent.query roots (left_of sent.mnemonics) command)
     → MatchResult (ok_or found UndefinedHeader) (λ command. Resolves path header command)
     (λ code. (code ≡ UndefinedHeader) × ((command : CommandId) → Resolves path header command → ⊥))
-resolved path header sent roots (Some command) s whole h = resolves-from_leads path header sent roots command s whole h
+resolved path header sent roots (Some command) s whole h = resolves_from_leads path header sent roots command s whole h
 resolved path header sent roots None s whole h =
-    (refl, λ command r. h command (leads-from_resolves path header sent roots command s whole r))
+    (refl, λ command r. h command (leads_from_resolves path header sent roots command s whole r))

@@ -18,128 +18,128 @@ SomeNames common query left command [] = ⊥
 SomeNames common query left command (row ∷ rows) = Names common query left command row ⊎ SomeNames common query left command rows
 
 -- one of joined rows
-pub some-left : (c q : Bool) (left : List (List ℕ)) (command : CommandId) (rows more : List Row) → SomeNames c q left command rows
+pub some_left : (c q : Bool) (left : List (List ℕ)) (command : CommandId) (rows more : List Row) → SomeNames c q left command rows
     → SomeNames c q left command (rows ++ more)
-some-left c q left command [] more h = absurd h
-some-left c q left command (row ∷ rows) more (inl h) = inl h
-some-left c q left command (row ∷ rows) more (inr h) = inr (some-left c q left command rows more h)
+some_left c q left command [] more h = absurd h
+some_left c q left command (row ∷ rows) more (inl h) = inl h
+some_left c q left command (row ∷ rows) more (inr h) = inr (some_left c q left command rows more h)
 
-pub some-right : (c q : Bool) (left : List (List ℕ)) (command : CommandId) (rows more : List Row) → SomeNames c q left command more
+pub some_right : (c q : Bool) (left : List (List ℕ)) (command : CommandId) (rows more : List Row) → SomeNames c q left command more
     → SomeNames c q left command (rows ++ more)
-some-right c q left command [] more h = h
-some-right c q left command (row ∷ rows) more h = inr (some-right c q left command rows more h)
+some_right c q left command [] more h = h
+some_right c q left command (row ∷ rows) more h = inr (some_right c q left command rows more h)
 
-pub some-cases : (c q : Bool) (left : List (List ℕ)) (command : CommandId) (rows more : List Row)
+pub some_cases : (c q : Bool) (left : List (List ℕ)) (command : CommandId) (rows more : List Row)
     → SomeNames c q left command (rows ++ more) → SomeNames c q left command rows ⊎ SomeNames c q left command more
-some-cases c q left command [] more h = inr h
-some-cases c q left command (row ∷ rows) more (inl h) = inl (inl h)
-some-cases c q left command (row ∷ rows) more (inr h) =
-    elim (some-cases c q left command rows more h) [ inl front ↦ inl (inr front) | inr behind ↦ inr behind ]
+some_cases c q left command [] more h = inr h
+some_cases c q left command (row ∷ rows) more (inl h) = inl (inl h)
+some_cases c q left command (row ∷ rows) more (inr h) =
+    elim (some_cases c q left command rows more h) [ inl front ↦ inl (inr front) | inr behind ↦ inr behind ]
 
 -- between a row that the table has and one of some rows
-pub some-from_contains : (c q : Bool) (left : List (List ℕ)) (command : CommandId) (rows : List Row) (k : ℕ) (row : Row) → k < length rows
+pub some_from_contains : (c q : Bool) (left : List (List ℕ)) (command : CommandId) (rows : List Row) (k : ℕ) (row : Row) → k < length rows
     → slice_index_or rows k row ≡ row → Names c q left command row → SomeNames c q left command rows
-some-from_contains c q left command [] k row lt e h = absurd (omega arith)
-some-from_contains c q left command (first ∷ rows) zero row lt e h = inl (subst (λ r. Names c q left command r) (sym e) h)
-some-from_contains c q left command (first ∷ rows) (suc k) row lt e h =
-    inr (some-from_contains c q left command rows k row (omega arith) e h)
+some_from_contains c q left command [] k row lt e h = absurd (omega arith)
+some_from_contains c q left command (first ∷ rows) zero row lt e h = inl (subst (λ r. Names c q left command r) (sym e) h)
+some_from_contains c q left command (first ∷ rows) (suc k) row lt e h =
+    inr (some_from_contains c q left command rows k row (omega arith) e h)
 
-pub contains-from_some : (c q : Bool) (left : List (List ℕ)) (command : CommandId) (rows : List Row) → SomeNames c q left command rows
+pub contains_from_some : (c q : Bool) (left : List (List ℕ)) (command : CommandId) (rows : List Row) → SomeNames c q left command rows
     → (row : Row) × Contains rows row × Names c q left command row
-contains-from_some c q left command [] h = absurd h
-contains-from_some c q left command (first ∷ rows) (inl h) = (first, (0, omega arith, refl), h)
-contains-from_some c q left command (first ∷ rows) (inr h) =
-    let found = contains-from_some c q left command rows h in
+contains_from_some c q left command [] h = absurd h
+contains_from_some c q left command (first ∷ rows) (inl h) = (first, (0, omega arith, refl), h)
+contains_from_some c q left command (first ∷ rows) (inr h) =
+    let found = contains_from_some c q left command rows h in
     (found.0, (suc found.1.0, omega (arith, found.1.1), found.1.2), found.2)
 
 -- a node that takes the first mnemonic stands in front of what the others fit
-pub some-there : (c q : Bool) (left others : List (List ℕ)) (part : Part) (command : CommandId) (rows : List Row) → Takes left part others
+pub some_there : (c q : Bool) (left others : List (List ℕ)) (part : Part) (command : CommandId) (rows : List Row) → Takes left part others
     → SomeNames c q others command rows → SomeNames c q left command (map (below part) rows)
-some-there c q [] others part command rows takes h = absurd takes
-some-there c q (first ∷ behind) others part command [] takes h = absurd h
-some-there c q (first ∷ behind) others part command (row ∷ rows) takes (inl h) =
+some_there c q [] others part command rows takes h = absurd takes
+some_there c q (first ∷ behind) others part command [] takes h = absurd h
+some_there c q (first ∷ behind) others part command (row ∷ rows) takes (inl h) =
     inl (h.0, h.1, h.2, inl (takes.0, subst (λ rest. Fits rest row.parts) takes.1 h.3))
-some-there c q (first ∷ behind) others part command (row ∷ rows) takes (inr h) =
-    inr (some-there c q (first ∷ behind) others part command rows takes h)
+some_there c q (first ∷ behind) others part command (row ∷ rows) takes (inr h) =
+    inr (some_there c q (first ∷ behind) others part command rows takes h)
 
 -- so does one that may be absent
-pub some-absent : (c q : Bool) (left : List (List ℕ)) (part : Part) (command : CommandId) (rows : List Row) → part.optional ≡ true
+pub some_absent : (c q : Bool) (left : List (List ℕ)) (part : Part) (command : CommandId) (rows : List Row) → part.optional ≡ true
     → SomeNames c q left command rows → SomeNames c q left command (map (below part) rows)
-some-absent c q left part command [] may h = absurd h
-some-absent c q left part command (row ∷ rows) may (inl h) = inl (h.0, h.1, h.2, inr (may, h.3))
-some-absent c q left part command (row ∷ rows) may (inr h) = inr (some-absent c q left part command rows may h)
+some_absent c q left part command [] may h = absurd h
+some_absent c q left part command (row ∷ rows) may (inl h) = inl (h.0, h.1, h.2, inr (may, h.3))
+some_absent c q left part command (row ∷ rows) may (inr h) = inr (some_absent c q left part command rows may h)
 
 -- what fits a node and others: the node is there, or absent
-fits-cases : (left : List (List ℕ)) (part : Part) (parts : List Part) → Fits left (part ∷ parts)
+fits_cases : (left : List (List ℕ)) (part : Part) (parts : List Part) → Fits left (part ∷ parts)
     → ((others : List (List ℕ)) × Takes left part others × Fits others parts) ⊎ ((part.optional ≡ true) × Fits left parts)
-fits-cases [] part parts (inl h) = absurd h
-fits-cases (first ∷ behind) part parts (inl h) = inl (behind, (h.0, refl), h.1)
-fits-cases left part parts (inr h) = inr h
+fits_cases [] part parts (inl h) = absurd h
+fits_cases (first ∷ behind) part parts (inl h) = inl (behind, (h.0, refl), h.1)
+fits_cases left part parts (inr h) = inr h
 
 -- a row behind a node: the node is there, or absent
-pub some-below : (c q : Bool) (left : List (List ℕ)) (part : Part) (command : CommandId) (rows : List Row)
+pub some_below : (c q : Bool) (left : List (List ℕ)) (part : Part) (command : CommandId) (rows : List Row)
     → SomeNames c q left command (map (below part) rows)
     → ((others : List (List ℕ)) × Takes left part others × SomeNames c q others command rows)
     ⊎ ((part.optional ≡ true) × SomeNames c q left command rows)
-some-below c q left part command [] h = absurd h
-some-below c q left part command (row ∷ rows) (inl h) =
-    elim (fits-cases left part row.parts h.3) [
+some_below c q left part command [] h = absurd h
+some_below c q left part command (row ∷ rows) (inl h) =
+    elim (fits_cases left part row.parts h.3) [
       | inl there ↦ inl (there.0, there.1, inl (h.0, h.1, h.2, there.2))
       | inr absent ↦ inr (absent.0, inl (h.0, h.1, h.2, absent.1))
     ]
-some-below c q left part command (row ∷ rows) (inr h) =
-    elim (some-below c q left part command rows h) [
+some_below c q left part command (row ∷ rows) (inr h) =
+    elim (some_below c q left part command rows h) [
       | inl there ↦ inl (there.0, there.1, inr there.2)
       | inr absent ↦ inr (absent.0, inr absent.1)
     ]
 
 -- the row that ends at a node
-some-ending_row : (c q : Bool) (left : List (List ℕ)) (command : CommandId) (ending : Option CommandId) → Ends left ending command
+some_ending_row : (c q : Bool) (left : List (List ℕ)) (command : CommandId) (ending : Option CommandId) → Ends left ending command
     → SomeNames c q left command (ending_row c q ending)
-some-ending_row c q left command None h = let e : None ≡ Some command = h.1 in absurd cc
-some-ending_row c q left command (Some own) h =
+some_ending_row c q left command None h = let e : None ≡ Some command = h.1 in absurd cc
+some_ending_row c q left command (Some own) h =
     let e : Some own ≡ Some command = h.1 in
     let same : own ≡ command = cc in
     inl (same, refl, refl, h.0)
 
-ends-ending_row : (c q d s : Bool) (left : List (List ℕ)) (command : CommandId) (ending : Option CommandId)
+ends_ending_row : (c q d s : Bool) (left : List (List ℕ)) (command : CommandId) (ending : Option CommandId)
     → SomeNames c q left command (ending_row d s ending) → (c ≡ d) × (q ≡ s) × Ends left ending command
-ends-ending_row c q d s left command None h = absurd h
-ends-ending_row c q d s left command (Some own) (inl h) =
+ends_ending_row c q d s left command None h = absurd h
+ends_ending_row c q d s left command (Some own) (inl h) =
     let same : own ≡ command = h.0 in
     let found : Some own ≡ Some command = cc in
     (h.1, h.2, (h.3, found))
-ends-ending_row c q d s left command (Some own) (inr h) = absurd h
+ends_ending_row c q d s left command (Some own) (inr h) = absurd h
 
 -- the rows that end at a node, and others
-pub some-ending_rows : (c q : Bool) (branch : Branch) (rows : List Row) (left : List (List ℕ)) (command : CommandId)
+pub some_ending_rows : (c q : Bool) (branch : Branch) (rows : List Row) (left : List (List ℕ)) (command : CommandId)
     → Ends left (command_of q branch) command → SomeNames c q left command (ending_rows c branch ++ rows)
-some-ending_rows c false branch rows left command h =
-    some-left c false left command (ending_rows c branch) rows
-    (some-left c false left command (ending_row c false branch.plain) (ending_row c true branch.query)
-    (some-ending_row c false left command branch.plain h))
-some-ending_rows c true branch rows left command h =
-    some-left c true left command (ending_rows c branch) rows
-    (some-right c true left command (ending_row c false branch.plain) (ending_row c true branch.query)
-    (some-ending_row c true left command branch.query h))
+some_ending_rows c false branch rows left command h =
+    some_left c false left command (ending_rows c branch) rows
+    (some_left c false left command (ending_row c false branch.plain) (ending_row c true branch.query)
+    (some_ending_row c false left command branch.plain h))
+some_ending_rows c true branch rows left command h =
+    some_left c true left command (ending_rows c branch) rows
+    (some_right c true left command (ending_row c false branch.plain) (ending_row c true branch.query)
+    (some_ending_row c true left command branch.query h))
 
-ends-ending_rows : (c q d : Bool) (branch : Branch) (left : List (List ℕ)) (command : CommandId)
+ends_ending_rows : (c q d : Bool) (branch : Branch) (left : List (List ℕ)) (command : CommandId)
     → SomeNames c q left command (ending_rows d branch) → (c ≡ d) × Ends left (command_of q branch) command
-ends-ending_rows c q d branch left command h =
-    elim (some-cases c q left command (ending_row d false branch.plain) (ending_row d true branch.query) h) [
+ends_ending_rows c q d branch left command h =
+    elim (some_cases c q left command (ending_row d false branch.plain) (ending_row d true branch.query) h) [
       | inl plain ↦
-          let found = ends-ending_row c q d false left command branch.plain plain in
+          let found = ends_ending_row c q d false left command branch.plain plain in
           (found.0, subst (λ sign. Ends left (command_of sign branch) command) (sym found.1) found.2)
       | inr query ↦
-          let found = ends-ending_row c q d true left command branch.query query in
+          let found = ends_ending_row c q d true left command branch.query query in
           (found.0, subst (λ sign. Ends left (command_of sign branch) command) (sym found.1) found.2)
     ]
 
-pub ending_rows-cases : (c q d : Bool) (branch : Branch) (rows : List Row) (left : List (List ℕ)) (command : CommandId)
+pub ending_rows_cases : (c q d : Bool) (branch : Branch) (rows : List Row) (left : List (List ℕ)) (command : CommandId)
     → SomeNames c q left command (ending_rows d branch ++ rows)
     → ((c ≡ d) × Ends left (command_of q branch) command) ⊎ SomeNames c q left command rows
-ending_rows-cases c q d branch rows left command h =
-    elim (some-cases c q left command (ending_rows d branch) rows h) [
-      | inl ends ↦ inl (ends-ending_rows c q d branch left command ends)
+ending_rows_cases c q d branch rows left command h =
+    elim (some_cases c q left command (ending_rows d branch) rows h) [
+      | inl ends ↦ inl (ends_ending_rows c q d branch left command ends)
       | inr others ↦ inr others
     ]

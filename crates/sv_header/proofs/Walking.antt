@@ -9,35 +9,35 @@ use Rattle.sv_header.specs.Inside.Tree.{command_of, IsParted}
 use Rattle.sv_header.specs.Inside.Walk.{Takes, Ends, LeadsBelow, Leads, IsFound, OnLeft, IsBehind, IsAllOf}
 
 -- fewer nodes stand below the first of siblings, and behind these
-pub parted-fewer : (branches : List Branch) (branch : Branch) (children siblings : List Branch) → IsParted branches branch children siblings
+pub parted_fewer : (branches : List Branch) (branch : Branch) (children siblings : List Branch) → IsParted branches branch children siblings
     → (length children < length branches) × (length siblings < length branches)
-parted-fewer [] branch children siblings p = absurd p
-parted-fewer (first ∷ behind) branch children siblings p =
+parted_fewer [] branch children siblings p = absurd p
+parted_fewer (first ∷ behind) branch children siblings p =
     let front : length children ≡ length (take first.below behind) = ap length p.1 in
     let back : length siblings ≡ length (drop first.below behind) = ap length p.2 in
     (omega (arith, front, length-take first.below behind), omega (arith, back, length-drop first.below behind))
 
 -- a node takes the first mnemonic in one way
-one-takes : (left : List (List ℕ)) (part : Part) (first second : List (List ℕ)) → Takes left part first → Takes left part second
+one_takes : (left : List (List ℕ)) (part : Part) (first second : List (List ℕ)) → Takes left part first → Takes left part second
     → first ≡ second
-one-takes [] part first second a b = absurd a
-one-takes (mnemonic ∷ behind) part first second a b = a.1 ∙ sym b.1
+one_takes [] part first second a b = absurd a
+one_takes (mnemonic ∷ behind) part first second a b = a.1 ∙ sym b.1
 
 -- what leads on below the first of siblings, and below it as it was parted
 abbrev LeadsFrom : ℕ → Bool → Branch → List Branch → List (List ℕ) → CommandId → Type 0
 LeadsFrom fuel query branch children left command = LeadsBelow query branch (λ rest. Leads fuel query children rest command) left command
 
-to-first : (fuel : ℕ) (query : Bool) (first : Branch) (behind : List Branch) (branch : Branch) (children siblings : List Branch)
+to_first : (fuel : ℕ) (query : Bool) (first : Branch) (behind : List Branch) (branch : Branch) (children siblings : List Branch)
     → IsParted (first ∷ behind) branch children siblings → (left : List (List ℕ)) (command : CommandId)
     → LeadsFrom fuel query branch children left command → LeadsFrom fuel query first (take first.below behind) left command
-to-first fuel query first behind branch children siblings p left command h =
+to_first fuel query first behind branch children siblings p left command h =
     subst (λ nodes. LeadsFrom fuel query first nodes left command) p.1
     (subst (λ place. LeadsFrom fuel query place children left command) p.0 h)
 
-from-first : (fuel : ℕ) (query : Bool) (first : Branch) (behind : List Branch) (branch : Branch) (children siblings : List Branch)
+from_first : (fuel : ℕ) (query : Bool) (first : Branch) (behind : List Branch) (branch : Branch) (children siblings : List Branch)
     → IsParted (first ∷ behind) branch children siblings → (left : List (List ℕ)) (command : CommandId)
     → LeadsFrom fuel query first (take first.below behind) left command → LeadsFrom fuel query branch children left command
-from-first fuel query first behind branch children siblings p left command h =
+from_first fuel query first behind branch children siblings p left command h =
     subst (λ place. LeadsFrom fuel query place children left command) (sym p.0)
     (subst (λ nodes. LeadsFrom fuel query first nodes left command) (sym p.1) h)
 
@@ -47,103 +47,103 @@ FoundBelow query branch children way found = (fuel : ℕ) → length children �
     → IsFound found (λ command. OnLeft way (λ left. LeadsFrom fuel query branch children left command))
 
 -- a command below a node that takes the first mnemonic
-pub found-there : (query : Bool) (branches : List Branch) (branch : Branch) (children siblings : List Branch) (left : List (List ℕ))
+pub found_there : (query : Bool) (branches : List Branch) (branch : Branch) (children siblings : List Branch) (left : List (List ℕ))
     (way : Option Mnemonics) (found : Option CommandId) → IsParted branches branch children siblings → IsBehind left (part branch.node) way
     → FoundBelow query branch children way found → is_some found ≡ true
     → (fuel : ℕ) → length branches ≤ fuel → IsFound found (λ command. Leads fuel query branches left command)
-found-there query [] branch children siblings left way found p w below some fuel le = absurd p
-found-there query (first ∷ behind) branch children siblings left way found p w below some zero le = absurd (omega arith)
-found-there query (first ∷ behind) branch children siblings left way None p w below some (suc fuel) le = absurd cc
-found-there query (first ∷ behind) branch children siblings left None (Some command) p w below some (suc fuel) le =
-    let fewer = parted-fewer (first ∷ behind) branch children siblings p in
+found_there query [] branch children siblings left way found p w below some fuel le = absurd p
+found_there query (first ∷ behind) branch children siblings left way found p w below some zero le = absurd (omega arith)
+found_there query (first ∷ behind) branch children siblings left way None p w below some (suc fuel) le = absurd cc
+found_there query (first ∷ behind) branch children siblings left None (Some command) p w below some (suc fuel) le =
+    let fewer = parted_fewer (first ∷ behind) branch children siblings p in
     absurd (below fuel (omega (arith, fewer.0)))
-found-there query (first ∷ behind) branch children siblings left (Some others) (Some command) p w below some (suc fuel) le =
-    let fewer = parted-fewer (first ∷ behind) branch children siblings p in
+found_there query (first ∷ behind) branch children siblings left (Some others) (Some command) p w below some (suc fuel) le =
+    let fewer = parted_fewer (first ∷ behind) branch children siblings p in
     let takes = subst (λ place. Takes left (part place.node) (left_of others)) p.0 w in
-    let on = to-first fuel query first behind branch children siblings p (left_of others) command (below fuel (omega (arith, fewer.0))) in
+    let on = to_first fuel query first behind branch children siblings p (left_of others) command (below fuel (omega (arith, fewer.0))) in
     inl (inl (left_of others, takes, on))
 
 -- a command below a node that is absent
-pub found-absent : (query : Bool) (branches : List Branch) (branch : Branch) (children siblings : List Branch) (left : List (List ℕ))
+pub found_absent : (query : Bool) (branches : List Branch) (branch : Branch) (children siblings : List Branch) (left : List (List ℕ))
     (way : Option Mnemonics) (found : Option CommandId) → IsParted branches branch children siblings → IsAllOf left (part branch.node) way
     → FoundBelow query branch children way found → is_some found ≡ true
     → (fuel : ℕ) → length branches ≤ fuel → IsFound found (λ command. Leads fuel query branches left command)
-found-absent query [] branch children siblings left way found p w below some fuel le = absurd p
-found-absent query (first ∷ behind) branch children siblings left way found p w below some zero le = absurd (omega arith)
-found-absent query (first ∷ behind) branch children siblings left way None p w below some (suc fuel) le = absurd cc
-found-absent query (first ∷ behind) branch children siblings left None (Some command) p w below some (suc fuel) le =
-    let fewer = parted-fewer (first ∷ behind) branch children siblings p in
+found_absent query [] branch children siblings left way found p w below some fuel le = absurd p
+found_absent query (first ∷ behind) branch children siblings left way found p w below some zero le = absurd (omega arith)
+found_absent query (first ∷ behind) branch children siblings left way None p w below some (suc fuel) le = absurd cc
+found_absent query (first ∷ behind) branch children siblings left None (Some command) p w below some (suc fuel) le =
+    let fewer = parted_fewer (first ∷ behind) branch children siblings p in
     absurd (below fuel (omega (arith, fewer.0)))
-found-absent query (first ∷ behind) branch children siblings left (Some all) (Some command) p w below some (suc fuel) le =
-    let fewer = parted-fewer (first ∷ behind) branch children siblings p in
+found_absent query (first ∷ behind) branch children siblings left (Some all) (Some command) p w below some (suc fuel) le =
+    let fewer = parted_fewer (first ∷ behind) branch children siblings p in
     let may : first.node.optional ≡ true = ap (λ place. place.node.optional) (sym p.0) ∙ w.0 in
-    let on = to-first fuel query first behind branch children siblings p (left_of all) command (below fuel (omega (arith, fewer.0))) in
+    let on = to_first fuel query first behind branch children siblings p (left_of all) command (below fuel (omega (arith, fewer.0))) in
     inl (inr (may, subst (λ rest. LeadsFrom fuel query first (take first.below behind) rest command) w.1 on))
 
 -- nothing below the first of siblings, and nothing behind it
-nothing-here : (fuel : ℕ) (query : Bool) (first : Branch) (behind : List Branch) (branch : Branch) (children siblings : List Branch)
+nothing_here : (fuel : ℕ) (query : Bool) (first : Branch) (behind : List Branch) (branch : Branch) (children siblings : List Branch)
     (left : List (List ℕ)) (there absent : Option Mnemonics) (command : CommandId)
     → IsParted (first ∷ behind) branch children siblings → IsBehind left (part branch.node) there → IsAllOf left (part branch.node) absent
     → (OnLeft there (λ rest. LeadsFrom fuel query branch children rest command) → ⊥)
     → (OnLeft absent (λ rest. LeadsFrom fuel query branch children rest command) → ⊥)
     → (Leads fuel query siblings left command → ⊥) → Leads (suc fuel) query (first ∷ behind) left command → ⊥
-nothing-here fuel query first behind branch children siblings left None absent command p w v a b c (inl (inl h)) =
+nothing_here fuel query first behind branch children siblings left None absent command p w v a b c (inl (inl h)) =
     w h.0 (subst (λ place. Takes left (part place.node) h.0) (sym p.0) h.1)
-nothing-here fuel query first behind branch children siblings left (Some others) absent command p w v a b c (inl (inl h)) =
+nothing_here fuel query first behind branch children siblings left (Some others) absent command p w v a b c (inl (inl h)) =
     let takes = subst (λ place. Takes left (part place.node) h.0) (sym p.0) h.1 in
-    let same : h.0 ≡ left_of others = one-takes left (part branch.node) h.0 (left_of others) takes w in
-    let on = from-first fuel query first behind branch children siblings p h.0 command h.2 in
+    let same : h.0 ≡ left_of others = one_takes left (part branch.node) h.0 (left_of others) takes w in
+    let on = from_first fuel query first behind branch children siblings p h.0 command h.2 in
     a (subst (λ rest. LeadsFrom fuel query branch children rest command) same on)
-nothing-here fuel query first behind branch children siblings left there None command p w v a b c (inl (inr h)) =
+nothing_here fuel query first behind branch children siblings left there None command p w v a b c (inl (inr h)) =
     let may : branch.node.optional ≡ true = ap (λ place. place.node.optional) p.0 ∙ h.0 in
     let not_so : branch.node.optional ≡ false = v in
     let e : true ≡ false = sym may ∙ not_so in
     absurd cc
-nothing-here fuel query first behind branch children siblings left there (Some all) command p w v a b c (inl (inr h)) =
-    let on = from-first fuel query first behind branch children siblings p left command h.1 in
+nothing_here fuel query first behind branch children siblings left there (Some all) command p w v a b c (inl (inr h)) =
+    let on = from_first fuel query first behind branch children siblings p left command h.1 in
     b (subst (λ rest. LeadsFrom fuel query branch children rest command) (sym v.1) on)
-nothing-here fuel query first behind branch children siblings left there absent command p w v a b c (inr h) =
+nothing_here fuel query first behind branch children siblings left there absent command p w v a b c (inr h) =
     c (subst (λ nodes. Leads fuel query nodes left command) (sym p.2) h)
 
 -- what was found among the siblings behind a node, where nothing is found at it
-pub found-behind : (query : Bool) (branches : List Branch) (branch : Branch) (children siblings : List Branch) (left : List (List ℕ))
+pub found_behind : (query : Bool) (branches : List Branch) (branch : Branch) (children siblings : List Branch) (left : List (List ℕ))
     (there absent : Option Mnemonics) (first second found : Option CommandId) → IsParted branches branch children siblings
     → IsBehind left (part branch.node) there → IsAllOf left (part branch.node) absent
     → FoundBelow query branch children there first → is_some first ≡ false
     → FoundBelow query branch children absent second → is_some second ≡ false
     → ((fuel : ℕ) → length siblings ≤ fuel → IsFound found (λ command. Leads fuel query siblings left command))
     → (fuel : ℕ) → length branches ≤ fuel → IsFound found (λ command. Leads fuel query branches left command)
-found-behind query [] branch children siblings left there absent first second found p w v a no_first b no_second c fuel le = absurd p
-found-behind query (node ∷ behind) branch children siblings left there absent first second found p w v a no_first b no_second c zero le =
+found_behind query [] branch children siblings left there absent first second found p w v a no_first b no_second c fuel le = absurd p
+found_behind query (node ∷ behind) branch children siblings left there absent first second found p w v a no_first b no_second c zero le =
     absurd (omega arith)
-found-behind query (node ∷ behind) branch children siblings left there absent (Some wrong) second found p w v a no_first b no_second c
+found_behind query (node ∷ behind) branch children siblings left there absent (Some wrong) second found p w v a no_first b no_second c
     (suc fuel) le = absurd cc
-found-behind query (node ∷ behind) branch children siblings left there absent None (Some wrong) found p w v a no_first b no_second c
+found_behind query (node ∷ behind) branch children siblings left there absent None (Some wrong) found p w v a no_first b no_second c
     (suc fuel) le = absurd cc
-found-behind query (node ∷ behind) branch children siblings left there absent None None (Some command) p w v a no_first b no_second c
+found_behind query (node ∷ behind) branch children siblings left there absent None None (Some command) p w v a no_first b no_second c
     (suc fuel) le =
-    let fewer = parted-fewer (node ∷ behind) branch children siblings p in
+    let fewer = parted_fewer (node ∷ behind) branch children siblings p in
     inr (subst (λ nodes. Leads fuel query nodes left command) p.2 (c fuel (omega (arith, fewer.1))))
-found-behind query (node ∷ behind) branch children siblings left there absent None None None p w v a no_first b no_second c
+found_behind query (node ∷ behind) branch children siblings left there absent None None None p w v a no_first b no_second c
     (suc fuel) le =
-    let fewer = parted-fewer (node ∷ behind) branch children siblings p in
+    let fewer = parted_fewer (node ∷ behind) branch children siblings p in
     let few : length children ≤ fuel = omega (arith, fewer.0) in
     let few_behind : length siblings ≤ fuel = omega (arith, fewer.1) in
-    λ command h. nothing-here fuel query node behind branch children siblings left there absent command p w v (a fuel few command)
+    λ command h. nothing_here fuel query node behind branch children siblings left there absent command p w v (a fuel few command)
     (b fuel few command) (c fuel few_behind command) h
 
 -- what was found below it, where it has none
-below-node : (query : Bool) (branch : Branch) (children : List Branch) (left : Mnemonics) (found : Option CommandId)
+below_node : (query : Bool) (branch : Branch) (children : List Branch) (left : Mnemonics) (found : Option CommandId)
     → ((command : CommandId) → Ends (left_of left) (command_of query branch) command → ⊥)
     → ((fuel : ℕ) → length children ≤ fuel → IsFound found (λ command. Leads fuel query children (left_of left) command))
     → FoundBelow query branch children (Some left) found
-below-node query branch children left (Some command) none below = λ fuel le. inr (below fuel le)
-below-node query branch children left None none below =
+below_node query branch children left (Some command) none below = λ fuel le. inr (below fuel le)
+below_node query branch children left None none below =
     λ fuel le command h. elim h [ inl ends ↦ none command ends | inr on ↦ below fuel le command on ]
 
-pub found-below : (query : Bool) (branch : Branch) (children : List Branch) (way : Option Mnemonics) (left : Mnemonics)
+pub found_below : (query : Bool) (branch : Branch) (children : List Branch) (way : Option Mnemonics) (left : Mnemonics)
     (found : Option CommandId) → way ≡ Some left → ((command : CommandId) → Ends (left_of left) (command_of query branch) command → ⊥)
     → ((fuel : ℕ) → length children ≤ fuel → IsFound found (λ command. Leads fuel query children (left_of left) command))
     → FoundBelow query branch children way found
-found-below query branch children way left found e none below =
-    subst (λ w. FoundBelow query branch children w found) (sym e) (below-node query branch children left found none below)
+found_below query branch children way left found e none below =
+    subst (λ w. FoundBelow query branch children w found) (sym e) (below_node query branch children left found none below)

@@ -54,36 +54,36 @@ device_effect c effect log = ap device_acts (effect_parts c effect log) ∙ devi
     ∙ device_shared effect.adds log
 
 -- acts of links, and of the instrument
-pub link_acts-links : (links : List LinkAct) (acts : List DeviceAct) → link_acts (map Linked links ++ acts) ≡ links ++ link_acts acts
-link_acts-links [] acts = refl
-link_acts-links (act ∷ links) acts = ap (λ (xs : List LinkAct). act ∷ xs) (link_acts-links links acts)
+pub link_acts_links : (links : List LinkAct) (acts : List DeviceAct) → link_acts (map Linked links ++ acts) ≡ links ++ link_acts acts
+link_acts_links [] acts = refl
+link_acts_links (act ∷ links) acts = ap (λ (xs : List LinkAct). act ∷ xs) (link_acts_links links acts)
 
-pub instrument_acts-links : (links : List LinkAct) (acts : List DeviceAct)
+pub instrument_acts_links : (links : List LinkAct) (acts : List DeviceAct)
     → instrument_acts (map Linked links ++ acts) ≡ instrument_acts acts
-instrument_acts-links [] acts = refl
-instrument_acts-links (act ∷ links) acts = instrument_acts-links links acts
+instrument_acts_links [] acts = refl
+instrument_acts_links (act ∷ links) acts = instrument_acts_links links acts
 
-pub ticks-links : (links : List LinkAct) (acts : List DeviceAct) → ticks (map Linked links ++ acts) ≡ ticks acts
-ticks-links [] acts = refl
-ticks-links (act ∷ links) acts = ticks-links links acts
+pub ticks_links : (links : List LinkAct) (acts : List DeviceAct) → ticks (map Linked links ++ acts) ≡ ticks acts
+ticks_links [] acts = refl
+ticks_links (act ∷ links) acts = ticks_links links acts
 
-pub link_acts-happened : (adds : List InstrumentAct) (acts : List DeviceAct) → link_acts (map Applied adds ++ acts) ≡ link_acts acts
-link_acts-happened [] acts = refl
-link_acts-happened (act ∷ adds) acts = link_acts-happened adds acts
+pub link_acts_happened : (adds : List InstrumentAct) (acts : List DeviceAct) → link_acts (map Applied adds ++ acts) ≡ link_acts acts
+link_acts_happened [] acts = refl
+link_acts_happened (act ∷ adds) acts = link_acts_happened adds acts
 
-pub instrument_acts-happened : (adds : List InstrumentAct) (acts : List DeviceAct)
+pub instrument_acts_happened : (adds : List InstrumentAct) (acts : List DeviceAct)
     → instrument_acts (map Applied adds ++ acts) ≡ adds ++ instrument_acts acts
-instrument_acts-happened [] acts = refl
-instrument_acts-happened (act ∷ adds) acts = ap (λ (xs : List InstrumentAct). act ∷ xs) (instrument_acts-happened adds acts)
+instrument_acts_happened [] acts = refl
+instrument_acts_happened (act ∷ adds) acts = ap (λ (xs : List InstrumentAct). act ∷ xs) (instrument_acts_happened adds acts)
 
-pub ticks-happened : (adds : List InstrumentAct) (acts : List DeviceAct) → ticks (map Applied adds ++ acts) ≡ ticks acts
-ticks-happened [] acts = refl
-ticks-happened (act ∷ adds) acts = ticks-happened adds acts
+pub ticks_happened : (adds : List InstrumentAct) (acts : List DeviceAct) → ticks (map Applied adds ++ acts) ≡ ticks acts
+ticks_happened [] acts = refl
+ticks_happened (act ∷ adds) acts = ticks_happened adds acts
 
-pub wait_acts-happened : (adds : List InstrumentAct) (acts : List DeviceAct) → wait_acts (map Applied adds ++ acts) ≡ wait_acts acts
-wait_acts-happened [] acts = refl
-wait_acts-happened (act ∷ adds) acts = wait_acts-happened adds acts
+pub wait_acts_happened : (adds : List InstrumentAct) (acts : List DeviceAct) → wait_acts (map Applied adds ++ acts) ≡ wait_acts acts
+wait_acts_happened [] acts = refl
+wait_acts_happened (act ∷ adds) acts = wait_acts_happened adds acts
 
-pub wait_acts-links : (links : List LinkAct) (acts : List DeviceAct) → wait_acts (map Linked links ++ acts) ≡ wait_acts acts
-wait_acts-links [] acts = refl
-wait_acts-links (act ∷ links) acts = wait_acts-links links acts
+pub wait_acts_links : (links : List LinkAct) (acts : List DeviceAct) → wait_acts (map Linked links ++ acts) ≡ wait_acts acts
+wait_acts_links [] acts = refl
+wait_acts_links (act ∷ links) acts = wait_acts_links links acts

@@ -12,7 +12,7 @@ use Rattle.sv_instrument.specs.RequestCount.{Raise}
 use Rattle.sv_history.specs.Act.{DeviceAct, Linked, Waited, Channel, Applied, Ticked, channel_acts, instrument_acts}
 use Rattle.sv_history.specs.Requests.{HearsOf, link_told, request_told}
 use Rattle.sv_history.specs.Interrupts.{has_channel}
-use Rattle.sv_history.proofs.Projections.{instrument_acts-happened}
+use Rattle.sv_history.proofs.Projections.{instrument_acts_happened}
 
 same_flag : (p q : Bool) (P : Type 0) → ((p ≡ true) ↔ P) → ((q ≡ true) ↔ P) → p ≡ q
 same_flag true true P x y = refl
@@ -82,6 +82,6 @@ tells_raised (act ∷ adds) acts channel_log n (raised, before, so, rest, is) te
   requests before channel_log,
   raised,
   tells_raised adds acts channel_log before rest tells,
-  rw (instrument_acts-happened adds acts) so,
+  rw (instrument_acts_happened adds acts) so,
   ap (λ (m : ℕ). requests m channel_log) is ∙ requests_one before raised channel_log,
 )

@@ -4,7 +4,7 @@ use Rattle.std.specs.Prelude.{Result, Err, Some}
 use Rattle.sv_errors.specs.declared.code.Code.{Code}
 use Rattle.sv_lexer.specs.Unit.{header}
 use Rattle.sv_header.specs.declared.command.CommandId.{CommandId}
-use Rattle.sv_header.proofs.Clash.{one-command}
+use Rattle.sv_header.proofs.Clash.{one_command}
 use Rattle.sv_instrument.specs.declared.command.order.Order.{Order}
 use Rattle.sv_instrument.specs.Command.Unit.{IsNamed, order_of_unit}
 use Rattle.sv_instrument.specs.Laws.{OneReading}
@@ -12,7 +12,7 @@ use Rattle.sv_instrument.specs.Laws.{OneReading}
 named_once : (path : List (List ℕ)) (unit : List ℕ) (a b : Result Order Code) (p q : List (List ℕ)) → IsNamed path unit a p
     → IsNamed path unit b q → (a ≡ b) × (p ≡ q)
 named_once path unit a b p q (inl x) (inl y) =
-    let same = one-command path (header unit) x.0 y.0 x.1 y.1 in
+    let same = one_command path (header unit) x.0 y.0 x.1 y.1 in
     (x.2 ∙ ap (λ (command : CommandId). order_of_unit command unit) same ∙ sym y.2, x.3 ∙ sym y.3)
 named_once path unit a b p q (inl x) (inr y) = absurd (y.0 x.0 x.1)
 named_once path unit a b p q (inr x) (inl y) = absurd (x.0 y.0 y.1)

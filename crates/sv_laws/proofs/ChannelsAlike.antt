@@ -7,8 +7,8 @@ use Rattle.std.proofs.lemmas.List.Elements.{filter-append}
 use Rattle.sv_links.specs.declared.enabled.Enabled.{Enabled}
 use Rattle.sv_links.specs.Channels.{ChannelAct, SrqEnabled, SrqDisabled, ChannelOpened, ChannelClosed, Requested, ChannelTaken, srq_enabled, past, enabled_links, peer, bytes_taken, calls, all_calls}
 use Rattle.sv_links.specs.ChannelRepresentation.{IsSorted}
-use Rattle.sv_links.proofs.Asking.{below, above, other_links, none_below, sorted-filter}
-use Rattle.sv_links.proofs.Rising.{among, asked-at, with_link, enabled-enabled, enabled-disabled, enabled-sorted}
+use Rattle.sv_links.proofs.Asking.{below, above, other_links, none_below, sorted_filter}
+use Rattle.sv_links.proofs.Rising.{among, asked_at, with_link, enabled_enabled, enabled_disabled, enabled_sorted}
 
 -- this connection's links that ask
 abbrev pub own_links : ℕ → List Enabled → List Enabled
@@ -60,7 +60,7 @@ with_asked acts n (Some x) xs is at all = (ap (λ (m : ℕ). srq_enabled m acts)
 among_asked : (a n : ℕ) (acts : List ChannelAct) → AllByRecursion (λ link. srq_enabled link.lid acts ≡ Some link) (among a n acts)
 among_asked a zero acts = tt
 among_asked a (suc n) acts =
-    with_asked acts a (srq_enabled a acts) (among (a + 1) n acts) refl (asked-at a acts) (among_asked (a + 1) n acts)
+    with_asked acts a (srq_enabled a acts) (among (a + 1) n acts) refl (asked_at a acts) (among_asked (a + 1) n acts)
 
 -- so none of this connection's has a number that is asked elsewhere
 abbrev Differ : ℕ → List Enabled → Type 0
@@ -118,11 +118,11 @@ own_with c link links =
 own_enabled : (c : ℕ) (link : Enabled) (acts : List ChannelAct)
     → own_links c (enabled_links (SrqEnabled link.lid link.conn link.handle ∷ acts))
     ≡ below link.lid (own_links c (enabled_links acts)) ++ (own_links c (link ∷ []) ++ above link.lid (own_links c (enabled_links acts)))
-own_enabled c link acts = ap (own_links c) (enabled-enabled link acts) ∙ own_with c link (enabled_links acts)
+own_enabled c link acts = ap (own_links c) (enabled_enabled link acts) ∙ own_with c link (enabled_links acts)
 
 own_disabled : (c lid : ℕ) (acts : List ChannelAct)
     → own_links c (enabled_links (SrqDisabled lid ∷ acts)) ≡ other_links lid (own_links c (enabled_links acts))
-own_disabled c lid acts = ap (own_links c) (enabled-disabled lid acts)
+own_disabled c lid acts = ap (own_links c) (enabled_disabled lid acts)
     ∙ filter_comm (λ link. eqb link.conn c) (λ other. not (eqb other.lid lid)) (enabled_links acts)
 
 -- ---- over an act of others
@@ -132,7 +132,7 @@ pub channel_foreign : (c : ℕ) (act : ChannelAct) (acts other : List ChannelAct
 channel_foreign c (SrqEnabled lid conn handle) acts other h same =
     let one : Enabled = record { lid = lid; conn = conn; handle = handle } in
     assumption (own_enabled c one acts ∙ rw (ne_eqb conn c h.0) (parted lid (own_links c (enabled_links acts))
-    (sorted-filter (λ link. eqb link.conn c) (enabled_links acts) (enabled-sorted acts)) (differ_enabled c lid acts h.1)) ∙ same.links)
+    (sorted_filter (λ link. eqb link.conn c) (enabled_links acts) (enabled_sorted acts)) (differ_enabled c lid acts h.1)) ∙ same.links)
 channel_foreign c (SrqDisabled lid) acts other h same = assumption (own_disabled c lid acts
     ∙ kept_differ lid (own_links c (enabled_links acts)) (differ_enabled c lid acts h) ∙ same.links)
 channel_foreign c (ChannelOpened conn what) acts other h same = search (ne_eqb conn c h)

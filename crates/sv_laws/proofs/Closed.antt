@@ -8,7 +8,7 @@ use Rattle.sv_logs.proofs.Each.{Each}
 use Rattle.sv_links.specs.declared.links.Link.{Link}
 use Rattle.sv_links.specs.Links.{LinkAct, Destroyed, live, owner, is_of, links_of, closing, is_locked, holder}
 use Rattle.sv_links.specs.Table.{IsRising}
-use Rattle.sv_links.proofs.Closing.{gone, of_conn, has, locked-gone, has-owner}
+use Rattle.sv_links.proofs.Closing.{gone, of_conn, has, locked_gone, has_owner}
 use Rattle.sv_laws.proofs.Facts.{some_same}
 use Rattle.sv_laws.proofs.LinksAlike.{IsForeignLink, MakesNone, owner_destroyed, owner_is_of, holder_locked}
 
@@ -61,7 +61,7 @@ closed_before c d n acts h = elim (cases_Bool (has n (links_in c acts))) [
 pub closed_frees : (c lid : ℕ) (acts : List LinkAct) → owner lid acts ≡ Some c → holder (closing c acts ++ acts) ≡ Some lid → ⊥
 closed_frees c lid acts owns h =
     let free : is_locked lid (gone (links_in c acts) acts) ≡ false =
-    locked-gone lid (links_in c acts) acts ∙ rw (owned_has c lid (live acts) owns) refl in
+    locked_gone lid (links_in c acts) acts ∙ rw (owned_has c lid (live acts) owns) refl in
     holder_locked lid (closing c acts ++ acts) (ap (is_locked lid) (closing_gone c acts) ∙ free) h
 
 -- ---- the numbers of another connection's links
@@ -93,13 +93,13 @@ closed_others : (c d last : ℕ) (acts : List LinkAct) → d ≢ c → IsRising 
 closed_others c d last acts ne rising = all_numbers (λ n. is_of c (owner n acts) ≡ false) (links_in d acts)
     (all_then (λ y. has y.lid (links_in d acts) ≡ true) (λ y. is_of c (owner y.lid acts) ≡ false) (links_in d acts)
     (λ y h. other_owner c d (owner y.lid acts) ne
-    (owner_is_of d (owner y.lid acts) (sym (has-owner d y.lid (live acts) last rising) ∙ h))) (all_has (links_in d acts)))
+    (owner_is_of d (owner y.lid acts) (sym (has_owner d y.lid (live acts) last rising) ∙ h))) (all_has (links_in d acts)))
 
 pub closed_own : (c last : ℕ) (acts : List LinkAct) → IsRising (live acts) last
     → AllByRecursion (λ n. owner n acts ≡ Some c) (links_of c acts)
 closed_own c last acts rising = all_numbers (λ n. owner n acts ≡ Some c) (links_in c acts)
     (all_then (λ y. has y.lid (links_in c acts) ≡ true) (λ y. owner y.lid acts ≡ Some c) (links_in c acts)
-    (λ y h. owner_is_of c (owner y.lid acts) (sym (has-owner c y.lid (live acts) last rising) ∙ h)) (all_has (links_in c acts)))
+    (λ y h. owner_is_of c (owner y.lid acts) (sym (has_owner c y.lid (live acts) last rising) ∙ h)) (all_has (links_in c acts)))
 
 -- what isn't the connection's stays so
 still_other : (c n lid : ℕ) (acts : List LinkAct) → is_of c (owner n acts) ≡ false → is_of c (owner n (Destroyed lid ∷ acts)) ≡ false

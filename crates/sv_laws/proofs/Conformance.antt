@@ -7,7 +7,7 @@ use Rattle.sv_logs.specs.Since.{is_since}
 use Rattle.sv_logs.proofs.Since.{since_empty, since_step, since_kept, since_over, since_same, since_ended, then_same}
 use Rattle.sv_errors.specs.declared.error_queue.QueueAct.{QueueAct}
 use Rattle.sv_errors.specs.ErrorQueue.{entries}
-use Rattle.sv_errors.proofs.Queue.{queued-reported, queued-taken}
+use Rattle.sv_errors.proofs.Queue.{queued_reported, queued_taken}
 use Rattle.sv_status.specs.declared.register_name.RegisterName.{RegisterName}
 use Rattle.sv_status.specs.declared.register_name.RegisterName.TheVariants.{Operation, Questionable, Limit}
 use Rattle.sv_scan.specs.declared.acts.ScanAct.{ScanAct}
@@ -404,11 +404,11 @@ errors_in_order = (
       let same = taken_same log in (
         done (EntryTaken ∷ log),
         is ∙ ap (λ (t : List ℕ). after_answering t (done (EntryTaken ∷ log))) says,
-        queued-taken (queue_acts log),
+        queued_taken (queue_acts log),
         same.0,
         same.1,
       )),
-  (λ log code few. queued-reported code (queue_acts log) few),
+  (λ log code few. queued_reported code (queue_acts log) few),
 )
 
 -- ---- device_clear

@@ -29,7 +29,7 @@ use Rattle.sv_history.specs.Refusing.{refusable, refused_reply}
 use Rattle.sv_history.specs.Resuming.{effect_of, leaving, next_wait, resume_outcome}
 use Rattle.sv_history.specs.History.{IsLogOf}
 use Rattle.sv_history.proofs.Dialing.{peer_by, dialed_to, dialed_is}
-use Rattle.sv_history.proofs.Projections.{of_mine, of_shared, device_shared, device_effect, wait_acts-links, wait_acts-happened}
+use Rattle.sv_history.proofs.Projections.{of_mine, of_shared, device_shared, device_effect, wait_acts_links, wait_acts_happened}
 use Rattle.sv_laws.specs.InTime.{waits_for_peer, waited, time_for, EachWaitInTime}
 use Rattle.sv_laws.proofs.Patience.{time_left, then_is, Begins, begins}
 use Rattle.sv_laws.proofs.Facts.{some_same, some_none, not_both}
@@ -134,7 +134,7 @@ dated_shared config adds log all same starts = λ d.
 
 dated_happened : (config : Config) (adds : List InstrumentAct) (log : List Act) → AllDated config log
     → AllDated config (map OnDevice (map Applied adds) ++ log)
-dated_happened config adds log all = dated_shared config (map Applied adds) log all (wait_acts-happened adds (device_acts log))
+dated_happened config adds log all = dated_shared config (map Applied adds) log all (wait_acts_happened adds (device_acts log))
     (λ d. began_happened d adds (device_acts log))
 
 -- ---- a suspended call ends, or waits anew
@@ -318,7 +318,7 @@ dated_close config c log all d =
     let links = closing c (link_acts acts) in
     let new = map OnDevice (close_adds c acts) ++ On c PortClosed ∷ log in
     let after = Channel (ChannelClosed c) ∷ (map Linked links ++ Waited (Left c) ∷ acts) in
-    let calls : wait_acts after ≡ Left c ∷ wait_acts acts = wait_acts-links links (Waited (Left c) ∷ acts) in
+    let calls : wait_acts after ≡ Left c ∷ wait_acts acts = wait_acts_links links (Waited (Left c) ∷ acts) in
     let starts : began d after ≡ began d acts = began_links d links (Waited (Left c) ∷ acts) in
     let other : d ≢ c → SameWait d after acts = λ ne.
     (subst (λ (l : List WaitAct). SameCall d l (wait_acts acts)) (sym calls) (same_other c d (Left c) (wait_acts acts) refl ne), starts) in

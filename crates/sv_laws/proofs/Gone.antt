@@ -74,17 +74,17 @@ core_shared : (adds : List DeviceAct) (log : List Act) → AllCore log → OnlyS
 core_shared adds log all shuts d opened = ap open_role (of_shared d adds log)
     ∙ all d (shuts d (ap (λ (l : List DeviceAct). is_channel_open d (channel_acts l)) (sym (device_shared adds log)) ∙ opened))
 
-channels-happened : (adds : List InstrumentAct) (acts : List DeviceAct) → channel_acts (map Applied adds ++ acts) ≡ channel_acts acts
-channels-happened [] acts = refl
-channels-happened (act ∷ adds) acts = channels-happened adds acts
+channels_happened : (adds : List InstrumentAct) (acts : List DeviceAct) → channel_acts (map Applied adds ++ acts) ≡ channel_acts acts
+channels_happened [] acts = refl
+channels_happened (act ∷ adds) acts = channels_happened adds acts
 
-channels-links : (links : List LinkAct) (acts : List DeviceAct) → channel_acts (map Linked links ++ acts) ≡ channel_acts acts
-channels-links [] acts = refl
-channels-links (act ∷ links) acts = channels-links links acts
+channels_links : (links : List LinkAct) (acts : List DeviceAct) → channel_acts (map Linked links ++ acts) ≡ channel_acts acts
+channels_links [] acts = refl
+channels_links (act ∷ links) acts = channels_links links acts
 
 core_happened : (adds : List InstrumentAct) (log : List Act) → AllCore log → AllCore (map OnDevice (map Applied adds) ++ log)
 core_happened adds log all = core_shared (map Applied adds) log all
-    (λ d is. ap (is_channel_open d) (sym (channels-happened adds (device_acts log))) ∙ is)
+    (λ d is. ap (is_channel_open d) (sym (channels_happened adds (device_acts log))) ∙ is)
 
 closes : (c : ℕ) (acts : List DeviceAct) → OnlyShuts (Channel (ChannelClosed c) ∷ []) acts
 closes c acts d is = elim (cases_Bool (eqb c d)) [
@@ -175,7 +175,7 @@ core_close c log all d opened =
     let acts = device_acts log in
     let links = closing c (link_acts acts) in
     let rest : channel_acts (map Linked links ++ Waited (Left c) ∷ acts)
-    ≡ channel_acts acts = channels-links links (Waited (Left c) ∷ acts) in
+    ≡ channel_acts acts = channels_links links (Waited (Left c) ∷ acts) in
     let now : is_channel_open d (ChannelClosed c ∷ channel_acts acts) ≡ true =
     ap (λ (l : List ChannelAct). is_channel_open d (ChannelClosed c ∷ l)) (sym rest)
     ∙ ap (λ (l : List DeviceAct). is_channel_open d (channel_acts l)) (sym (device_closed c log)) ∙ opened in

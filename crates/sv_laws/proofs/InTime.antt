@@ -31,7 +31,7 @@ use Rattle.sv_history.specs.Refusing.{refusable, refused_reply}
 use Rattle.sv_history.specs.Resuming.{effect_of, leaving, next_wait, resume_outcome}
 use Rattle.sv_history.specs.History.{IsLogOf}
 use Rattle.sv_history.proofs.Dialing.{peer_by, dialed_to, dialed_is}
-use Rattle.sv_history.proofs.Projections.{of_mine, of_shared, device_shared, device_effect, wait_acts-links, wait_acts-happened, ticks-links}
+use Rattle.sv_history.proofs.Projections.{of_mine, of_shared, device_shared, device_effect, wait_acts_links, wait_acts_happened, ticks_links}
 use Rattle.sv_laws.specs.InTime.{age, lock_time, patience, waits_for_peer, InTime}
 use Rattle.sv_laws.proofs.Patience.{bound, bound_most, time_bound, then_is, Begins, begins}
 use Rattle.sv_laws.proofs.Facts.{some_same, some_none, not_both}
@@ -158,7 +158,7 @@ timely_shared config adds log all times same = λ d.
 timely_happened : (config : Config) (adds : List InstrumentAct) (log : List Act) → AllTimely config log
     → AllTimely config (map OnDevice (map Applied adds) ++ log)
 timely_happened config adds log all =
-    timely_shared config (map Applied adds) log all (no_ticks_happened adds) (wait_acts-happened adds (device_acts log))
+    timely_shared config (map Applied adds) log all (no_ticks_happened adds) (wait_acts_happened adds (device_acts log))
 
 -- ---- a suspended call ends, or waits anew
 
@@ -358,8 +358,8 @@ timely_close config c log all d =
     let new = map OnDevice (close_adds c acts) ++ On c PortClosed ∷ log in
     let clock = config.clock + ticks acts in
     let calls : wait_acts (device_acts new) ≡ Left c ∷ wait_acts acts =
-    ap wait_acts (device_closed c log) ∙ wait_acts-links links (Waited (Left c) ∷ acts) in
-    let times : ticks (device_acts new) ≡ ticks acts = ap ticks (device_closed c log) ∙ ticks-links links (Waited (Left c) ∷ acts) in
+    ap wait_acts (device_closed c log) ∙ wait_acts_links links (Waited (Left c) ∷ acts) in
+    let times : ticks (device_acts new) ≡ ticks acts = ap ticks (device_closed c log) ∙ ticks_links links (Waited (Left c) ∷ acts) in
     let old : age d new ≡ age d log = age_shared d (close_adds c acts) (On c PortClosed ∷ log)
     (no_ticks_join (map Linked links) (Waited (Left c) ∷ []) (no_ticks_links links) tt) in
     let so : Timely (age d log) clock d (of d new) (Left c ∷ wait_acts acts) = elim (cases_eq d c) [

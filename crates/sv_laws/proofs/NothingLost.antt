@@ -30,7 +30,7 @@ use Rattle.sv_history.proofs.Dialing.{peer_by, dialed_to, dialed_is}
 use Rattle.sv_history.specs.Resuming.{connect_effect}
 use Rattle.sv_history.specs.History.{is_shut, refusal, own_acts, did, wants_memory, AnswersBy, IsLogOf}
 use Rattle.sv_laws.specs.Laws.{NothingLost}
-use Rattle.sv_history.proofs.Projections.{device_effect, device_shared, link_acts-links, wait_acts-links, link_acts-happened, wait_acts-happened}
+use Rattle.sv_history.proofs.Projections.{device_effect, device_shared, link_acts_links, wait_acts_links, link_acts_happened, wait_acts_happened}
 use Rattle.sv_history.proofs.Telling.{tells_once, has_channel_told}
 use Rattle.sv_laws.proofs.ShutIsClear.{clear_free, shut_is_clear}
 use Rattle.sv_laws.proofs.Facts.{some_none, not_both}
@@ -77,9 +77,9 @@ close_modest c log =
     let adds = Channel (ChannelClosed c) ∷ map Linked links ++ Waited (Left c) ∷ [] in
     let is : device_acts (map OnDevice adds ++ On c PortClosed ∷ []) ≡ adds = device_shared adds (On c PortClosed ∷ []) ∙ append-nil adds in
     rw is (left_modest c adds
-    (ap links_made (link_acts-links links (Waited (Left c) ∷ []) ∙ append-nil links)
+    (ap links_made (link_acts_links links (Waited (Left c) ∷ []) ∙ append-nil links)
     ∙ made_none links (link_acts (device_acts log)) (closed_makes_none c (link_acts (device_acts log))))
-    (wait_acts-links links (Waited (Left c) ∷ [])))
+    (wait_acts_links links (Waited (Left c) ∷ [])))
 
 dialed_modest : (c : ℕ) (ok : Bool) (call : Option CoreCall) → wants_memory (device_acts (acts_of c (connect_effect c ok call))) ≡ false
 dialed_modest c ok call =
@@ -108,7 +108,7 @@ none_wanted acts none still =
 none_behind : (adds : List InstrumentAct) (log : List Act) → link_acts (device_acts log) ≡ [] → wait_acts (device_acts log) ≡ []
     → wants_memory (device_acts (map OnDevice (map Applied adds) ++ log)) ≡ false
 none_behind adds log none still = rw (device_shared (map Applied adds) log) (none_wanted (map Applied adds ++ device_acts log)
-    (link_acts-happened adds (device_acts log) ∙ none) (wait_acts-happened adds (device_acts log) ∙ still))
+    (link_acts_happened adds (device_acts log) ∙ none) (wait_acts_happened adds (device_acts log) ∙ still))
 
 pub happened_modest : (adds : List InstrumentAct) → wants_memory (device_acts (map OnDevice (map Applied adds))) ≡ false
 happened_modest adds = subst (λ (acts : List Act). wants_memory (device_acts acts) ≡ false)

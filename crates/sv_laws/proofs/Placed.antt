@@ -39,7 +39,7 @@ use Rattle.sv_history.specs.Resuming.{effect_of, leaving, next_wait, resume_outc
 use Rattle.sv_history.specs.Settling.{IsNext}
 use Rattle.sv_history.specs.History.{abort_acts, turn_acts, own_acts, IsLogOf}
 use Rattle.sv_history.proofs.Dialing.{peer_by, dialed_to, dialed_is}
-use Rattle.sv_history.proofs.Projections.{of_mine, of_shared, device_shared, link_acts-links}
+use Rattle.sv_history.proofs.Projections.{of_mine, of_shared, device_shared, link_acts_links}
 use Rattle.sv_laws.specs.LockFair.{WaitsForLock, AsksForLock, ReleasesLock}
 use Rattle.sv_laws.proofs.Facts.{some_same, not_both}
 use Rattle.sv_laws.proofs.LinksAlike.{owner_before}
@@ -357,7 +357,7 @@ placed_links c (n ∷ ns) behind base shut own less all =
           let adds = map Linked behind ++ Waited (Left c) ∷ [] in
           let links : link_acts (device_acts (map OnDevice adds ++ base)) ≡ behind ++ link_acts (device_acts base) =
           ap link_acts (device_shared adds base ∙ append_assoc (map Linked behind) (Waited (Left c) ∷ []) (device_acts base))
-          ∙ link_acts-links behind (Waited (Left c) ∷ device_acts base) in
+          ∙ link_acts_links behind (Waited (Left c) ∷ device_acts base) in
           let same : c ≡ d = some_same c d (sym own.0 ∙ less n d (ap (owner n) (sym links) ∙ owns)) in
           inl (ap is_open (of_shared d adds base) ∙ ap (λ (m : ℕ). is_open (of m base)) (sym same) ∙ shut)),
       all,

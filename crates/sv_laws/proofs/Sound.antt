@@ -26,7 +26,7 @@ use Rattle.sv_history.specs.Interrupts.{has_channel}
 use Rattle.sv_history.specs.Request.{core_call_in}
 use Rattle.sv_history.specs.Resuming.{effect_of, leaving, next_wait, resume_outcome, resume_effect, failure_effect}
 use Rattle.sv_history.specs.Settling.{CanResume}
-use Rattle.sv_history.proofs.Projections.{of_shared, device_shared, device_effect, wait_acts-happened}
+use Rattle.sv_history.proofs.Projections.{of_shared, device_shared, device_effect, wait_acts_happened}
 use Rattle.sv_laws.specs.LockFair.{WaitsForLock}
 use Rattle.sv_laws.proofs.Facts.{some_same, some_none}
 use Rattle.sv_laws.proofs.CallsAlike.{SameCall, conn_of, call_foreign}
@@ -105,7 +105,7 @@ keep_happened (act ∷ adds) acts = (tt, keep_happened adds acts)
 
 pub sound_happened : (adds : List InstrumentAct) (log : List Act) → Sound log → Sound (map OnDevice (map Applied adds) ++ log)
 sound_happened adds log so =
-    sound_shared (map Applied adds) log so (keep_happened adds (device_acts log)) (wait_acts-happened adds (device_acts log))
+    sound_shared (map Applied adds) log so (keep_happened adds (device_acts log)) (wait_acts_happened adds (device_acts log))
 
 -- ---- the acts of a call that is done
 

@@ -35,7 +35,7 @@ use Rattle.sv_history.specs.Refusing.{refusable, refused_reply}
 use Rattle.sv_history.specs.Resuming.{leaving, late}
 use Rattle.sv_history.specs.History.{abort_acts, turn_acts, IsLogOf}
 use Rattle.sv_history.proofs.Dialing.{peer_by, dialed_to, dialed_is}
-use Rattle.sv_history.proofs.Projections.{of_mine, device_effect, wait_acts-links}
+use Rattle.sv_history.proofs.Projections.{of_mine, device_effect, wait_acts_links}
 use Rattle.sv_laws.proofs.CallsAlike.{SameCall}
 use Rattle.sv_links.specs.declared.request.Peer.{Peer}
 use Rattle.sv_laws.specs.LockFair.{WaitsForLock, WaitsWhileHeld}
@@ -278,7 +278,7 @@ keep_links : (ns : List ℕ) (behind : List LinkAct) (acts : List DeviceAct) →
 keep_links [] behind acts h k = k
 keep_links (n ∷ ns) behind acts h k = keep_links ns (Destroyed n ∷ behind) acts h.1 (
   (λ d wait w named.
-      let same = wait_acts-links behind acts in
+      let same = wait_acts_links behind acts in
       h.0 d wait (ap (waits d) (sym same) ∙ w) (ap (named_link d) (sym same) ∙ named)),
   k,
 )
@@ -295,7 +295,7 @@ sound_close c log fit so quiet =
     let before = Waited (Left c) ∷ acts in
     let keep : AllKeep before = (quiet_left acts quiet c, so.keeps) in
     let calls : wait_acts (device_acts new) ≡ Left c ∷ wait_acts acts =
-    ap wait_acts (device_closed c log) ∙ wait_acts-links (closing c (link_acts acts)) before in
+    ap wait_acts (device_closed c log) ∙ wait_acts_links (closing c (link_acts acts)) before in
     let none : (n : ℕ) → owner n (link_acts acts) ≡ Some c → NamesNone n before = λ n owns d wait w named.
     elim (cases_eq d c) [
       | inl e ↦ some_none (waits c (wait_acts before)) wait (left_none c (wait_acts acts))

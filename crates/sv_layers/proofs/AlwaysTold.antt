@@ -30,23 +30,23 @@ register_kept start [] = (
     rise = refl;
     fall = refl;
     enable = refl;
-    event = λ k. no_bits k _ (registers.event-none k);
+    event = λ k. no_bits k _ (registers.event_none k);
   },
 )
-register_kept start (Condition word ∷ acts) = let h = register_kept start acts in (_, registers.StandsFor-condition start h.0 acts word h.1)
+register_kept start (Condition word ∷ acts) = let h = register_kept start acts in (_, registers.stands_for_condition start h.0 acts word h.1)
 register_kept start (SetFilter up down ∷ acts) =
-    let h = register_kept start acts in (_, registers.StandsFor-filter start h.0 acts up down h.1)
-register_kept start (SetEnable word ∷ acts) = let h = register_kept start acts in (_, registers.StandsFor-enable start h.0 acts word h.1)
-register_kept start (ReadEvent ∷ acts) = let h = register_kept start acts in (_, registers.StandsFor-read start h.0 acts h.1)
-register_kept start (Preset ∷ acts) = let h = register_kept start acts in (_, registers.StandsFor-preset start h.0 acts h.1)
-register_kept start (Clear ∷ acts) = let h = register_kept start acts in (_, registers.StandsFor-cleared start h.0 acts h.1)
+    let h = register_kept start acts in (_, registers.stands_for_filter start h.0 acts up down h.1)
+register_kept start (SetEnable word ∷ acts) = let h = register_kept start acts in (_, registers.stands_for_enable start h.0 acts word h.1)
+register_kept start (ReadEvent ∷ acts) = let h = register_kept start acts in (_, registers.stands_for_read start h.0 acts h.1)
+register_kept start (Preset ∷ acts) = let h = register_kept start acts in (_, registers.stands_for_preset start h.0 acts h.1)
+register_kept start (Clear ∷ acts) = let h = register_kept start acts in (_, registers.stands_for_cleared start h.0 acts h.1)
 
 standard_kept : (acts : List StandardAct) → (latches : standards.Latches) × standards.StandsFor latches acts
-standard_kept [] = (_, events.StandsFor-new)
-standard_kept (standard.Occur bits ∷ acts) = let h = standard_kept acts in (_, events.StandsFor-occurred h.0 acts bits h.1)
-standard_kept (standard.Read ∷ acts) = let h = standard_kept acts in (_, events.StandsFor-read h.0 acts h.1)
-standard_kept (standard.SetEnable word ∷ acts) = let h = standard_kept acts in (_, events.StandsFor-enable h.0 acts word h.1)
-standard_kept (standard.Clear ∷ acts) = let h = standard_kept acts in (_, events.StandsFor-cleared h.0 acts h.1)
+standard_kept [] = (_, events.stands_for_new)
+standard_kept (standard.Occur bits ∷ acts) = let h = standard_kept acts in (_, events.stands_for_occurred h.0 acts bits h.1)
+standard_kept (standard.Read ∷ acts) = let h = standard_kept acts in (_, events.stands_for_read h.0 acts h.1)
+standard_kept (standard.SetEnable word ∷ acts) = let h = standard_kept acts in (_, events.stands_for_enable h.0 acts word h.1)
+standard_kept (standard.Clear ∷ acts) = let h = standard_kept acts in (_, events.stands_for_cleared h.0 acts h.1)
 
 -- a test whether an enabled bit stands
 register_test : (start : ℕ) (acts : List RegisterAct) → (stands : Bool) × ((stands ≡ true) ↔ register.Summary start acts)

@@ -18,9 +18,9 @@ bit_of place true k = (
 )
 bit_of place false k = ((λ h. absurd (let none = bit_at-zero k in omega arith)), (λ h. absurd (let none = h.1 in cc)))
 
-pub bit-le : (place : ℕ) (b : Bool) → bit place b ≤ 2 ^ place
-bit-le place true = omega arith
-bit-le place false = omega arith
+pub bit_le : (place : ℕ) (b : Bool) → bit place b ≤ 2 ^ place
+bit_le place true = omega arith
+bit_le place false = omega arith
 
 -- the bit above those of a word
 above_word : (place w k : ℕ) → w < 2 ^ place → (bit_at (2 ^ place + w) k ≡ 1) ↔ ((k ≡ place) ⊎ (bit_at w k ≡ 1))

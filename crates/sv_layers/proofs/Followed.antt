@@ -7,7 +7,7 @@ use Rattle.sv_status.specs.declared.register.RegisterAct.{RegisterAct}
 use Rattle.sv_status.specs.declared.register.RegisterAct.TheVariants.{Condition}
 use Rattle.sv_status.specs.Register as register
 use Rattle.sv_status.specs.Register.{Latches, StandsFor}
-use Rattle.sv_status.proofs.Registers.{event-unchanged}
+use Rattle.sv_status.proofs.Registers.{event_unchanged}
 use Rattle.sv_scan.specs.declared.touched.Touched.{Touched}
 use Rattle.sv_scan.specs.declared.acts.ScanAct.{ScanAct}
 use Rattle.sv_scan.specs.Stands.{Contents, StandsFor as Scans}
@@ -31,7 +31,7 @@ stands_told start latches acts word same is = record {
   rise = is.rise;
   fall = is.fall;
   enable = is.enable;
-  event = λ k. let step = event-unchanged k word acts same in then_same (is.event k) ((step.1, step.0));
+  event = λ k. let step = event_unchanged k word acts same in then_same (is.event k) ((step.1, step.0));
 }
 
 -- words of the scanner that aren't touched are what they were

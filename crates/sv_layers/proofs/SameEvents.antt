@@ -6,7 +6,7 @@ use Rattle.sv_status.specs.declared.register_name.RegisterName.{RegisterName}
 use Rattle.sv_status.specs.declared.register.RegisterAct.{RegisterAct}
 use Rattle.sv_status.specs.declared.register.RegisterAct.TheVariants as register
 use Rattle.sv_status.specs.Register as stands
-use Rattle.sv_status.proofs.Registers.{event-none, event-condition, event-read, event-cleared, event-filter, event-enable, event-preset}
+use Rattle.sv_status.proofs.Registers.{event_none, event_condition, event_read, event_cleared, event_filter, event_enable, event_preset}
 use Rattle.sv_layers.specs.declared.change.RegisterChange.TheVariants.{ReadEvents, Enable, SetRise, SetFall}
 use Rattle.sv_layers.specs.declared.change.StatusChange.TheVariants.{Register}
 use Rattle.sv_layers.specs.Act.{Act, Cleared, Preset, StatusChanged}
@@ -28,7 +28,7 @@ at_condition : (name : RegisterName) (k : ℕ) (act : Act) (log : List Act)
     ↔ (Passes name k (act ∷ log) ⊎ stands.EventStands k (register_acts name (layer_logs log)))
 at_condition name k act log =
     let words = same_words name log in
-    let told = rw (words.0, words.1, words.2) at (event-condition k (condition name (act ∷ log)) (register_acts name (layer_logs log))) in
+    let told = rw (words.0, words.1, words.2) at (event_condition k (condition name (act ∷ log)) (register_acts name (layer_logs log))) in
     let is = changes_is k (condition name log) (condition name (act ∷ log)) (rise name log) (fall name log) in
     either_same told (flip is) unchanged
 
@@ -42,18 +42,18 @@ where_event false k act acts same h = h
 -- it is read, or the other
 where_read : {F Q : Type 0} (b : Bool) (k : ℕ) (acts : List RegisterAct) → stands.EventStands k acts ↔ (F ⊎ Q)
     → stands.EventStands k (if b then register.ReadEvent ∷ acts else acts) ↔ ((not b ≡ true) × (F ⊎ Q))
-where_read true k acts h = step_ended (λ e. absurd cc) (event-read k acts)
+where_read true k acts h = step_ended (λ e. absurd cc) (event_read k acts)
 where_read false k acts h = step_kept refl h
 
 own_event : (name : RegisterName) (k : ℕ) (act : Act) (log : List Act) (acts : List RegisterAct) (Q : Type 0)
     → stands.EventStands k acts ↔ (Passes name k (act ∷ log) ⊎ Q)
     → stands.EventStands k (own name act acts) ↔ (NotCleared name (act ∷ log) × (Passes name k (act ∷ log) ⊎ Q))
-own_event name k Cleared log acts Q h = step_ended (λ kept. absurd cc) (event-cleared k acts)
-own_event name k Preset log acts Q h = step_kept refl (then_same (event-preset k acts) h)
+own_event name k Cleared log acts Q h = step_ended (λ kept. absurd cc) (event_cleared k acts)
+own_event name k Preset log acts Q h = step_kept refl (then_same (event_preset k acts) h)
 own_event name k (StatusChanged (Register other ReadEvents)) log acts Q h = where_read (is_same name other) k acts h
-own_event name k (StatusChanged (Register other (Enable mask))) log acts Q h = step_kept refl (where_event (is_same name other) k _ acts (event-enable k _ acts) h)
-own_event name k (StatusChanged (Register other (SetRise mask))) log acts Q h = step_kept refl (where_event (is_same name other) k _ acts (event-filter k _ _ acts) h)
-own_event name k (StatusChanged (Register other (SetFall mask))) log acts Q h = step_kept refl (where_event (is_same name other) k _ acts (event-filter k _ _ acts) h)
+own_event name k (StatusChanged (Register other (Enable mask))) log acts Q h = step_kept refl (where_event (is_same name other) k _ acts (event_enable k _ acts) h)
+own_event name k (StatusChanged (Register other (SetRise mask))) log acts Q h = step_kept refl (where_event (is_same name other) k _ acts (event_filter k _ _ acts) h)
+own_event name k (StatusChanged (Register other (SetFall mask))) log acts Q h = step_kept refl (where_event (is_same name other) k _ acts (event_filter k _ _ acts) h)
 own_event name k _ log acts Q h = step_kept refl h
 
 event_step : (name : RegisterName) (k : ℕ) (act : Act) (log : List Act) → stands.EventStands k (register_acts name (layer_logs (act ∷ log)))
@@ -61,7 +61,7 @@ event_step : (name : RegisterName) (k : ℕ) (act : Act) (log : List Act) → st
 event_step name k act log = rw (seen_register name act log) (own_event name k act log _ _ (at_condition name k act log))
 
 none_first : (name : RegisterName) (k : ℕ) → stands.EventStands k (register_acts name (layer_logs [])) → ⊥
-none_first name k = event-none k
+none_first name k = event_none k
 
 pub same_events : SameEvents
 same_events name k = since_unique (Passes name k) (NotCleared name) (λ log. stands.EventStands k (register_acts name (layer_logs log)))

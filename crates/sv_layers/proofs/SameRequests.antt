@@ -6,7 +6,7 @@ use Rattle.sv_logs.proofs.Since.{since_empty, since_step}
 use Rattle.sv_status.specs.declared.status_byte.StatusAct.{StatusAct}
 use Rattle.sv_status.specs.declared.status_byte.StatusAct.TheVariants.{Update, Poll}
 use Rattle.sv_status.specs.StatusByte as status
-use Rattle.sv_status.proofs.StatusBytes.{request-none, request-updated, request-polled}
+use Rattle.sv_status.proofs.StatusBytes.{request_none, request_updated, request_polled}
 use Rattle.sv_layers.specs.Act.{Act, Polled}
 use Rattle.sv_layers.specs.StatusByte.{SummaryBit, service, ServiceRequested, Master, Reason, Lasts, Request, IsRaised}
 use Rattle.sv_layers.specs.Inside.LayerLogs.{layer_logs}
@@ -63,9 +63,9 @@ polled_step : RequestStep Polled
 polled_step log word before summary is same =
     let now = told_asks (Polled ∷ log) _ (word, before, summary, is, refl) in
     let was = told_asks log before is in (
-      (λ s. elim ((request-updated word (layer_logs (Polled ∷ log)).service (Poll ∷ before)).0 s).1 [
+      (λ s. elim ((request_updated word (layer_logs (Polled ∷ log)).service (Poll ∷ before)).0 s).1 [
         | inl r ↦ absurd (r.2 ((was r.0).1 (polled_asks r.0 log ((now r.0).0 r.1))))
-        | inr q ↦ absurd (request-polled before q)
+        | inr q ↦ absurd (request_polled before q)
       ]),
       (λ s. absurd (polled_ended log s)),
     )
@@ -77,7 +77,7 @@ other_step act other log word before summary is same =
     ap (λ (acts : List StatusAct). Update word mask ∷ acts) (sym (other.0 before)) in
     let now = told_asks (act ∷ log) (Update word mask ∷ before) (word, before, summary, is, made) in
     let was = told_asks log before is in
-    let law = request-updated word mask before in
+    let law = request_updated word mask before in
     let step = since_step Reason Lasts act log in
     let lasts = other.1 log in
     rw (other.0 before) (
@@ -98,7 +98,7 @@ other_step act other log word before summary is same =
 
 pub same_requests : SameRequests
 same_requests [] status_log is =
-    rw is ((λ s. absurd (request-none s)), (λ s. absurd ((since_empty Reason Lasts).0 s).0))
+    rw is ((λ s. absurd (request_none s)), (λ s. absurd ((since_empty Reason Lasts).0 s).0))
 same_requests (act ∷ log) status_log (word, before, summary, is, made) =
     rw made (by_kind RequestStep polled_step other_step act log word before summary is (same_requests log before is))
 

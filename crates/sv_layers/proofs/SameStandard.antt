@@ -9,7 +9,7 @@ use Rattle.sv_logs.proofs.Since.{since_unique, step_kept, step_ended, then_same}
 use Rattle.sv_status.specs.declared.standard_event.StandardAct.{StandardAct}
 use Rattle.sv_status.specs.declared.standard_event.StandardAct.TheVariants as standard
 use Rattle.sv_status.specs.StandardEvent as stands
-use Rattle.sv_status.proofs.StandardEvents.{stands-none, stands-occurred, stands-enable, stands-read, stands-cleared}
+use Rattle.sv_status.proofs.StandardEvents.{stands_none, stands_occurred, stands_enable, stands_read, stands_cleared}
 use Rattle.sv_scan.specs.Condition.{bit}
 use Rattle.sv_layers.specs.declared.change.StatusChange.TheVariants.{ReadStandard, EnableStandard}
 use Rattle.sv_layers.specs.Act.{Act, Reported, Cleared, StatusChanged}
@@ -24,7 +24,7 @@ use Rattle.sv_layers.proofs.Completion.{completes, completes_is}
 -- an operation may complete
 completed : (k : ℕ) (act : Act) (log : List Act) (acts : List StandardAct)
     → stands.Stands k (standard.Occur (bit 0 (completes act log)) ∷ acts) ↔ (((k ≡ 0) × Completes (act ∷ log)) ⊎ stands.Stands k acts)
-completed k act log acts = either_same (stands-occurred k (bit 0 (completes act log)) acts)
+completed k act log acts = either_same (stands_occurred k (bit 0 (completes act log)) acts)
     (then_same (bit_of 0 (completes act log) k) (both_same (completes_is act log))) unchanged
 
 -- an error is reported: its class, an overflow, and the completion of an operation
@@ -38,8 +38,8 @@ reported k code log =
     let queue = ap (λ (acts : List QueueAct). is_full acts) (projected log).1 in
     let overflow = then_same (bit_of 3 full k) (both_same (equal_same full _ queue)) in
     four_same (completed k (Reported code) log (report_bits code full (layer_logs log).standard))
-    (either_same (stands-occurred k (bit 3 full) (standard.Occur event ∷ (layer_logs log).standard)) overflow unchanged)
-    (stands-occurred k event (layer_logs log).standard)
+    (either_same (stands_occurred k (bit 3 full) (standard.Occur event ∷ (layer_logs log).standard)) overflow unchanged)
+    (stands_occurred k event (layer_logs log).standard)
 
 -- what stands behind an act, and the enable
 abbrev StandardStep : ℕ → Act → List Act → Type 0
@@ -49,15 +49,15 @@ StandardStep k act log = (stands.Stands k (layer_logs (act ∷ log)).standard
 
 standard_step : (k : ℕ) (act : Act) (log : List Act) → StandardStep k act log
 standard_step k (Reported code) log = (step_kept tt (reported k code log), λ same. same)
-standard_step k Cleared log = (step_ended (λ kept. kept) (stands-cleared k _), λ same. same)
-standard_step k (StatusChanged ReadStandard) log = (step_ended (λ kept. kept) (stands-read k _), λ same. same)
+standard_step k Cleared log = (step_ended (λ kept. kept) (stands_cleared k _), λ same. same)
+standard_step k (StatusChanged ReadStandard) log = (step_ended (λ kept. kept) (stands_read k _), λ same. same)
 standard_step k (StatusChanged (EnableStandard mask)) log =
-    (step_kept tt (then_same (stands-enable k mask _) (completed k (StatusChanged (EnableStandard mask)) log _)), λ same. refl)
+    (step_kept tt (then_same (stands_enable k mask _) (completed k (StatusChanged (EnableStandard mask)) log _)), λ same. refl)
 standard_step k act log = (step_kept tt (completed k act log _), λ same. same)
 
 pub same_standard_events : SameStandardEvents
 same_standard_events k = since_unique (Occurs k) NotCleared (λ log. stands.Stands k (layer_logs log).standard)
-    ((λ s. ((stands-none k).0 s, tt)), (λ h. (stands-none k).1 h.0)) (λ act log. (standard_step k act log).0)
+    ((λ s. ((stands_none k).0 s, tt)), (λ h. (stands_none k).1 h.0)) (λ act log. (standard_step k act log).0)
 
 pub same_enable : SameEnable
 same_enable [] = refl

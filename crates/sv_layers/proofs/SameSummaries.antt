@@ -9,7 +9,7 @@ use Rattle.sv_status.specs.declared.register_name.RegisterName.{RegisterName}
 use Rattle.sv_status.specs.declared.register_name.RegisterName.TheVariants.{Operation, Questionable}
 use Rattle.sv_status.specs.Register as register
 use Rattle.sv_status.specs.StandardEvent as standard
-use Rattle.sv_status.proofs.Registers.{event-none}
+use Rattle.sv_status.proofs.Registers.{event_none}
 use Rattle.sv_status.proofs.Words.{same_enabled}
 use Rattle.sv_scan.specs.Condition.{bit}
 use Rattle.sv_exchange.specs.Exchange.{ExchangeAct, response, is_something}
@@ -21,7 +21,7 @@ use Rattle.sv_layers.specs.Inside.LayerLogs.{layer_logs, register_acts}
 use Rattle.sv_layers.specs.Inside.Representation.{IsSummary}
 use Rattle.sv_layers.specs.Laws.{SameSummaries}
 use Rattle.sv_layers.proofs.Either.{either_same, both_same, equal_same}
-use Rattle.sv_layers.proofs.Bits.{bit-le, bit_of, top_bit}
+use Rattle.sv_layers.proofs.Bits.{bit_le, bit_of, top_bit}
 use Rattle.sv_layers.proofs.Projected.{projected}
 use Rattle.sv_layers.proofs.SameWords.{same_words}
 use Rattle.sv_layers.proofs.SameEvents.{same_events}
@@ -39,11 +39,11 @@ pub same_summaries : SameSummaries
 same_summaries word log is k =
     let available = is_something (response (layer_logs log).exchange) in
     let errors = is_something (entries (layer_logs log).errors) in
-    let seven = bit-le 7 is.operates in
-    let five = bit-le 5 is.happened in
-    let four = bit-le 4 available in
-    let three = bit-le 3 is.questioned in
-    let two = bit-le 2 errors in
+    let seven = bit_le 7 is.operates in
+    let five = bit_le 5 is.happened in
+    let four = bit_le 4 available in
+    let three = bit_le 3 is.questioned in
+    let two = bit_le 2 errors in
     let word_is = is.word_is in
     let same_word : word ≡ bit 7 is.operates + (bit 5 is.happened + (bit 4 available + (bit 3 is.questioned + bit 2 errors))) =
     omega arith in
@@ -64,8 +64,8 @@ no_summary = record {
   operates = false;
   happened = false;
   questioned = false;
-  operation = ((λ e. absurd cc), (λ s. absurd (event-none s.0 s.1)));
+  operation = ((λ e. absurd cc), (λ s. absurd (event_none s.0 s.1)));
   standard = ((λ e. absurd cc), (λ s. absurd (let none = bit_at-zero s.0 in let one = s.2 in omega arith)));
-  questionable = ((λ e. absurd cc), (λ s. absurd (event-none s.0 s.1)));
+  questionable = ((λ e. absurd cc), (λ s. absurd (event_none s.0 s.1)));
   word_is = refl;
 }

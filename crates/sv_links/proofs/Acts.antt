@@ -11,55 +11,55 @@ use Rattle.sv_links.specs.Limits.{max_connections}
 use Rattle.sv_links.specs.Channels.{ChannelAct, SrqEnabled, SrqDisabled, Requested, ChannelClosed, enabled_links, peer, bytes_taken, calls, add_call, handles_of}
 use Rattle.sv_links.specs.ChannelRepresentation.{Channel, Channels, AreChannels, without_links, IsChannel, IsChannelFor, IsQueued, opened_for}
 use Rattle.sv_links.proofs.Asking.{other_links}
-use Rattle.sv_links.proofs.Rising.{with_link, enabled-enabled, enabled-disabled}
+use Rattle.sv_links.proofs.Rising.{with_link, enabled_enabled, enabled_disabled}
 
 -- a link asks no more
-pub AreChannels-disabled : (kept : Channels) (links : List Enabled) (lid : ℕ) (acts : List ChannelAct)
+pub are_channels_disabled : (kept : Channels) (links : List Enabled) (lid : ℕ) (acts : List ChannelAct)
     → links ≡ other_links lid kept.enabled → AreChannels kept acts
     → AreChannels (record kept { enabled = links }) (SrqDisabled lid ∷ acts)
-AreChannels-disabled kept links lid acts same is = record {
-  enabled = same ∙ ap (other_links lid) is.enabled ∙ sym (enabled-disabled lid acts);
+are_channels_disabled kept links lid acts same is = record {
+  enabled = same ∙ ap (other_links lid) is.enabled ∙ sym (enabled_disabled lid acts);
   each = is.each;
   beyond = is.beyond;
 }
 
 -- nor do these
-pub AreChannels-without : (kept : Channels) (lids : List ℕ) (acts : List ChannelAct) → AreChannels kept acts
+pub are_channels_without : (kept : Channels) (lids : List ℕ) (acts : List ChannelAct) → AreChannels kept acts
     → AreChannels (record kept { enabled = without_links lids kept.enabled }) (map SrqDisabled lids ++ acts)
-AreChannels-without kept [] acts is = is
-AreChannels-without kept (lid ∷ lids) acts is =
-    AreChannels-disabled (record kept { enabled = without_links lids kept.enabled }) (without_links (lid ∷ lids) kept.enabled) lid
-    (map SrqDisabled lids ++ acts) refl (AreChannels-without kept lids acts is)
+are_channels_without kept [] acts is = is
+are_channels_without kept (lid ∷ lids) acts is =
+    are_channels_disabled (record kept { enabled = without_links lids kept.enabled }) (without_links (lid ∷ lids) kept.enabled) lid
+    (map SrqDisabled lids ++ acts) refl (are_channels_without kept lids acts is)
 
 -- a link asks
-pub AreChannels-enabled : (kept : Channels) (links : List Enabled) (link : Enabled) (acts : List ChannelAct)
+pub are_channels_enabled : (kept : Channels) (links : List Enabled) (link : Enabled) (acts : List ChannelAct)
     → links ≡ with_link link kept.enabled → AreChannels kept acts
     → AreChannels (record kept { enabled = links }) (SrqEnabled link.lid link.conn link.handle ∷ acts)
-AreChannels-enabled kept links link acts same is = record {
-  enabled = same ∙ ap (with_link link) is.enabled ∙ sym (enabled-enabled link acts);
+are_channels_enabled kept links link acts same is = record {
+  enabled = same ∙ ap (with_link link) is.enabled ∙ sym (enabled_enabled link acts);
   each = is.each;
   beyond = is.beyond;
 }
 
-channel-requested : (what : Option Peer) (old new : Channel) (count : ℕ) (handles calls : List (List ℕ)) → opened_for old.stage ≡ what
+channel_requested : (what : Option Peer) (old new : Channel) (count : ℕ) (handles calls : List (List ℕ)) → opened_for old.stage ≡ what
     → ((count : ℕ) (calls : List (List ℕ)) (peer : Peer) → opened_for old.stage ≡ Some peer → IsQueued old count calls
     → IsQueued new count (fold (add_call (Some peer) count) calls handles))
     → IsChannelFor what old count calls → IsChannelFor what new count (fold (add_call what count) calls handles)
-channel-requested None old new count handles calls opened sends is = tt
-channel-requested (Some what) old new count handles calls opened sends is = sends count calls what opened is
+channel_requested None old new count handles calls opened sends is = tt
+channel_requested (Some what) old new count handles calls opened sends is = sends count calls what opened is
 
 -- a channel that was sent its calls, as a request is raised
-pub IsChannel-requested : (c : ℕ) (old new : Channel) (links : List Enabled) (acts : List ChannelAct) → links ≡ enabled_links acts
+pub is_channel_requested : (c : ℕ) (old new : Channel) (links : List Enabled) (acts : List ChannelAct) → links ≡ enabled_links acts
     → new.stage ≡ old.stage
     → ((count : ℕ) (calls : List (List ℕ)) (peer : Peer) → opened_for old.stage ≡ Some peer → IsQueued old count calls
     → IsQueued new count (fold (add_call (Some peer) count) calls (handles_of c links)))
     → IsChannel old c acts → IsChannel new c (Requested ∷ acts)
-IsChannel-requested c old new links acts same stage sends is = (
+is_channel_requested c old new links acts same stage sends is = (
   ap opened_for stage ∙ is.0,
   subst (λ (links : List Enabled).
       IsChannelFor (peer c acts) new (bytes_taken c acts)
       (fold (add_call (peer c acts) (bytes_taken c acts)) (calls c acts) (handles_of c links))) same
-      (channel-requested (peer c acts) old new (bytes_taken c acts) (handles_of c links) (calls c acts) is.0 sends is.1),
+      (channel_requested (peer c acts) old new (bytes_taken c acts) (handles_of c links) (calls c acts) is.0 sends is.1),
 )
 
 -- ---- a channel that is written
@@ -86,20 +86,20 @@ at_push P kept i c new other long within here there = elim (cases_lt c i) [
 
 -- ---- a channel that stays open, or stays closed, and keeps its calls
 
-channel-kept : (what : Option Peer) (old new : Channel) (count : ℕ) (calls : List (List ℕ))
+channel_kept : (what : Option Peer) (old new : Channel) (count : ℕ) (calls : List (List ℕ))
     → ((count : ℕ) (calls : List (List ℕ)) → IsQueued old count calls → IsQueued new count calls)
     → IsChannelFor what old count calls → IsChannelFor what new count calls
-channel-kept None old new count calls keeps is = tt
-channel-kept (Some what) old new count calls keeps is = keeps count calls is
+channel_kept None old new count calls keeps is = tt
+channel_kept (Some what) old new count calls keeps is = keeps count calls is
 
-pub AreChannels-kept : (kept : Channels) (i : ℕ) (old new : Channel) (acts : List ChannelAct) → i < max_connections
+pub are_channels_kept : (kept : Channels) (i : ℕ) (old new : Channel) (acts : List ChannelAct) → i < max_connections
     → i < length kept.channels → old ≡ slice_index_or kept.channels i old → opened_for new.stage ≡ opened_for old.stage
     → ((count : ℕ) (calls : List (List ℕ)) → IsQueued old count calls → IsQueued new count calls) → AreChannels kept acts
     → AreChannels (record kept { channels = slice_set kept.channels i new }) acts
-AreChannels-kept kept i old new acts lt within value stage keeps is =
+are_channels_kept kept i old new acts lt within value stage keeps is =
     let before : IsChannel old i acts = subst (λ c. IsChannel c i acts) (sym value) (is.each i old lt) in
     let after : IsChannel new i acts =
-    (stage ∙ before.0, channel-kept (peer i acts) old new (bytes_taken i acts) (calls i acts) keeps before.1) in
+    (stage ∙ before.0, channel_kept (peer i acts) old new (bytes_taken i acts) (calls i acts) keeps before.1) in
     record {
       enabled = is.enabled;
       each = λ k other le.
@@ -109,10 +109,10 @@ AreChannels-kept kept i old new acts lt within value stage keeps is =
     }
 
 -- a channel that is closed
-pub AreChannels-closed : (kept : Channels) (i : ℕ) (new : Channel) (acts : List ChannelAct) → i < length kept.channels
+pub are_channels_closed : (kept : Channels) (i : ℕ) (new : Channel) (acts : List ChannelAct) → i < length kept.channels
     → opened_for new.stage ≡ None → AreChannels kept acts
     → AreChannels (record kept { channels = slice_set kept.channels i new }) (ChannelClosed i ∷ acts)
-AreChannels-closed kept i new acts within stage is =
+are_channels_closed kept i new acts within stage is =
     let after : IsChannel new i (ChannelClosed i ∷ acts) = rw (eq-eqb i i refl) (stage, tt) in
     record {
       enabled = is.enabled;

@@ -9,14 +9,14 @@ use Rattle.sv_links.specs.Waiting.{is_lock}
 use Rattle.sv_links.specs.Queue.{IsFree, IsOnce, anew, creates, creations, without, queue_measure, wait_measure}
 use Rattle.sv_links.proofs.Queues.{anew_none, kept_free}
 
-pub rank-anew : (conn : ℕ) (wait : Wait) (last : Option ℕ) (xs : List Entry) → IsOnce xs
+pub rank_anew : (conn : ℕ) (wait : Wait) (last : Option ℕ) (xs : List Entry) → IsOnce xs
     → queue_measure (map (anew conn wait last) xs) ≤ queue_measure (without conn xs) + wait_measure wait
-rank-anew conn wait last [] once = omega arith
-rank-anew conn wait last (x ∷ xs) once = elim (cases_Bool (eqb x.conn conn)) [
+rank_anew conn wait last [] once = omega arith
+rank_anew conn wait last (x ∷ xs) once = elim (cases_Bool (eqb x.conn conn)) [
   | inl e ↦
       let free : IsFree conn xs = rw (← eqb-true x.conn conn e) once.0 in
       rw (e, anew_none conn wait last xs free, kept_free conn xs free) (omega arith)
-  | inr e ↦ rw e (omega (arith, rank-anew conn wait last xs once.1))
+  | inr e ↦ rw e (omega (arith, rank_anew conn wait last xs once.1))
 ]
 
 not_lock : (wait : Wait) → (wait ≡ Lock → ⊥) → is_lock (Some wait) ≡ false
@@ -46,8 +46,8 @@ not_false : (b : Bool) → not b ≡ false → b ≡ true
 not_false true e = refl
 not_false false e = absurd (true≢false e)
 
-pub creations-anew : (conn : ℕ) (wait : Wait) (last : Option ℕ) (xs : List Entry) → (wait ≡ Lock → ⊥)
+pub creations_anew : (conn : ℕ) (wait : Wait) (last : Option ℕ) (xs : List Entry) → (wait ≡ Lock → ⊥)
     → creations (map (anew conn wait last) xs) ≤ creations (without conn xs)
-creations-anew conn wait last xs other = fewer creates (λ x. not (eqb x.conn conn)) (anew conn wait last)
+creations_anew conn wait last xs other = fewer creates (λ x. not (eqb x.conn conn)) (anew conn wait last)
     (λ x e. rw (not_true (eqb x.conn conn) e) refl)
     (λ x e. rw (not_false (eqb x.conn conn) e) (not_creates conn wait last x other)) xs

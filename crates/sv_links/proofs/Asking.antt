@@ -22,10 +22,10 @@ other_links lid = filter (λ other. not (eqb other.lid lid))
 all_filter : (P : Enabled → Type 0) (p : Enabled → Bool) (xs : List Enabled) → AllByRecursion P xs → AllByRecursion P (filter p xs)
 all_filter P p xs h = recursion_from_All P _ (All-filter p P xs (All-from_recursion P xs h))
 
-pub sorted-filter : (p : Enabled → Bool) (xs : List Enabled) → IsSorted xs → IsSorted (filter p xs)
-sorted-filter p [] h = tt
-sorted-filter p (x ∷ xs) h = cond_both (p x) (x ∷ filter p xs) (filter p xs) IsSorted
-    (λ _. (all_filter (λ y. x.lid < y.lid) p xs h.0, sorted-filter p xs h.1)) (λ _. sorted-filter p xs h.1)
+pub sorted_filter : (p : Enabled → Bool) (xs : List Enabled) → IsSorted xs → IsSorted (filter p xs)
+sorted_filter p [] h = tt
+sorted_filter p (x ∷ xs) h = cond_both (p x) (x ∷ filter p xs) (filter p xs) IsSorted
+    (λ _. (all_filter (λ y. x.lid < y.lid) p xs h.0, sorted_filter p xs h.1)) (λ _. sorted_filter p xs h.1)
 
 -- ---- the place of a number
 
@@ -57,30 +57,30 @@ parts lid (x ∷ xs) h free = elim (cases_Bool (ltb x.lid lid)) [
       (refl, ap (λ (ys : List Enabled). x ∷ ys) (sym (all_above lid x.lid xs le h.0)))
 ]
 
-pub free-other : (lid : ℕ) (xs : List Enabled) → AllByRecursion (λ x. x.lid ≢ lid) (other_links lid xs)
-free-other lid [] = tt
-free-other lid (x ∷ xs) = elim (cases_Bool (eqb x.lid lid)) [
-  | inl e ↦ rw e (free-other lid xs)
-  | inr e ↦ rw e (eqb-false x.lid lid e, free-other lid xs)
+pub free_other : (lid : ℕ) (xs : List Enabled) → AllByRecursion (λ x. x.lid ≢ lid) (other_links lid xs)
+free_other lid [] = tt
+free_other lid (x ∷ xs) = elim (cases_Bool (eqb x.lid lid)) [
+  | inl e ↦ rw e (free_other lid xs)
+  | inr e ↦ rw e (eqb-false x.lid lid e, free_other lid xs)
 ]
 
-pub below-other : (lid : ℕ) (xs : List Enabled) → below lid (other_links lid xs) ≡ below lid xs
-below-other lid [] = refl
-below-other lid (x ∷ xs) = elim (cases_Bool (eqb x.lid lid)) [
-  | inl e ↦ let same = eqb-true x.lid lid e in rw (e, le-ltb x.lid lid (omega arith)) (below-other lid xs)
+pub below_other : (lid : ℕ) (xs : List Enabled) → below lid (other_links lid xs) ≡ below lid xs
+below_other lid [] = refl
+below_other lid (x ∷ xs) = elim (cases_Bool (eqb x.lid lid)) [
+  | inl e ↦ let same = eqb-true x.lid lid e in rw (e, le-ltb x.lid lid (omega arith)) (below_other lid xs)
   | inr e ↦ elim (cases_Bool (ltb x.lid lid)) [
-    | inl k ↦ rw (e, k) (ap (λ (ys : List Enabled). x ∷ ys) (below-other lid xs))
-    | inr k ↦ rw (e, k) (below-other lid xs)
+    | inl k ↦ rw (e, k) (ap (λ (ys : List Enabled). x ∷ ys) (below_other lid xs))
+    | inr k ↦ rw (e, k) (below_other lid xs)
   ]
 ]
 
-pub above-other : (lid : ℕ) (xs : List Enabled) → above lid (other_links lid xs) ≡ above lid xs
-above-other lid [] = refl
-above-other lid (x ∷ xs) = elim (cases_Bool (eqb x.lid lid)) [
-  | inl e ↦ let same = eqb-true x.lid lid e in rw (e, le-ltb lid x.lid (omega arith)) (above-other lid xs)
+pub above_other : (lid : ℕ) (xs : List Enabled) → above lid (other_links lid xs) ≡ above lid xs
+above_other lid [] = refl
+above_other lid (x ∷ xs) = elim (cases_Bool (eqb x.lid lid)) [
+  | inl e ↦ let same = eqb-true x.lid lid e in rw (e, le-ltb lid x.lid (omega arith)) (above_other lid xs)
   | inr e ↦ elim (cases_Bool (ltb lid x.lid)) [
-    | inl k ↦ rw (e, k) (ap (λ (ys : List Enabled). x ∷ ys) (above-other lid xs))
-    | inr k ↦ rw (e, k) (above-other lid xs)
+    | inl k ↦ rw (e, k) (ap (λ (ys : List Enabled). x ∷ ys) (above_other lid xs))
+    | inr k ↦ rw (e, k) (above_other lid xs)
   ]
 ]
 
@@ -89,17 +89,17 @@ pub inserted : (lid : ℕ) (xs : List Enabled) (link : Enabled) → IsSorted (ot
     → insert (other_links lid xs) (length (below lid (other_links lid xs))) link ≡ below lid xs ++ link ∷ above lid xs
 inserted lid xs link h =
     let others = other_links lid xs in
-    let both = parts lid others h (free-other lid xs) in
-    ap (λ (ys : List Enabled). ys ++ link ∷ drop (length (below lid others)) others) (both.0 ∙ below-other lid xs)
-    ∙ ap (λ (ys : List Enabled). below lid xs ++ link ∷ ys) (both.1 ∙ above-other lid xs)
+    let both = parts lid others h (free_other lid xs) in
+    ap (λ (ys : List Enabled). ys ++ link ∷ drop (length (below lid others)) others) (both.0 ∙ below_other lid xs)
+    ∙ ap (λ (ys : List Enabled). below lid xs ++ link ∷ ys) (both.1 ∙ above_other lid xs)
 
 -- ---- they stay sorted
 
-above-all : (lid : ℕ) (xs : List Enabled) → AllByRecursion (λ x. lid < x.lid) (above lid xs)
-above-all lid [] = tt
-above-all lid (x ∷ xs) = elim (cases_Bool (ltb lid x.lid)) [
-  | inl e ↦ rw e (ltb-true lid x.lid e, above-all lid xs)
-  | inr e ↦ rw e (above-all lid xs)
+above_all : (lid : ℕ) (xs : List Enabled) → AllByRecursion (λ x. lid < x.lid) (above lid xs)
+above_all lid [] = tt
+above_all lid (x ∷ xs) = elim (cases_Bool (ltb lid x.lid)) [
+  | inl e ↦ rw e (ltb-true lid x.lid e, above_all lid xs)
+  | inr e ↦ rw e (above_all lid xs)
 ]
 
 all_joined : (P : Enabled → Type 0) (xs ys : List Enabled) (y : Enabled) → AllByRecursion P xs → P y → AllByRecursion P ys
@@ -107,25 +107,25 @@ all_joined : (P : Enabled → Type 0) (xs ys : List Enabled) (y : Enabled) → A
 all_joined P [] ys y h here k = (here, k)
 all_joined P (x ∷ xs) ys y h here k = (h.0, all_joined P xs ys y h.1 here k)
 
-pub sorted-put : (link : Enabled) (xs : List Enabled) → IsSorted xs → IsSorted (below link.lid xs ++ link ∷ above link.lid xs)
-sorted-put link [] h = (tt, tt)
-sorted-put link (x ∷ xs) h = elim (cases_Bool (ltb x.lid link.lid)) [
+pub sorted_put : (link : Enabled) (xs : List Enabled) → IsSorted xs → IsSorted (below link.lid xs ++ link ∷ above link.lid xs)
+sorted_put link [] h = (tt, tt)
+sorted_put link (x ∷ xs) h = elim (cases_Bool (ltb x.lid link.lid)) [
   | inl e ↦
       let lt = ltb-true x.lid link.lid e in
       rw (e, le-ltb link.lid x.lid (omega arith)) (
         all_joined (λ y. x.lid < y.lid) (below link.lid xs) (above link.lid xs) link
             (all_filter (λ y. x.lid < y.lid) (λ y. ltb y.lid link.lid) xs h.0) lt
             (all_filter (λ y. x.lid < y.lid) (λ y. ltb link.lid y.lid) xs h.0),
-        sorted-put link xs h.1,
+        sorted_put link xs h.1,
       )
   | inr e ↦
       let le : link.lid ≤ x.lid = ltb-false x.lid link.lid e in
       rw (e, none_below link.lid x.lid xs le h.0)
-      (above-all link.lid (x ∷ xs), sorted-filter (λ y. ltb link.lid y.lid) (x ∷ xs) h)
+      (above_all link.lid (x ∷ xs), sorted_filter (λ y. ltb link.lid y.lid) (x ∷ xs) h)
 ]
 
 -- where a link is inserted at its place, they stay sorted
-pub sorted-inserted : (lid : ℕ) (xs : List Enabled) (link : Enabled) → link.lid ≡ lid → IsSorted (other_links lid xs)
+pub sorted_inserted : (lid : ℕ) (xs : List Enabled) (link : Enabled) → link.lid ≡ lid → IsSorted (other_links lid xs)
     → IsSorted (insert (other_links lid xs) (length (below lid (other_links lid xs))) link)
-sorted-inserted lid xs link same h = rw (inserted lid xs link h, ← below-other lid xs, ← above-other lid xs, ← same)
-    (sorted-put link (other_links link.lid xs) (rw (← same) at h))
+sorted_inserted lid xs link same h = rw (inserted lid xs link h, ← below_other lid xs, ← above_other lid xs, ← same)
+    (sorted_put link (other_links link.lid xs) (rw (← same) at h))

@@ -8,8 +8,8 @@ use mathlib.Core.List.{reverse_aux, reverse_aux-eq}
 use Rattle.sv_links.specs.declared.links.Link.{Link}
 use Rattle.sv_links.specs.Links.{LinkAct, Destroyed, links_made, live, owner, is_of, closing, is_locked, is_this}
 use Rattle.sv_links.specs.Table.{Table, IsTable, IsRising}
-use Rattle.sv_links.proofs.Slots.{keep, kept-filter}
-use Rattle.sv_links.proofs.Tables.{Below, above-filter, rising-filter, other_than}
+use Rattle.sv_links.proofs.Slots.{keep, kept_filter}
+use Rattle.sv_links.proofs.Tables.{Below, above_filter, rising_filter, other_than}
 
 -- the acts, and before them the destroying of these links
 abbrev pub gone : List Link → List LinkAct → List LinkAct
@@ -20,13 +20,13 @@ abbrev without : List Link → List Link → List Link
 without [] xs = xs
 without (y ∷ ys) xs = without ys (filter (other_than y.lid) xs)
 
-made-gone : (ys : List Link) (acts : List LinkAct) → links_made (gone ys acts) ≡ links_made acts
-made-gone [] acts = refl
-made-gone (y ∷ ys) acts = made-gone ys (Destroyed y.lid ∷ acts)
+made_gone : (ys : List Link) (acts : List LinkAct) → links_made (gone ys acts) ≡ links_made acts
+made_gone [] acts = refl
+made_gone (y ∷ ys) acts = made_gone ys (Destroyed y.lid ∷ acts)
 
-live-gone : (ys : List Link) (acts : List LinkAct) → live (gone ys acts) ≡ without ys (live acts)
-live-gone [] acts = refl
-live-gone (y ∷ ys) acts = live-gone ys (Destroyed y.lid ∷ acts)
+live_gone : (ys : List Link) (acts : List LinkAct) → live (gone ys acts) ≡ without ys (live acts)
+live_gone [] acts = refl
+live_gone (y ∷ ys) acts = live_gone ys (Destroyed y.lid ∷ acts)
 
 -- a link with a number below theirs stays, and they stay without it
 stays : (x : Link) (ys xs : List Link) → AllByRecursion (Below x) ys → without ys (x ∷ xs) ≡ x ∷ without ys xs
@@ -42,44 +42,44 @@ others : (p : Link → Bool) (xs : List Link) (n : ℕ) → IsRising xs n → wi
 others p [] n r = refl
 others p (x ∷ xs) n r = elim (cases_Bool (p x)) [
   | inl e ↦ rw (e, without, eq-eqb x.lid x.lid refl, stay x xs r.1) (others p xs n r.2)
-  | inr e ↦ rw (e, stays x (filter p xs) xs (above-filter p x xs r.1), others p xs n r.2) refl
+  | inr e ↦ rw (e, stays x (filter p xs) xs (above_filter p x xs r.1), others p xs n r.2) refl
 ]
 
 -- whether a number is one of theirs
 abbrev pub has : ℕ → List Link → Bool
 has lid ys = list_any (λ link. eqb link.lid lid) ys
 
-locked-step : (a b c : Bool) → (not b && (not a && c)) ≡ (not (a || b) && c)
-locked-step true true c = refl
-locked-step true false c = refl
-locked-step false true c = refl
-locked-step false false c = refl
+locked_step : (a b c : Bool) → (not b && (not a && c)) ≡ (not (a || b) && c)
+locked_step true true c = refl
+locked_step true false c = refl
+locked_step false true c = refl
+locked_step false false c = refl
 
-pub locked-gone : (lid : ℕ) (ys : List Link) (acts : List LinkAct) → is_locked lid (gone ys acts) ≡ (not (has lid ys) && is_locked lid acts)
-locked-gone lid [] acts = refl
-locked-gone lid (y ∷ ys) acts = locked-gone lid ys (Destroyed y.lid ∷ acts)
-    ∙ locked-step (eqb y.lid lid) (has lid ys) (is_locked lid acts)
+pub locked_gone : (lid : ℕ) (ys : List Link) (acts : List LinkAct) → is_locked lid (gone ys acts) ≡ (not (has lid ys) && is_locked lid acts)
+locked_gone lid [] acts = refl
+locked_gone lid (y ∷ ys) acts = locked_gone lid ys (Destroyed y.lid ∷ acts)
+    ∙ locked_step (eqb y.lid lid) (has lid ys) (is_locked lid acts)
 
 -- ---- whose link a number is
 
-none-above : (x : Link) (xs : List Link) → AllByRecursion (Below x) xs → has x.lid xs ≡ false
-none-above x [] h = refl
-none-above x (y ∷ xs) h = rw (ne_eqb y.lid x.lid (λ e. absurd (omega (arith, h.0, e)))) (none-above x xs h.1)
+none_above : (x : Link) (xs : List Link) → AllByRecursion (Below x) xs → has x.lid xs ≡ false
+none_above x [] h = refl
+none_above x (y ∷ xs) h = rw (ne_eqb y.lid x.lid (λ e. absurd (omega (arith, h.0, e)))) (none_above x xs h.1)
 
 abbrev pub of_conn : ℕ → Link → Bool
 of_conn conn link = eqb link.conn conn
 
-pub has-owner : (conn lid : ℕ) (xs : List Link) (n : ℕ) → IsRising xs n
+pub has_owner : (conn lid : ℕ) (xs : List Link) (n : ℕ) → IsRising xs n
     → has lid (filter (of_conn conn) xs) ≡ is_of conn (option_map (λ link. link.conn) (find (λ link. eqb link.lid lid) xs))
-has-owner conn lid [] n r = refl
-has-owner conn lid (x ∷ xs) n r = elim (cases_Bool (eqb x.lid lid)) [
+has_owner conn lid [] n r = refl
+has_owner conn lid (x ∷ xs) n r = elim (cases_Bool (eqb x.lid lid)) [
   | inl e ↦ elim (cases_Bool (eqb x.conn conn)) [
     | inl k ↦ rw (e, k, e) refl
-    | inr k ↦ rw (e, k) (rw (← eqb-true x.lid lid e) (none-above x (filter (of_conn conn) xs) (above-filter (of_conn conn) x xs r.1)))
+    | inr k ↦ rw (e, k) (rw (← eqb-true x.lid lid e) (none_above x (filter (of_conn conn) xs) (above_filter (of_conn conn) x xs r.1)))
   ]
   | inr e ↦ elim (cases_Bool (eqb x.conn conn)) [
-    | inl k ↦ rw (e, k, e) (has-owner conn lid xs n r.2)
-    | inr k ↦ rw (e, k) (has-owner conn lid xs n r.2)
+    | inl k ↦ rw (e, k, e) (has_owner conn lid xs n r.2)
+    | inr k ↦ rw (e, k) (has_owner conn lid xs n r.2)
   ]
 ]
 
@@ -100,31 +100,31 @@ apart true false m lid e = sym e
 apart false true m lid e = refl
 apart false false m lid e = sym e
 
-lock-left : (conn lid : ℕ) (acts : List LinkAct) (o : Option ℕ) (n : ℕ) → IsRising (live acts) n
+lock_left : (conn lid : ℕ) (acts : List LinkAct) (o : Option ℕ) (n : ℕ) → IsRising (live acts) n
     → (not (has lid (filter (of_conn conn) (live acts))) && is_this lid o) ≡ is_this lid (holder_left conn acts o)
-lock-left conn lid acts None n r = elim (cases_Bool (has lid (filter (of_conn conn) (live acts)))) [ inl e ↦ rw e refl | inr e ↦ rw e refl ]
-lock-left conn lid acts (Some m) n r = elim (cases_Bool (eqb m lid)) [
+lock_left conn lid acts None n r = elim (cases_Bool (has lid (filter (of_conn conn) (live acts)))) [ inl e ↦ rw e refl | inr e ↦ rw e refl ]
+lock_left conn lid acts (Some m) n r = elim (cases_Bool (eqb m lid)) [
   | inl e ↦
       let same : m ≡ lid = eqb-true m lid e in
-      let own : has m (filter (of_conn conn) (live acts)) ≡ is_of conn (owner m acts) = has-owner conn m (live acts) n r in
+      let own : has m (filter (of_conn conn) (live acts)) ≡ is_of conn (owner m acts) = has_owner conn m (live acts) n r in
       rw (← same, own) (decided (is_of conn (owner m acts)) m)
   | inr e ↦ rw e (apart (has lid (filter (of_conn conn) (live acts))) (is_of conn (owner m acts)) m lid e)
 ]
 
 -- the table without the links of a connection
-pub IsTable-closed : (table : Table) (conn : ℕ) (acts : List LinkAct) (slots : List (Option Link)) (holder : Option ℕ)
+pub is_table_closed : (table : Table) (conn : ℕ) (acts : List LinkAct) (slots : List (Option Link)) (holder : Option ℕ)
     → slots ≡ map (keep (λ link. not (eqb link.conn conn))) table.slots → holder ≡ holder_left conn acts table.holder
     → IsTable table acts → IsTable (record table { slots = slots; holder = holder }) (closing conn acts ++ acts)
-IsTable-closed table conn acts slots holder kept held is =
+is_table_closed table conn acts slots holder kept held is =
     let ys = filter (of_conn conn) (live acts) in
     let stay : live (gone ys acts) ≡ filter (λ link. not (eqb link.conn conn)) (live acts)
-    = live-gone ys acts ∙ others (of_conn conn) (live acts) table.made is.rising in
+    = live_gone ys acts ∙ others (of_conn conn) (live acts) table.made is.rising in
     rw (← reverse_aux-eq) (record {
-      made = is.made ∙ sym (made-gone ys acts);
-      kept = rw (kept, stay) (kept-filter (λ link. not (eqb link.conn conn)) table.slots (live acts) is.kept);
-      rising = rw stay (rising-filter (λ link. not (eqb link.conn conn)) (live acts) table.made is.rising);
-      lock = λ lid. locked-gone lid ys acts ∙ ap (λ (b : Bool). not (has lid ys) && b) (is.lock lid)
-          ∙ lock-left conn lid acts table.holder table.made is.rising ∙ ap (is_this lid) (sym held);
+      made = is.made ∙ sym (made_gone ys acts);
+      kept = rw (kept, stay) (kept_filter (λ link. not (eqb link.conn conn)) table.slots (live acts) is.kept);
+      rising = rw stay (rising_filter (λ link. not (eqb link.conn conn)) (live acts) table.made is.rising);
+      lock = λ lid. locked_gone lid ys acts ∙ ap (λ (b : Bool). not (has lid ys) && b) (is.lock lid)
+          ∙ lock_left conn lid acts table.holder table.made is.rising ∙ ap (is_this lid) (sym held);
     })
 
 -- ---- what the code asks of the holder

@@ -5,11 +5,11 @@ use Rattle.std.proofs.lemmas.Bool.{cases_Bool}
 use Rattle.sv_links.specs.declared.waiting.Entry.{Entry}
 use Rattle.sv_links.specs.Queue.{creates, creations, without}
 
-pub length-filter_le : (p : Entry → Bool) (xs : List Entry) → length (filter p xs) ≤ length xs
-length-filter_le p [] = omega arith
-length-filter_le p (x ∷ xs) = elim (cases_Bool (p x)) [
-  | inl e ↦ rw e (omega (arith, length-filter_le p xs))
-  | inr e ↦ rw e (omega (arith, length-filter_le p xs))
+pub length_filter_le : (p : Entry → Bool) (xs : List Entry) → length (filter p xs) ≤ length xs
+length_filter_le p [] = omega arith
+length_filter_le p (x ∷ xs) = elim (cases_Bool (p x)) [
+  | inl e ↦ rw e (omega (arith, length_filter_le p xs))
+  | inr e ↦ rw e (omega (arith, length_filter_le p xs))
 ]
 
 fewer : (p q : Entry → Bool) (xs : List Entry) → length (filter p (filter q xs)) ≤ length (filter p xs)
@@ -37,13 +37,13 @@ at_most_one true = omega arith
 at_most_one false = omega arith
 
 -- a connection's leaving makes none more
-pub creations-without : (c : ℕ) (xs : List Entry) → creations (without c xs) ≤ creations xs
-creations-without c xs = fewer creates (λ entry. not (entry.conn == c)) xs
+pub creations_without : (c : ℕ) (xs : List Entry) → creations (without c xs) ≤ creations xs
+creations_without c xs = fewer creates (λ entry. not (entry.conn == c)) xs
 
 -- a call more makes at most one more
-pub creations-push : (xs : List Entry) (x : Entry) → creations (xs ++ x ∷ []) ≤ creations xs + 1
-creations-push xs x = omega (arith, pushed creates xs x, at_most_one (creates x))
+pub creations_push : (xs : List Entry) (x : Entry) → creations (xs ++ x ∷ []) ≤ creations xs + 1
+creations_push xs x = omega (arith, pushed creates xs x, at_most_one (creates x))
 
 -- and none, where it is no create_link
-pub creations-other : (xs : List Entry) (x : Entry) → creates x ≡ false → creations (xs ++ x ∷ []) ≡ creations xs
-creations-other xs x other = rw (pushed creates xs x, other) (omega arith)
+pub creations_other : (xs : List Entry) (x : Entry) → creates x ≡ false → creations (xs ++ x ∷ []) ≡ creations xs
+creations_other xs x other = rw (pushed creates xs x, other) (omega arith)

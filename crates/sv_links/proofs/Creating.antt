@@ -8,7 +8,7 @@ use Rattle.sv_links.specs.declared.waiting.Wait.{Wait}
 use Rattle.sv_links.specs.Limits.{max_connections}
 use Rattle.sv_links.specs.Waiting.{WaitAct, waits, link, is_lock, is_creating, creating}
 use Rattle.sv_links.specs.Queue.{IsQueue, IsEntry, IsFree, IsOnce, IsBelow, creates, creations, without}
-use Rattle.sv_links.proofs.Queues.{Among, among_from_find, once-filter, below_less, all_filter, kept_free}
+use Rattle.sv_links.proofs.Queues.{Among, among_from_find, once_filter, below_less, all_filter, kept_free}
 
 -- so many numbers from one on, and one more
 range_push : (a n b : ℕ) → a + n ≡ b → range_with_len a (suc n) ≡ range_with_len a n ++ b ∷ []
@@ -55,12 +55,12 @@ taken p n (x ∷ xs) once (inr k) h = elim (cases_Bool (eqb x.conn n)) [
   ]
 ]
 
-among-without : (c n : ℕ) (xs : List Entry) → c ≢ n → Among c xs → Among c (without n xs)
-among-without c n [] apart h = h
-among-without c n (x ∷ xs) apart (inl same) = rw (ne_eqb x.conn n (λ e. apart (sym same ∙ e))) (inl same)
-among-without c n (x ∷ xs) apart (inr k) = elim (cases_Bool (eqb x.conn n)) [
-  | inl e ↦ rw e (among-without c n xs apart k)
-  | inr e ↦ rw e (inr (among-without c n xs apart k))
+among_without : (c n : ℕ) (xs : List Entry) → c ≢ n → Among c xs → Among c (without n xs)
+among_without c n [] apart h = h
+among_without c n (x ∷ xs) apart (inl same) = rw (ne_eqb x.conn n (λ e. apart (sym same ∙ e))) (inl same)
+among_without c n (x ∷ xs) apart (inr k) = elim (cases_Bool (eqb x.conn n)) [
+  | inl e ↦ rw e (among_without c n xs apart k)
+  | inr e ↦ rw e (inr (among_without c n xs apart k))
 ]
 
 all_to : (P Q : Entry → Type 0) → ((x : Entry) → P x → Q x) → (xs : List Entry) → AllByRecursion P xs → AllByRecursion Q xs
@@ -74,9 +74,9 @@ tally : (p : Entry → Bool) (test : ℕ → Bool) (n : ℕ) (xs : List Entry) �
 tally p test zero [] once below same among = refl
 tally p test zero (x ∷ xs) once below same among = absurd (omega (arith, below.0))
 tally p test (suc n) xs once below same among =
-    let rest = tally p test n (without n xs) (once-filter (λ x. not (eqb x.conn n)) xs once) (below_less n xs below)
+    let rest = tally p test n (without n xs) (once_filter (λ x. not (eqb x.conn n)) xs once) (below_less n xs below)
     (all_filter (λ x. p x ≡ test x.conn) (λ x. not (eqb x.conn n)) xs same)
-    (λ c lt k. among-without c n xs (omega (arith, lt)) (among c (omega (arith, lt)) k)) in
+    (λ c lt k. among_without c n xs (omega (arith, lt)) (among c (omega (arith, lt)) k)) in
     let end = ap (λ (ns : List ℕ). length (filter test ns)) (range_push 0 n n (omega arith))
     ∙ pushed test (range_with_len 0 n) n in
     elim (cases_Bool (test n)) [
@@ -97,9 +97,9 @@ not_lock : (o : Option Wait) (b : Bool) → (is_lock o && b) ≡ true → o ≡ 
 not_lock None b e none = true≢false (sym e)
 not_lock (Some wait) b e none = true≢false (ap is_some none)
 
-pub creations-all : (acts : List WaitAct) (xs : List Entry) → IsOnce xs → IsBelow max_connections xs → IsQueue xs acts
+pub creations_all : (acts : List WaitAct) (xs : List Entry) → IsOnce xs → IsBelow max_connections xs → IsQueue xs acts
     → creations xs ≡ creating acts
-creations-all acts xs once below is = tally creates (is_creating acts) max_connections xs once below
+creations_all acts xs once below is = tally creates (is_creating acts) max_connections xs once below
     (all_to (IsEntry acts) (λ x. creates x ≡ is_creating acts x.conn) (same_creates acts) xs is.each)
     (λ c lt e. among_from_find c xs (λ none. not_lock (waits c acts) (is_none (link c acts)) e
     (is.all c ∙ ap (λ o. option_map (λ (x : Entry). x.wait) o) none)))

@@ -7,23 +7,23 @@ use Rattle.std.proofs.lemmas.List.{take_at}
 use Rattle.sv_links.specs.ChannelRepresentation.{left_in}
 
 -- the first keeps a part
-pub first-part : (sizes lent : List ℕ) (left size : ℕ) → lent ≡ sizes → Some size ≡ slice_get sizes 0 → left < size
+pub first_part : (sizes lent : List ℕ) (left size : ℕ) → lent ≡ sizes → Some size ≡ slice_get sizes 0 → left < size
     → refill (length sizes) sizes (slice_set lent 0 (size - left)) ≡ left_in left sizes
-first-part [] lent left size same first h = cc
-first-part (x ∷ sizes) lent left size same first h =
+first_part [] lent left size same first h = cc
+first_part (x ∷ sizes) lent left size same first h =
     let is : size ≡ x = cc in
     rw (same, is, lt-ltb left x (rw is at h))
     (ap (λ (rest : List ℕ). (x - left) ∷ rest) (take_at sizes (drop (length sizes) sizes) (length sizes) refl))
 
 -- the first goes
-pub first-goes : (sizes new : List ℕ) (left size : ℕ) → Some size ≡ slice_get sizes 0 → size ≤ left → new ≡ drop 1 sizes
+pub first_goes : (sizes new : List ℕ) (left size : ℕ) → Some size ≡ slice_get sizes 0 → size ≤ left → new ≡ drop 1 sizes
     → left_in (left - size) new ≡ left_in left sizes
-first-goes [] new left size first h rest = cc
-first-goes (x ∷ sizes) new left size first h rest =
+first_goes [] new left size first h rest = cc
+first_goes (x ∷ sizes) new left size first h rest =
     let is : size ≡ x = cc in
     rw (rest, is, le-ltb left x (rw is at h)) refl
 
 -- there is none
-pub none-first : (sizes : List ℕ) (left : ℕ) → None ≡ slice_get sizes 0 → sizes ≡ left_in left sizes
-none-first [] left h = refl
-none-first (x ∷ sizes) left h = cc
+pub none_first : (sizes : List ℕ) (left : ℕ) → None ≡ slice_get sizes 0 → sizes ≡ left_in left sizes
+none_first [] left h = refl
+none_first (x ∷ sizes) left h = cc

@@ -10,34 +10,34 @@ use Rattle.sv_links.specs.Limits.{longest_call}
 use Rattle.sv_links.specs.ChannelRepresentation.{left_in}
 
 -- the sizes of what is left of calls are what is left of their sizes
-pub left-sizes : (count : ℕ) (calls : List (List ℕ)) → map length (calls_left count calls) ≡ left_in count (map length calls)
-left-sizes count [] = refl
-left-sizes count (call ∷ calls) = elim (cases_Bool (ltb count (length call))) [
+pub left_sizes : (count : ℕ) (calls : List (List ℕ)) → map length (calls_left count calls) ≡ left_in count (map length calls)
+left_sizes count [] = refl
+left_sizes count (call ∷ calls) = elim (cases_Bool (ltb count (length call))) [
   | inl e ↦ rw e (ap (λ (n : ℕ). n ∷ map length calls) (length-drop count call))
-  | inr e ↦ rw e (left-sizes (count - length call) calls)
+  | inr e ↦ rw e (left_sizes (count - length call) calls)
 ]
 
-drop-past : (count : ℕ) (xs ys : List ℕ) → length xs ≤ count → drop count (xs ++ ys) ≡ drop (count - length xs) ys
-drop-past count xs ys h =
+drop_past : (count : ℕ) (xs ys : List ℕ) → length xs ≤ count → drop count (xs ++ ys) ≡ drop (count - length xs) ys
+drop_past count xs ys h =
     let both : length xs + (count - length xs) ≡ count = omega arith in
     ap (λ (n : ℕ). drop n (xs ++ ys)) (sym both) ∙ sym (drop-drop (count - length xs) (length xs) (xs ++ ys))
     ∙ ap (drop (count - length xs)) (drop_at xs ys (length xs) refl)
 
 -- the bytes of what is left of calls are what is left of their bytes
-pub left-bytes : (count : ℕ) (calls : List (List ℕ)) → concat (calls_left count calls) ≡ drop count (concat calls)
-left-bytes zero [] = refl
-left-bytes (suc count) [] = refl
-left-bytes count (call ∷ calls) = elim (cases_Bool (ltb count (length call))) [
+pub left_bytes : (count : ℕ) (calls : List (List ℕ)) → concat (calls_left count calls) ≡ drop count (concat calls)
+left_bytes zero [] = refl
+left_bytes (suc count) [] = refl
+left_bytes count (call ∷ calls) = elim (cases_Bool (ltb count (length call))) [
   | inl e ↦ let lt = ltb-true count (length call) e in rw e (sym (drop-append-le count call (concat calls) (omega arith)))
   | inr e ↦
       let le = ltb-false count (length call) e in
-      rw e (left-bytes (count - length call) calls ∙ sym (drop-past count call (concat calls) le))
+      rw e (left_bytes (count - length call) calls ∙ sym (drop_past count call (concat calls) le))
 ]
 
 -- what is left, and of that what is left
-pub left-left : (m n : ℕ) (calls : List (List ℕ)) → calls_left n (calls_left m calls) ≡ calls_left (m + n) calls
-left-left m n [] = refl
-left-left m n (call ∷ calls) = elim (cases_Bool (ltb m (length call))) [
+pub left_left : (m n : ℕ) (calls : List (List ℕ)) → calls_left n (calls_left m calls) ≡ calls_left (m + n) calls
+left_left m n [] = refl
+left_left m n (call ∷ calls) = elim (cases_Bool (ltb m (length call))) [
   | inl e ↦
       let lt = ltb-true m (length call) e in
       let size = length-drop m call in
@@ -54,62 +54,62 @@ left-left m n (call ∷ calls) = elim (cases_Bool (ltb m (length call))) [
       let le = ltb-false m (length call) e in
       let rest : m - length call + n ≡ m + n - length call = omega arith in
       rw (e, le-ltb (m + n) (length call) (omega arith))
-      (left-left (m - length call) n calls ∙ ap (λ (n : ℕ). calls_left n calls) rest)
+      (left_left (m - length call) n calls ∙ ap (λ (n : ℕ). calls_left n calls) rest)
 ]
 
 -- a call that is sent behind others is left, where no more than those were taken
-pub left-push : (count : ℕ) (calls : List (List ℕ)) (call : List ℕ) → 0 < length call → count ≤ length (concat calls)
+pub left_push : (count : ℕ) (calls : List (List ℕ)) (call : List ℕ) → 0 < length call → count ≤ length (concat calls)
     → calls_left count (calls ++ call ∷ []) ≡ calls_left count calls ++ call ∷ []
-left-push count [] call some h = rw (lt-ltb count (length call) (omega arith)) (
+left_push count [] call some h = rw (lt-ltb count (length call) (omega arith)) (
     let none : count ≡ 0 = omega arith in rw none refl
     )
-left-push count (first ∷ calls) call some h = elim (cases_Bool (ltb count (length first))) [
+left_push count (first ∷ calls) call some h = elim (cases_Bool (ltb count (length first))) [
   | inl e ↦ rw e refl
   | inr e ↦
       let le = ltb-false count (length first) e in
-      rw e (left-push (count - length first) calls call some (omega (arith, length-append first (concat calls), le)))
+      rw e (left_push (count - length first) calls call some (omega (arith, length-append first (concat calls), le)))
 ]
 
 -- ---- sizes
 
-sum-cons : (n : ℕ) (ns : List ℕ) → sum (n ∷ ns) ≡ n + sum ns
-sum-cons n ns = sum_by-cons (λ (x : ℕ). x) n ns
+sum_cons : (n : ℕ) (ns : List ℕ) → sum (n ∷ ns) ≡ n + sum ns
+sum_cons n ns = sum_by-cons (λ (x : ℕ). x) n ns
 
 -- what was taken, and what is left, are all
-pub sum-left : (count : ℕ) (sizes : List ℕ) → count ≤ sum sizes → count + sum (left_in count sizes) ≡ sum sizes
-sum-left count [] h = omega arith
-sum-left count (size ∷ sizes) h = elim (cases_Bool (ltb count size)) [
-  | inl e ↦ let lt = ltb-true count size e in rw e (omega (arith, sum-cons (size - count) sizes, sum-cons size sizes))
+pub sum_left : (count : ℕ) (sizes : List ℕ) → count ≤ sum sizes → count + sum (left_in count sizes) ≡ sum sizes
+sum_left count [] h = omega arith
+sum_left count (size ∷ sizes) h = elim (cases_Bool (ltb count size)) [
+  | inl e ↦ let lt = ltb-true count size e in rw e (omega (arith, sum_cons (size - count) sizes, sum_cons size sizes))
   | inr e ↦
       let le = ltb-false count size e in
-      rw e (omega (arith, sum-left (count - size) sizes (omega (arith, sum-cons size sizes)), sum-cons size sizes))
+      rw e (omega (arith, sum_left (count - size) sizes (omega (arith, sum_cons size sizes)), sum_cons size sizes))
 ]
 
-pub all-left : (most count : ℕ) (sizes : List ℕ) → AllByRecursion (λ size. size ≤ most) sizes
+pub all_left : (most count : ℕ) (sizes : List ℕ) → AllByRecursion (λ size. size ≤ most) sizes
     → AllByRecursion (λ size. size ≤ most) (left_in count sizes)
-all-left most count [] h = tt
-all-left most count (size ∷ sizes) h = elim (cases_Bool (ltb count size)) [
+all_left most count [] h = tt
+all_left most count (size ∷ sizes) h = elim (cases_Bool (ltb count size)) [
   | inl e ↦ rw e (omega (arith, h.0), h.1)
-  | inr e ↦ rw e (all-left most (count - size) sizes h.1)
+  | inr e ↦ rw e (all_left most (count - size) sizes h.1)
 ]
 
-pub length-left : (count : ℕ) (sizes : List ℕ) → length (left_in count sizes) ≤ length sizes
-length-left count [] = omega arith
-length-left count (size ∷ sizes) = elim (cases_Bool (ltb count size)) [
+pub length_left : (count : ℕ) (sizes : List ℕ) → length (left_in count sizes) ≤ length sizes
+length_left count [] = omega arith
+length_left count (size ∷ sizes) = elim (cases_Bool (ltb count size)) [
   | inl e ↦ rw e (omega arith)
-  | inr e ↦ rw e (omega (arith, length-left (count - size) sizes))
+  | inr e ↦ rw e (omega (arith, length_left (count - size) sizes))
 ]
 
 -- so many sizes, none above that of the longest call, are at most so much
-pub sum-bounded : (sizes : List ℕ) → AllByRecursion (λ size. size ≤ longest_call) sizes → sum sizes ≤ longest_call * length sizes
-sum-bounded [] h = omega arith
-sum-bounded (size ∷ sizes) h = omega (arith, sum-cons size sizes, h.0, sum-bounded sizes h.1)
+pub sum_bounded : (sizes : List ℕ) → AllByRecursion (λ size. size ≤ longest_call) sizes → sum sizes ≤ longest_call * length sizes
+sum_bounded [] h = omega arith
+sum_bounded (size ∷ sizes) h = omega (arith, sum_cons size sizes, h.0, sum_bounded sizes h.1)
 
 -- one more size is added
-pub sum-push : (sizes : List ℕ) (size : ℕ) → sum (sizes ++ size ∷ []) ≡ sum sizes + size
-sum-push sizes size = omega (arith, sum_by-append (λ (x : ℕ). x) sizes (size ∷ []))
+pub sum_push : (sizes : List ℕ) (size : ℕ) → sum (sizes ++ size ∷ []) ≡ sum sizes + size
+sum_push sizes size = omega (arith, sum_by-append (λ (x : ℕ). x) sizes (size ∷ []))
 
-pub all-push : (most : ℕ) (sizes : List ℕ) (size : ℕ) → AllByRecursion (λ size. size ≤ most) sizes → size ≤ most
+pub all_push : (most : ℕ) (sizes : List ℕ) (size : ℕ) → AllByRecursion (λ size. size ≤ most) sizes → size ≤ most
     → AllByRecursion (λ size. size ≤ most) (sizes ++ size ∷ [])
-all-push most [] size h le = (le, tt)
-all-push most (first ∷ sizes) size h le = (h.0, all-push most sizes size h.1 le)
+all_push most [] size h le = (le, tt)
+all_push most (first ∷ sizes) size h le = (h.0, all_push most sizes size h.1 le)

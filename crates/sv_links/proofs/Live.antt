@@ -8,19 +8,19 @@ use Rattle.sv_links.specs.Links.{LinkAct, Destroyed, live, closing}
 use Rattle.sv_links.proofs.Tables.{other_than}
 use Rattle.sv_links.proofs.Closing.{gone, of_conn}
 
-length-filter_le : (p : Link → Bool) (xs : List Link) → length (filter p xs) ≤ length xs
-length-filter_le p [] = omega arith
-length-filter_le p (x ∷ xs) = elim (cases_Bool (p x)) [
-  | inl e ↦ rw e (omega (arith, length-filter_le p xs))
-  | inr e ↦ rw e (omega (arith, length-filter_le p xs))
+length_filter_le : (p : Link → Bool) (xs : List Link) → length (filter p xs) ≤ length xs
+length_filter_le p [] = omega arith
+length_filter_le p (x ∷ xs) = elim (cases_Bool (p x)) [
+  | inl e ↦ rw e (omega (arith, length_filter_le p xs))
+  | inr e ↦ rw e (omega (arith, length_filter_le p xs))
 ]
 
-pub destroyed-live : (lid : ℕ) (acts : List LinkAct) → length (live (Destroyed lid ∷ acts)) ≤ length (live acts)
-destroyed-live lid acts = length-filter_le (other_than lid) (live acts)
+pub destroyed_live : (lid : ℕ) (acts : List LinkAct) → length (live (Destroyed lid ∷ acts)) ≤ length (live acts)
+destroyed_live lid acts = length_filter_le (other_than lid) (live acts)
 
-gone-live : (ys : List Link) (acts : List LinkAct) → length (live (gone ys acts)) ≤ length (live acts)
-gone-live [] acts = omega arith
-gone-live (y ∷ ys) acts = omega (arith, gone-live ys (Destroyed y.lid ∷ acts), destroyed-live y.lid acts)
+gone_live : (ys : List Link) (acts : List LinkAct) → length (live (gone ys acts)) ≤ length (live acts)
+gone_live [] acts = omega arith
+gone_live (y ∷ ys) acts = omega (arith, gone_live ys (Destroyed y.lid ∷ acts), destroyed_live y.lid acts)
 
-pub closing-live : (c : ℕ) (acts : List LinkAct) → length (live (closing c acts ++ acts)) ≤ length (live acts)
-closing-live c acts = rw (← reverse_aux-eq) (gone-live (filter (of_conn c) (live acts)) acts)
+pub closing_live : (c : ℕ) (acts : List LinkAct) → length (live (closing c acts ++ acts)) ≤ length (live acts)
+closing_live c acts = rw (← reverse_aux-eq) (gone_live (filter (of_conn c) (live acts)) acts)

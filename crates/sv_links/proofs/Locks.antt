@@ -10,16 +10,16 @@ abbrev Among : ℕ → List ℕ → Type 0
 Among lid [] = ⊥
 Among lid (n ∷ ns) = (n ≡ lid) ⊎ Among lid ns
 
-and-true : (a b : Bool) → (a && b) ≡ true → b ≡ true
-and-true true b e = e
-and-true false b e = absurd (false≢true e)
+and_true : (a b : Bool) → (a && b) ≡ true → b ≡ true
+and_true true b e = e
+and_true false b e = absurd (false≢true e)
 
 -- what is locked was locked
 was_locked : (lid : ℕ) (acts : List LinkAct) → is_locked lid acts ≡ true → Among lid (lock_order acts)
 was_locked lid [] e = absurd (false≢true e)
 was_locked lid (Made other conn ∷ acts) e = was_locked lid acts e
-was_locked lid (Destroyed other ∷ acts) e = was_locked lid acts (and-true (not (eqb other lid)) (is_locked lid acts) e)
-was_locked lid (Unlocked other ∷ acts) e = was_locked lid acts (and-true (not (eqb other lid)) (is_locked lid acts) e)
+was_locked lid (Destroyed other ∷ acts) e = was_locked lid acts (and_true (not (eqb other lid)) (is_locked lid acts) e)
+was_locked lid (Unlocked other ∷ acts) e = was_locked lid acts (and_true (not (eqb other lid)) (is_locked lid acts) e)
 was_locked lid (Locked other ∷ acts) e = elim (cases_Bool (eqb other lid)) [
   | inl k ↦ inl (eqb-true other lid k)
   | inr k ↦ inr (was_locked lid acts (rw k at e))
@@ -51,36 +51,36 @@ swap m n = elim (cases_Bool (eqb m n)) [
   | inr e ↦ rw e (sym (ne_eqb n m (λ same. eqb-false m n e (sym same))))
 ]
 
-not-not : (b : Bool) → not (not b) ≡ b
-not-not true = refl
-not-not false = refl
+not_not : (b : Bool) → not (not b) ≡ b
+not_not true = refl
+not_not false = refl
 
 pub may_lock : (m lid : ℕ) → eqb m lid ≡ not (is_locked_out (Some m) (Some lid))
-may_lock m lid = swap m lid ∙ sym (not-not (eqb lid m))
+may_lock m lid = swap m lid ∙ sym (not_not (eqb lid m))
 
 -- ---- the lock after an act
 
-pub lock-free : (lid : ℕ) (acts : List LinkAct) → ((n : ℕ) → is_locked n acts ≡ false)
+pub lock_free : (lid : ℕ) (acts : List LinkAct) → ((n : ℕ) → is_locked n acts ≡ false)
     → (n : ℕ) → is_locked n (Locked lid ∷ acts) ≡ is_this n (Some lid)
-lock-free lid acts h n = elim (cases_Bool (eqb lid n)) [ inl e ↦ rw e refl | inr e ↦ rw e (h n) ]
+lock_free lid acts h n = elim (cases_Bool (eqb lid n)) [ inl e ↦ rw e refl | inr e ↦ rw e (h n) ]
 
-pub lock-again : (lid : ℕ) (acts : List LinkAct) → ((n : ℕ) → is_locked n acts ≡ eqb lid n)
+pub lock_again : (lid : ℕ) (acts : List LinkAct) → ((n : ℕ) → is_locked n acts ≡ eqb lid n)
     → (n : ℕ) → is_locked n (Locked lid ∷ acts) ≡ is_this n (Some lid)
-lock-again lid acts h n = elim (cases_Bool (eqb lid n)) [ inl e ↦ rw e refl | inr e ↦ rw e (h n ∙ e) ]
+lock_again lid acts h n = elim (cases_Bool (eqb lid n)) [ inl e ↦ rw e refl | inr e ↦ rw e (h n ∙ e) ]
 
-pub lock-unlocked : (lid : ℕ) (acts : List LinkAct) → ((n : ℕ) → is_locked n acts ≡ eqb lid n)
+pub lock_unlocked : (lid : ℕ) (acts : List LinkAct) → ((n : ℕ) → is_locked n acts ≡ eqb lid n)
     → (n : ℕ) → is_locked n (Unlocked lid ∷ acts) ≡ false
-lock-unlocked lid acts h n = elim (cases_Bool (eqb lid n)) [ inl e ↦ rw e refl | inr e ↦ rw e (h n ∙ e) ]
+lock_unlocked lid acts h n = elim (cases_Bool (eqb lid n)) [ inl e ↦ rw e refl | inr e ↦ rw e (h n ∙ e) ]
 
 -- the link that holds the lock, where one is destroyed
 abbrev pub freed : ℕ → Option ℕ → Option ℕ
 freed lid None = None
 freed lid (Some m) = cond (eqb m lid) None (Some m)
 
-pub lock-destroyed : (lid : ℕ) (o : Option ℕ) (acts : List LinkAct) → ((n : ℕ) → is_locked n acts ≡ is_this n o)
+pub lock_destroyed : (lid : ℕ) (o : Option ℕ) (acts : List LinkAct) → ((n : ℕ) → is_locked n acts ≡ is_this n o)
     → (n : ℕ) → is_locked n (Destroyed lid ∷ acts) ≡ is_this n (freed lid o)
-lock-destroyed lid None acts h n = elim (cases_Bool (eqb lid n)) [ inl e ↦ rw e refl | inr e ↦ rw e (h n) ]
-lock-destroyed lid (Some m) acts h n = elim (cases_Bool (eqb m lid)) [
+lock_destroyed lid None acts h n = elim (cases_Bool (eqb lid n)) [ inl e ↦ rw e refl | inr e ↦ rw e (h n) ]
+lock_destroyed lid (Some m) acts h n = elim (cases_Bool (eqb m lid)) [
   | inl k ↦ elim (cases_Bool (eqb lid n)) [
     | inl e ↦ rw (k, e) refl
     | inr e ↦ rw (k, e) (h n ∙ rw (eqb-true m lid k) e)
@@ -96,47 +96,47 @@ this_is : (lid : ℕ) (o : Option ℕ) → option_eq eqb o (Some lid) ≡ is_thi
 this_is lid None = refl
 this_is lid (Some m) = refl
 
-not-true : (b : Bool) → not b ≡ true → b ≡ false
-not-true false e = refl
-not-true true e = absurd (false≢true e)
+not_true : (b : Bool) → not b ≡ true → b ≡ false
+not_true false e = refl
+not_true true e = absurd (false≢true e)
 
-not-false : (b : Bool) → not b ≡ false → b ≡ true
-not-false true e = refl
-not-false false e = absurd (true≢false e)
+not_false : (b : Bool) → not b ≡ false → b ≡ true
+not_false true e = refl
+not_false false e = absurd (true≢false e)
 
 pub other_holds : (lid : ℕ) (o : Option ℕ) (r : Bool) → r ≡ not (option_eq eqb o (Some lid)) → r ≡ true → false ≡ is_this lid o
-other_holds lid o r told e = sym (not-true (option_eq eqb o (Some lid)) (sym told ∙ e)) ∙ this_is lid o
+other_holds lid o r told e = sym (not_true (option_eq eqb o (Some lid)) (sym told ∙ e)) ∙ this_is lid o
 
 pub this_holds : (lid : ℕ) (o : Option ℕ) (r : Bool) → r ≡ not (option_eq eqb o (Some lid)) → r ≡ false → true ≡ is_this lid o
-this_holds lid o r told e = sym (not-false (option_eq eqb o (Some lid)) (sym told ∙ e)) ∙ this_is lid o
+this_holds lid o r told e = sym (not_false (option_eq eqb o (Some lid)) (sym told ∙ e)) ∙ this_is lid o
 
 pub is_holder : (lid : ℕ) (o : Option ℕ) → true ≡ is_this lid o → o ≡ Some lid
 is_holder lid None e = absurd (true≢false e)
 is_holder lid (Some m) e = ap Some (eqb-true m lid (sym e))
 
-pub IsTable-unlocked : (table : Table) (lid : ℕ) (acts : List LinkAct) → true ≡ is_this lid table.holder → IsTable table acts
+pub is_table_unlocked : (table : Table) (lid : ℕ) (acts : List LinkAct) → true ≡ is_this lid table.holder → IsTable table acts
     → IsTable (record table { holder = None }) (Unlocked lid ∷ acts)
-IsTable-unlocked table lid acts holds is = record {
+is_table_unlocked table lid acts holds is = record {
   made = is.made;
   kept = is.kept;
   rising = is.rising;
-  lock = lock-unlocked lid acts (λ n. is.lock n ∙ ap (is_this n) (is_holder lid table.holder holds));
+  lock = lock_unlocked lid acts (λ n. is.lock n ∙ ap (is_this n) (is_holder lid table.holder holds));
 }
 
-pub IsTable-locked : (table : Table) (lid : ℕ) (acts : List LinkAct) → table.holder ≡ None → IsTable table acts
+pub is_table_locked : (table : Table) (lid : ℕ) (acts : List LinkAct) → table.holder ≡ None → IsTable table acts
     → IsTable (record table { holder = Some lid }) (Locked lid ∷ acts)
-IsTable-locked table lid acts none is = record {
+is_table_locked table lid acts none is = record {
   made = is.made;
   kept = is.kept;
   rising = is.rising;
-  lock = lock-free lid acts (λ n. is.lock n ∙ ap (is_this n) none);
+  lock = lock_free lid acts (λ n. is.lock n ∙ ap (is_this n) none);
 }
 
-pub IsTable-locked_again : (table : Table) (lid : ℕ) (acts : List LinkAct) → table.holder ≡ Some lid → IsTable table acts
+pub is_table_locked_again : (table : Table) (lid : ℕ) (acts : List LinkAct) → table.holder ≡ Some lid → IsTable table acts
     → IsTable table (Locked lid ∷ acts)
-IsTable-locked_again table lid acts holds is = record {
+is_table_locked_again table lid acts holds is = record {
   made = is.made;
   kept = is.kept;
   rising = is.rising;
-  lock = λ n. lock-again lid acts (λ n. is.lock n ∙ ap (is_this n) holds) n ∙ ap (is_this n) (sym holds);
+  lock = λ n. lock_again lid acts (λ n. is.lock n ∙ ap (is_this n) holds) n ∙ ap (is_this n) (sym holds);
 }

@@ -6,8 +6,8 @@ use Rattle.std.proofs.lemmas.Bool.{ne_eqb, eq-eqb, cases_Bool, eqb-true}
 use Rattle.slab.specs.Slab.{entries_from}
 use Rattle.sv_links.specs.declared.links.Link.{Link}
 use Rattle.sv_links.specs.Table.{IsKept, IsRising}
-use Rattle.sv_links.proofs.Slots.{keep, kept-filter}
-use Rattle.sv_links.proofs.Tables.{Below, rising-filter}
+use Rattle.sv_links.proofs.Slots.{keep, kept_filter}
+use Rattle.sv_links.proofs.Tables.{Below, rising_filter}
 
 -- the links of the slots
 abbrev links_in : List (Option Link) → List Link
@@ -15,33 +15,33 @@ links_in [] = []
 links_in (None ∷ slots) = links_in slots
 links_in (Some link ∷ slots) = link ∷ links_in slots
 
-links-keep : (p : Link → Bool) (slots : List (Option Link)) → links_in (map (keep p) slots) ≡ filter p (links_in slots)
-links-keep p [] = refl
-links-keep p (None ∷ slots) = links-keep p slots
-links-keep p (Some x ∷ slots) = elim (cases_Bool (p x)) [
-  | inl e ↦ rw e (ap (λ (xs : List Link). x ∷ xs) (links-keep p slots))
-  | inr e ↦ rw e (links-keep p slots)
+links_keep : (p : Link → Bool) (slots : List (Option Link)) → links_in (map (keep p) slots) ≡ filter p (links_in slots)
+links_keep p [] = refl
+links_keep p (None ∷ slots) = links_keep p slots
+links_keep p (Some x ∷ slots) = elim (cases_Bool (p x)) [
+  | inl e ↦ rw e (ap (λ (xs : List Link). x ∷ xs) (links_keep p slots))
+  | inr e ↦ rw e (links_keep p slots)
 ]
 
 -- ---- what an iterator over the slab finds
 
-find-entries : {Y : Type 0} (test : Link → Bool) (f : Link → Y) (key : ℕ) (slots : List (Option Link))
+find_entries : {Y : Type 0} (test : Link → Bool) (f : Link → Y) (key : ℕ) (slots : List (Option Link))
     → option_map (λ entry. f entry.1) (find (λ entry. test entry.1) (entries_from key slots)) ≡ option_map f (find test (links_in slots))
-find-entries test f key [] = refl
-find-entries test f key (None ∷ slots) = find-entries test f (key + 1) slots
-find-entries test f key (Some x ∷ slots) = elim (cases_Bool (test x)) [
+find_entries test f key [] = refl
+find_entries test f key (None ∷ slots) = find_entries test f (key + 1) slots
+find_entries test f key (Some x ∷ slots) = elim (cases_Bool (test x)) [
   | inl e ↦ rw e refl
-  | inr e ↦ rw e (find-entries test f (key + 1) slots)
+  | inr e ↦ rw e (find_entries test f (key + 1) slots)
 ]
 
-filter-entries : (test : Link → Bool) (key : ℕ) (slots : List (Option Link))
+filter_entries : (test : Link → Bool) (key : ℕ) (slots : List (Option Link))
     → map (λ entry. entry.1.lid) (filter (λ entry. test entry.1) (entries_from key slots))
     ≡ map (λ link. link.lid) (filter test (links_in slots))
-filter-entries test key [] = refl
-filter-entries test key (None ∷ slots) = filter-entries test (key + 1) slots
-filter-entries test key (Some x ∷ slots) = elim (cases_Bool (test x)) [
-  | inl e ↦ rw e (ap (λ (ns : List ℕ). x.lid ∷ ns) (filter-entries test (key + 1) slots))
-  | inr e ↦ rw e (filter-entries test (key + 1) slots)
+filter_entries test key [] = refl
+filter_entries test key (None ∷ slots) = filter_entries test (key + 1) slots
+filter_entries test key (Some x ∷ slots) = elim (cases_Bool (test x)) [
+  | inl e ↦ rw e (ap (λ (ns : List ℕ). x.lid ∷ ns) (filter_entries test (key + 1) slots))
+  | inr e ↦ rw e (filter_entries test (key + 1) slots)
 ]
 
 -- ---- a link taken out of those that rise
@@ -55,43 +55,43 @@ all_at : (P : Link → Type 0) (xs : List Link) (x : Link) (ys : List Link) → 
 all_at P [] x ys h = h.0
 all_at P (z ∷ xs) x ys h = all_at P xs x ys h.1
 
-rising-between : (xs : List Link) (x : Link) (ys : List Link) (n : ℕ) → IsRising (xs ++ x ∷ ys) n → IsRising (xs ++ ys) n
-rising-between [] x ys n h = h.2
-rising-between (z ∷ xs) x ys n h = (h.0, all_between (Below z) xs x ys h.1, rising-between xs x ys n h.2)
+rising_between : (xs : List Link) (x : Link) (ys : List Link) (n : ℕ) → IsRising (xs ++ x ∷ ys) n → IsRising (xs ++ ys) n
+rising_between [] x ys n h = h.2
+rising_between (z ∷ xs) x ys n h = (h.0, all_between (Below z) xs x ys h.1, rising_between xs x ys n h.2)
 
-find-passed : (test : Link → Bool) (xs : List Link) (x : Link) (ys : List Link) → test x ≡ false
+find_passed : (test : Link → Bool) (xs : List Link) (x : Link) (ys : List Link) → test x ≡ false
     → find test (xs ++ x ∷ ys) ≡ find test (xs ++ ys)
-find-passed test [] x ys e = rw e refl
-find-passed test (z ∷ xs) x ys e = elim (cases_Bool (test z)) [
+find_passed test [] x ys e = rw e refl
+find_passed test (z ∷ xs) x ys e = elim (cases_Bool (test z)) [
   | inl k ↦ rw k refl
-  | inr k ↦ rw k (find-passed test xs x ys e)
+  | inr k ↦ rw k (find_passed test xs x ys e)
 ]
 
-find-there : (lid : ℕ) (xs : List Link) (x : Link) (ys : List Link) (n : ℕ) → IsRising (xs ++ x ∷ ys) n → eqb x.lid lid ≡ true
+find_there : (lid : ℕ) (xs : List Link) (x : Link) (ys : List Link) (n : ℕ) → IsRising (xs ++ x ∷ ys) n → eqb x.lid lid ≡ true
     → find (λ link. eqb link.lid lid) (xs ++ x ∷ ys) ≡ Some x
-find-there lid [] x ys n h e = rw e refl
-find-there lid (z ∷ xs) x ys n h e =
+find_there lid [] x ys n h e = rw e refl
+find_there lid (z ∷ xs) x ys n h e =
     let below : z.lid < x.lid = all_at (Below z) xs x ys h.1 in
     let same : x.lid ≡ lid = eqb-true x.lid lid e in
-    rw (ne_eqb z.lid lid (λ k. absurd (omega (arith, k, below, same)))) (find-there lid xs x ys n h.2 e)
+    rw (ne_eqb z.lid lid (λ k. absurd (omega (arith, k, below, same)))) (find_there lid xs x ys n h.2 e)
 
-pub find-kept : (lid : ℕ) (slots : List (Option Link)) (links : List Link) (n : ℕ) → IsKept slots links → IsRising links n
+pub find_kept : (lid : ℕ) (slots : List (Option Link)) (links : List Link) (n : ℕ) → IsKept slots links → IsRising links n
     → find (λ link. eqb link.lid lid) (links_in slots) ≡ find (λ link. eqb link.lid lid) links
-find-kept lid [] links n h rise = rw h refl
-find-kept lid (None ∷ slots) links n h rise = find-kept lid slots links n h rise
-find-kept lid (Some x ∷ slots) links n h rise =
+find_kept lid [] links n h rise = rw h refl
+find_kept lid (None ∷ slots) links n h rise = find_kept lid slots links n h rise
+find_kept lid (Some x ∷ slots) links n h rise =
     let rise : IsRising (h.0 ++ x ∷ h.1) n = rw (← h.2) rise in
     rw h.2 (elim (cases_Bool (eqb x.lid lid)) [
-      | inl e ↦ rw e (sym (find-there lid h.0 x h.1 n rise e))
-      | inr e ↦ rw e (find-kept lid slots (h.0 ++ h.1) n h.3 (rising-between h.0 x h.1 n rise)
-          ∙ sym (find-passed (λ link. eqb link.lid lid) h.0 x h.1 e))
+      | inl e ↦ rw e (sym (find_there lid h.0 x h.1 n rise e))
+      | inr e ↦ rw e (find_kept lid slots (h.0 ++ h.1) n h.3 (rising_between h.0 x h.1 n rise)
+          ∙ sym (find_passed (λ link. eqb link.lid lid) h.0 x h.1 e))
     ])
 
 pub owner_found : (lid key : ℕ) (slots : List (Option Link)) (links : List Link) (n : ℕ) → IsKept slots links → IsRising links n
     → option_map (λ entry. entry.1.conn) (find (λ entry. eqb entry.1.lid lid) (entries_from key slots))
     ≡ option_map (λ link. link.conn) (find (λ link. eqb link.lid lid) links)
-owner_found lid key slots links n h rise = find-entries (λ link. eqb link.lid lid) (λ link. link.conn) key slots
-    ∙ ap (option_map (λ (link : Link). link.conn)) (find-kept lid slots links n h rise)
+owner_found lid key slots links n h rise = find_entries (λ link. eqb link.lid lid) (λ link. link.conn) key slots
+    ∙ ap (option_map (λ (link : Link). link.conn)) (find_kept lid slots links n h rise)
 
 -- ---- the least number
 
@@ -102,13 +102,13 @@ abbrev least_with : ℕ → Option ℕ → ℕ
 least_with a None = a
 least_with a (Some b) = min a b
 
-fold-min : (a b : ℕ) (ns : List ℕ) → fold min (min a b) ns ≡ min a (fold min b ns)
-fold-min a b [] = refl
-fold-min a b (n ∷ ns) = ap (λ (m : ℕ). fold min m ns) (grind (arith)) ∙ fold-min a (min b n) ns
+fold_min : (a b : ℕ) (ns : List ℕ) → fold min (min a b) ns ≡ min a (fold min b ns)
+fold_min a b [] = refl
+fold_min a b (n ∷ ns) = ap (λ (m : ℕ). fold min m ns) (grind (arith)) ∙ fold_min a (min b n) ns
 
-least-cons : (a : ℕ) (ns : List ℕ) → reduce min (a ∷ ns) ≡ Some (least_with a (reduce min ns))
-least-cons a [] = refl
-least-cons a (n ∷ ns) = ap Some (fold-min a n ns)
+least_cons : (a : ℕ) (ns : List ℕ) → reduce min (a ∷ ns) ≡ Some (least_with a (reduce min ns))
+least_cons a [] = refl
+least_cons a (n ∷ ns) = ap Some (fold_min a n ns)
 
 first_above : (x : Link) (ys : List Link) → AllByRecursion (Below x) ys → least_with x.lid (find (λ lid. true) (lids ys)) ≡ x.lid
 first_above x [] h = refl
@@ -127,8 +127,8 @@ least_kept [] links n h rise = rw h refl
 least_kept (None ∷ slots) links n h rise = least_kept slots links n h rise
 least_kept (Some x ∷ slots) links n h rise =
     let rise : IsRising (h.0 ++ x ∷ h.1) n = rw (← h.2) rise in
-    rw h.2 (least-cons x.lid (lids (links_in slots))
-    ∙ ap (λ (o : Option ℕ). Some (least_with x.lid o)) (least_kept slots (h.0 ++ h.1) n h.3 (rising-between h.0 x h.1 n rise))
+    rw h.2 (least_cons x.lid (lids (links_in slots))
+    ∙ ap (λ (o : Option ℕ). Some (least_with x.lid o)) (least_kept slots (h.0 ++ h.1) n h.3 (rising_between h.0 x h.1 n rise))
     ∙ sym (first_least h.0 x h.1 n rise))
 
 pub least_found : (test : Link → Bool) (key : ℕ) (slots : List (Option Link)) (links : List Link) (n : ℕ)
@@ -136,8 +136,8 @@ pub least_found : (test : Link → Bool) (key : ℕ) (slots : List (Option Link)
     → reduce min (map (λ entry. entry.1.lid) (filter (λ entry. test entry.1) (entries_from key slots)))
     ≡ find (λ lid. true) (map (λ link. link.lid) (filter test links))
 least_found test key slots links n h rise =
-    ap (reduce min) (filter-entries test key slots ∙ sym (ap lids (links-keep test slots)))
-    ∙ least_kept (map (keep test) slots) (filter test links) n (kept-filter test slots links h) (rising-filter test links n rise)
+    ap (reduce min) (filter_entries test key slots ∙ sym (ap lids (links_keep test slots)))
+    ∙ least_kept (map (keep test) slots) (filter test links) n (kept_filter test slots links h) (rising_filter test links n rise)
 
 -- ---- the first link that passes a test
 

@@ -2,7 +2,7 @@
 use Rattle.std.proofs.Common.{◌≡◌, ℕ, eqb, List, [], ◌∷◌, length, Option, Some, None, refl, sym, ap, ◌∙◌, arith, inl, inr, suc}
 use Rattle.std.proofs.lemmas.Bool.{cases_Bool, eqb-true}
 use Rattle.sv_links.specs.Waiting.{WaitAct, Entered, Again, Left, waits, arrival, enters, IsOldest}
-use Rattle.sv_links.proofs.Queues.{newest-le}
+use Rattle.sv_links.proofs.Queues.{newest_le}
 
 -- two that came at one time are one
 same_arrival : (acts : List WaitAct) (c d : ℕ) → (arrival c acts ≡ 0 → ⊥) → arrival c acts ≡ arrival d acts → c ≡ d
@@ -13,11 +13,11 @@ same_arrival (Entered conn link wait last ∷ acts) c d came same = elim (cases_
   | inl e ↦ elim (cases_Bool (eqb conn d)) [
     | inl k ↦ sym (eqb-true conn c e) ∙ eqb-true conn d k
     | inr k ↦ let same : suc (length acts) ≡ arrival d acts = rw (e, k) at same in
-        absurd (omega (arith, same, newest-le (enters d) acts))
+        absurd (omega (arith, same, newest_le (enters d) acts))
   ]
   | inr e ↦ elim (cases_Bool (eqb conn d)) [
     | inl k ↦ let same : arrival c acts ≡ suc (length acts) = rw (e, k) at same in
-        absurd (omega (arith, same, newest-le (enters c) acts))
+        absurd (omega (arith, same, newest_le (enters c) acts))
     | inr k ↦ same_arrival acts c d (rw e at came) (rw (e, k) at same)
   ]
 ]

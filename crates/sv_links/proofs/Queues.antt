@@ -32,214 +32,214 @@ turned a b e = ne_eqb b a (λ same. eqb-false a b e (sym same))
 abbrev other_than : ℕ → Entry → Bool
 other_than conn x = not (eqb x.conn conn)
 
-pub once-filter : (p : Entry → Bool) (xs : List Entry) → IsOnce xs → IsOnce (filter p xs)
-once-filter p [] h = tt
-once-filter p (x ∷ xs) h = cond_both (p x) (x ∷ filter p xs) (filter p xs) IsOnce
-    (λ _. (all_filter (λ y. y.conn ≢ x.conn) p xs h.0, once-filter p xs h.1)) (λ _. once-filter p xs h.1)
+pub once_filter : (p : Entry → Bool) (xs : List Entry) → IsOnce xs → IsOnce (filter p xs)
+once_filter p [] h = tt
+once_filter p (x ∷ xs) h = cond_both (p x) (x ∷ filter p xs) (filter p xs) IsOnce
+    (λ _. (all_filter (λ y. y.conn ≢ x.conn) p xs h.0, once_filter p xs h.1)) (λ _. once_filter p xs h.1)
 
-pub below-filter : (p : Entry → Bool) (n : ℕ) (xs : List Entry) → IsBelow n xs → IsBelow n (filter p xs)
-below-filter p n xs h = all_filter (λ x. x.conn < n) p xs h
+pub below_filter : (p : Entry → Bool) (n : ℕ) (xs : List Entry) → IsBelow n xs → IsBelow n (filter p xs)
+below_filter p n xs h = all_filter (λ x. x.conn < n) p xs h
 
-each-left : (conn : ℕ) (acts : List WaitAct) (xs : List Entry) → AllByRecursion (IsEntry acts) xs
+each_left : (conn : ℕ) (acts : List WaitAct) (xs : List Entry) → AllByRecursion (IsEntry acts) xs
     → AllByRecursion (IsEntry (Left conn ∷ acts)) (filter (other_than conn) xs)
-each-left conn acts [] h = tt
-each-left conn acts (x ∷ xs) h = elim (cases_Bool (eqb x.conn conn)) [
-  | inl e ↦ rw e (each-left conn acts xs h.1)
-  | inr e ↦ rw e ((rw (turned x.conn conn e) h.0.0, h.0.1, h.0.2), each-left conn acts xs h.1)
+each_left conn acts [] h = tt
+each_left conn acts (x ∷ xs) h = elim (cases_Bool (eqb x.conn conn)) [
+  | inl e ↦ rw e (each_left conn acts xs h.1)
+  | inr e ↦ rw e ((rw (turned x.conn conn e) h.0.0, h.0.1, h.0.2), each_left conn acts xs h.1)
 ]
 
-ordered-left : (conn : ℕ) (acts : List WaitAct) (xs : List Entry) → IsOrdered acts xs
+ordered_left : (conn : ℕ) (acts : List WaitAct) (xs : List Entry) → IsOrdered acts xs
     → IsOrdered (Left conn ∷ acts) (filter (other_than conn) xs)
-ordered-left conn acts [] h = tt
-ordered-left conn acts (x ∷ xs) h =
+ordered_left conn acts [] h = tt
+ordered_left conn acts (x ∷ xs) h =
     cond_both (other_than conn x) (x ∷ filter (other_than conn) xs) (filter (other_than conn) xs) (IsOrdered (Left conn ∷ acts))
-    (λ _. (all_filter (λ y. arrival x.conn acts < arrival y.conn acts) (other_than conn) xs h.0, ordered-left conn acts xs h.1))
-    (λ _. ordered-left conn acts xs h.1)
+    (λ _. (all_filter (λ y. arrival x.conn acts < arrival y.conn acts) (other_than conn) xs h.0, ordered_left conn acts xs h.1))
+    (λ _. ordered_left conn acts xs h.1)
 
-pub free-without : (conn : ℕ) (xs : List Entry) → IsFree conn (without conn xs)
-free-without conn [] = tt
-free-without conn (x ∷ xs) = cond_both (other_than conn x) (x ∷ without conn xs) (without conn xs) (IsFree conn)
-    (λ e. (λ same. true≢false (sym e ∙ rw (eq-eqb x.conn conn same) refl), free-without conn xs)) (λ _. free-without conn xs)
+pub free_without : (conn : ℕ) (xs : List Entry) → IsFree conn (without conn xs)
+free_without conn [] = tt
+free_without conn (x ∷ xs) = cond_both (other_than conn x) (x ∷ without conn xs) (without conn xs) (IsFree conn)
+    (λ e. (λ same. true≢false (sym e ∙ rw (eq-eqb x.conn conn same) refl), free_without conn xs)) (λ _. free_without conn xs)
 
-ordered-filter : (p : Entry → Bool) (acts : List WaitAct) (xs : List Entry) → IsOrdered acts xs → IsOrdered acts (filter p xs)
-ordered-filter p acts [] h = tt
-ordered-filter p acts (x ∷ xs) h = cond_both (p x) (x ∷ filter p xs) (filter p xs) (IsOrdered acts)
-    (λ _. (all_filter (λ y. arrival x.conn acts < arrival y.conn acts) p xs h.0, ordered-filter p acts xs h.1))
-    (λ _. ordered-filter p acts xs h.1)
+ordered_filter : (p : Entry → Bool) (acts : List WaitAct) (xs : List Entry) → IsOrdered acts xs → IsOrdered acts (filter p xs)
+ordered_filter p acts [] h = tt
+ordered_filter p acts (x ∷ xs) h = cond_both (p x) (x ∷ filter p xs) (filter p xs) (IsOrdered acts)
+    (λ _. (all_filter (λ y. arrival x.conn acts < arrival y.conn acts) p xs h.0, ordered_filter p acts xs h.1))
+    (λ _. ordered_filter p acts xs h.1)
 
-find-left : (conn c : ℕ) (xs : List Entry) → entry_of c (filter (other_than conn) xs) ≡ cond (eqb conn c) None (entry_of c xs)
-find-left conn c [] = elim (cases_Bool (eqb conn c)) [ inl e ↦ rw e refl | inr e ↦ rw e refl ]
-find-left conn c (x ∷ xs) = elim (cases_Bool (eqb x.conn conn)) [
+find_left : (conn c : ℕ) (xs : List Entry) → entry_of c (filter (other_than conn) xs) ≡ cond (eqb conn c) None (entry_of c xs)
+find_left conn c [] = elim (cases_Bool (eqb conn c)) [ inl e ↦ rw e refl | inr e ↦ rw e refl ]
+find_left conn c (x ∷ xs) = elim (cases_Bool (eqb x.conn conn)) [
   | inl e ↦ elim (cases_Bool (eqb conn c)) [
-    | inl k ↦ rw (e, k) (find-left conn c xs ∙ rw k refl)
-    | inr k ↦ let same : x.conn ≡ conn = eqb-true x.conn conn e in rw (e, k, same, k) (find-left conn c xs ∙ rw k refl)
+    | inl k ↦ rw (e, k) (find_left conn c xs ∙ rw k refl)
+    | inr k ↦ let same : x.conn ≡ conn = eqb-true x.conn conn e in rw (e, k, same, k) (find_left conn c xs ∙ rw k refl)
   ]
   | inr e ↦ elim (cases_Bool (eqb x.conn c)) [
     | inl k ↦ let apart : eqb conn c ≡ false = rw (← eqb-true x.conn c k) (turned x.conn conn e) in rw (e, k, apart) refl
-    | inr k ↦ rw (e, k) (find-left conn c xs)
+    | inr k ↦ rw (e, k) (find_left conn c xs)
   ]
 ]
 
-all-left : (conn c : ℕ) (acts : List WaitAct) (xs : List Entry) → waits c acts ≡ option_map (λ x. x.wait) (entry_of c xs)
+all_left : (conn c : ℕ) (acts : List WaitAct) (xs : List Entry) → waits c acts ≡ option_map (λ x. x.wait) (entry_of c xs)
     → waits c (Left conn ∷ acts) ≡ option_map (λ x. x.wait) (entry_of c (filter (other_than conn) xs))
-all-left conn c acts xs h = rw (find-left conn c xs) (elim (cases_Bool (eqb conn c)) [ inl e ↦ rw e refl | inr e ↦ rw e h ])
+all_left conn c acts xs h = rw (find_left conn c xs) (elim (cases_Bool (eqb conn c)) [ inl e ↦ rw e refl | inr e ↦ rw e h ])
 
-pub IsQueue-left : (conn : ℕ) (acts : List WaitAct) (xs : List Entry) → IsQueue xs acts
+pub is_queue_left : (conn : ℕ) (acts : List WaitAct) (xs : List Entry) → IsQueue xs acts
     → IsQueue (filter (other_than conn) xs) (Left conn ∷ acts)
-IsQueue-left conn acts xs is = record {
-  each = each-left conn acts xs is.each;
-  ordered = ordered-left conn acts xs is.ordered;
-  all = λ c. all-left conn c acts xs (is.all c);
+is_queue_left conn acts xs is = record {
+  each = each_left conn acts xs is.each;
+  ordered = ordered_left conn acts xs is.ordered;
+  all = λ c. all_left conn c acts xs (is.all c);
 }
 
 -- ---- an entry more
 
-pub newest-le : (p : List WaitAct → Bool) (acts : List WaitAct) → length (newest p acts) ≤ length acts
-newest-le p [] = omega arith
-newest-le p (act ∷ acts) = cond_both (p (act ∷ acts)) (act ∷ acts) (newest p acts) (λ found. length found ≤ suc (length acts))
-    (λ _. omega arith) (λ _. omega (arith, newest-le p acts))
+pub newest_le : (p : List WaitAct → Bool) (acts : List WaitAct) → length (newest p acts) ≤ length acts
+newest_le p [] = omega arith
+newest_le p (act ∷ acts) = cond_both (p (act ∷ acts)) (act ∷ acts) (newest p acts) (λ found. length found ≤ suc (length acts))
+    (λ _. omega arith) (λ _. omega (arith, newest_le p acts))
 
 abbrev acts_with : Entry → List WaitAct → List WaitAct
 acts_with entry acts = Entered entry.conn entry.lid entry.wait entry.deadline ∷ acts
 
-IsEntry-entered : (entry : Entry) (acts : List WaitAct) (x : Entry) → x.conn ≢ entry.conn → IsEntry acts x
+is_entry_entered : (entry : Entry) (acts : List WaitAct) (x : Entry) → x.conn ≢ entry.conn → IsEntry acts x
     → IsEntry (acts_with entry acts) x
-IsEntry-entered entry acts x apart h = rw (ne_eqb entry.conn x.conn (λ e. apart (sym e))) h
+is_entry_entered entry acts x apart h = rw (ne_eqb entry.conn x.conn (λ e. apart (sym e))) h
 
-IsEntry-new : (entry : Entry) (acts : List WaitAct) → IsEntry (acts_with entry acts) entry
-IsEntry-new entry acts = rw (eq-eqb entry.conn entry.conn refl) (refl, refl, refl)
+is_entry_new : (entry : Entry) (acts : List WaitAct) → IsEntry (acts_with entry acts) entry
+is_entry_new entry acts = rw (eq-eqb entry.conn entry.conn refl) (refl, refl, refl)
 
-arrival-entered : (entry : Entry) (acts : List WaitAct) (x : Entry) → x.conn ≢ entry.conn
+arrival_entered : (entry : Entry) (acts : List WaitAct) (x : Entry) → x.conn ≢ entry.conn
     → arrival x.conn (acts_with entry acts) ≡ arrival x.conn acts
-arrival-entered entry acts x apart = rw (ne_eqb entry.conn x.conn (λ e. apart (sym e))) refl
+arrival_entered entry acts x apart = rw (ne_eqb entry.conn x.conn (λ e. apart (sym e))) refl
 
-arrival-new : (entry : Entry) (acts : List WaitAct) → arrival entry.conn (acts_with entry acts) ≡ length acts + 1
-arrival-new entry acts = rw (eq-eqb entry.conn entry.conn refl) (omega arith)
+arrival_new : (entry : Entry) (acts : List WaitAct) → arrival entry.conn (acts_with entry acts) ≡ length acts + 1
+arrival_new entry acts = rw (eq-eqb entry.conn entry.conn refl) (omega arith)
 
 newer : (entry : Entry) (acts : List WaitAct) (x : Entry) → x.conn ≢ entry.conn
     → arrival x.conn (acts_with entry acts) < arrival entry.conn (acts_with entry acts)
-newer entry acts x apart = rw (arrival-entered entry acts x apart, arrival-new entry acts) (omega (arith, newest-le (enters x.conn) acts))
+newer entry acts x apart = rw (arrival_entered entry acts x apart, arrival_new entry acts) (omega (arith, newest_le (enters x.conn) acts))
 
-ordered-entered : (entry : Entry) (acts : List WaitAct) (xs : List Entry) → IsFree entry.conn xs → IsOrdered acts xs
+ordered_entered : (entry : Entry) (acts : List WaitAct) (xs : List Entry) → IsFree entry.conn xs → IsOrdered acts xs
     → IsOrdered (acts_with entry acts) (xs ++ entry ∷ [])
-ordered-entered entry acts [] free h = (tt, tt)
-ordered-entered entry acts (x ∷ xs) free h = (
+ordered_entered entry acts [] free h = (tt, tt)
+ordered_entered entry acts (x ∷ xs) free h = (
   all_push (λ y. arrival x.conn (acts_with entry acts) < arrival y.conn (acts_with entry acts)) xs entry
       (both (λ y. y.conn ≢ entry.conn) (λ y. arrival x.conn acts < arrival y.conn acts)
       (λ y. arrival x.conn (acts_with entry acts) < arrival y.conn (acts_with entry acts))
-      (λ y apart lt. rw (arrival-entered entry acts x free.0, arrival-entered entry acts y apart) lt) xs free.1 h.0)
+      (λ y apart lt. rw (arrival_entered entry acts x free.0, arrival_entered entry acts y apart) lt) xs free.1 h.0)
       (newer entry acts x free.0),
-  ordered-entered entry acts xs free.1 h.1,
+  ordered_entered entry acts xs free.1 h.1,
 )
 
-find-entered : (entry : Entry) (c : ℕ) (xs : List Entry) → IsFree entry.conn xs
+find_entered : (entry : Entry) (c : ℕ) (xs : List Entry) → IsFree entry.conn xs
     → entry_of c (xs ++ entry ∷ []) ≡ cond (eqb entry.conn c) (Some entry) (entry_of c xs)
-find-entered entry c [] free = refl
-find-entered entry c (x ∷ xs) free = elim (cases_Bool (eqb x.conn c)) [
+find_entered entry c [] free = refl
+find_entered entry c (x ∷ xs) free = elim (cases_Bool (eqb x.conn c)) [
   | inl k ↦ let apart : eqb entry.conn c ≡ false = ne_eqb entry.conn c (λ e. free.0 (eqb-true x.conn c k ∙ sym e)) in rw (k, apart) refl
-  | inr k ↦ rw k (find-entered entry c xs free.1)
+  | inr k ↦ rw k (find_entered entry c xs free.1)
 ]
 
-all-entered : (entry : Entry) (c : ℕ) (acts : List WaitAct) (xs : List Entry)
+all_entered : (entry : Entry) (c : ℕ) (acts : List WaitAct) (xs : List Entry)
     → waits c acts ≡ option_map (λ x. x.wait) (entry_of c xs)
     → waits c (acts_with entry acts) ≡ option_map (λ x. x.wait) (entry_of c (without entry.conn xs ++ entry ∷ []))
-all-entered entry c acts xs h =
-    rw (find-entered entry c (without entry.conn xs) (free-without entry.conn xs), find-left entry.conn c xs)
+all_entered entry c acts xs h =
+    rw (find_entered entry c (without entry.conn xs) (free_without entry.conn xs), find_left entry.conn c xs)
     (elim (cases_Bool (eqb entry.conn c)) [ inl e ↦ rw e refl | inr e ↦ rw e h ])
 
 -- an entry more, behind those of other connections
-pub IsQueue-entered : (entry : Entry) (acts : List WaitAct) (xs : List Entry) → IsQueue xs acts
+pub is_queue_entered : (entry : Entry) (acts : List WaitAct) (xs : List Entry) → IsQueue xs acts
     → IsQueue (without entry.conn xs ++ entry ∷ []) (acts_with entry acts)
-IsQueue-entered entry acts xs is = record {
+is_queue_entered entry acts xs is = record {
   each = all_push (IsEntry (acts_with entry acts)) (without entry.conn xs) entry
-      (both (λ x. x.conn ≢ entry.conn) (IsEntry acts) (IsEntry (acts_with entry acts)) (IsEntry-entered entry acts) (without entry.conn xs)
-      (free-without entry.conn xs) (all_filter (IsEntry acts) (other_than entry.conn) xs is.each)) (IsEntry-new entry acts);
-  ordered = ordered-entered entry acts (without entry.conn xs) (free-without entry.conn xs)
-      (ordered-filter (other_than entry.conn) acts xs is.ordered);
-  all = λ c. all-entered entry c acts xs (is.all c);
+      (both (λ x. x.conn ≢ entry.conn) (IsEntry acts) (IsEntry (acts_with entry acts)) (is_entry_entered entry acts) (without entry.conn xs)
+      (free_without entry.conn xs) (all_filter (IsEntry acts) (other_than entry.conn) xs is.each)) (is_entry_new entry acts);
+  ordered = ordered_entered entry acts (without entry.conn xs) (free_without entry.conn xs)
+      (ordered_filter (other_than entry.conn) acts xs is.ordered);
+  all = λ c. all_entered entry c acts xs (is.all c);
 }
 
-pub once-push : (entry : Entry) (xs : List Entry) → IsFree entry.conn xs → IsOnce xs → IsOnce (xs ++ entry ∷ [])
-once-push entry [] free h = (tt, tt)
-once-push entry (x ∷ xs) free h =
-    (all_push (λ y. y.conn ≢ x.conn) xs entry h.0 (λ e. free.0 (sym e)), once-push entry xs free.1 h.1)
+pub once_push : (entry : Entry) (xs : List Entry) → IsFree entry.conn xs → IsOnce xs → IsOnce (xs ++ entry ∷ [])
+once_push entry [] free h = (tt, tt)
+once_push entry (x ∷ xs) free h =
+    (all_push (λ y. y.conn ≢ x.conn) xs entry h.0 (λ e. free.0 (sym e)), once_push entry xs free.1 h.1)
 
-pub below-push : (entry : Entry) (n : ℕ) (xs : List Entry) → entry.conn < n → IsBelow n xs → IsBelow n (xs ++ entry ∷ [])
-below-push entry n xs lt h = all_push (λ x. x.conn < n) xs entry h lt
+pub below_push : (entry : Entry) (n : ℕ) (xs : List Entry) → entry.conn < n → IsBelow n xs → IsBelow n (xs ++ entry ∷ [])
+below_push entry n xs lt h = all_push (λ x. x.conn < n) xs entry h lt
 
 -- ---- an entry that waits anew
 
-conn-anew : (conn : ℕ) (wait : Wait) (last : Option ℕ) (x : Entry) → (anew conn wait last x).conn ≡ x.conn
-conn-anew conn wait last x = elim (cases_Bool (eqb x.conn conn)) [ inl e ↦ rw e refl | inr e ↦ rw e refl ]
+conn_anew : (conn : ℕ) (wait : Wait) (last : Option ℕ) (x : Entry) → (anew conn wait last x).conn ≡ x.conn
+conn_anew conn wait last x = elim (cases_Bool (eqb x.conn conn)) [ inl e ↦ rw e refl | inr e ↦ rw e refl ]
 
 -- what speaks of the connection alone
 all_anew : (P : ℕ → Type 0) (conn : ℕ) (wait : Wait) (last : Option ℕ) (xs : List Entry) → AllByRecursion (λ x. P x.conn) xs
     → AllByRecursion (λ x. P x.conn) (map (anew conn wait last) xs)
 all_anew P conn wait last [] h = tt
-all_anew P conn wait last (x ∷ xs) h = (rw (conn-anew conn wait last x) h.0, all_anew P conn wait last xs h.1)
+all_anew P conn wait last (x ∷ xs) h = (rw (conn_anew conn wait last x) h.0, all_anew P conn wait last xs h.1)
 
-pub once-anew : (conn : ℕ) (wait : Wait) (last : Option ℕ) (xs : List Entry) → IsOnce xs → IsOnce (map (anew conn wait last) xs)
-once-anew conn wait last [] h = tt
-once-anew conn wait last (x ∷ xs) h =
-    (rw (conn-anew conn wait last x) (all_anew (λ c. c ≢ x.conn) conn wait last xs h.0), once-anew conn wait last xs h.1)
+pub once_anew : (conn : ℕ) (wait : Wait) (last : Option ℕ) (xs : List Entry) → IsOnce xs → IsOnce (map (anew conn wait last) xs)
+once_anew conn wait last [] h = tt
+once_anew conn wait last (x ∷ xs) h =
+    (rw (conn_anew conn wait last x) (all_anew (λ c. c ≢ x.conn) conn wait last xs h.0), once_anew conn wait last xs h.1)
 
-pub below-anew : (conn : ℕ) (wait : Wait) (last : Option ℕ) (n : ℕ) (xs : List Entry) → IsBelow n xs
+pub below_anew : (conn : ℕ) (wait : Wait) (last : Option ℕ) (n : ℕ) (xs : List Entry) → IsBelow n xs
     → IsBelow n (map (anew conn wait last) xs)
-below-anew conn wait last n xs h = all_anew (λ c. c < n) conn wait last xs h
+below_anew conn wait last n xs h = all_anew (λ c. c < n) conn wait last xs h
 
-each-anew : (conn : ℕ) (wait : Wait) (last : Option ℕ) (acts : List WaitAct) (xs : List Entry) → AllByRecursion (IsEntry acts) xs
+each_anew : (conn : ℕ) (wait : Wait) (last : Option ℕ) (acts : List WaitAct) (xs : List Entry) → AllByRecursion (IsEntry acts) xs
     → AllByRecursion (IsEntry (Again conn wait last ∷ acts)) (map (anew conn wait last) xs)
-each-anew conn wait last acts [] h = tt
-each-anew conn wait last acts (x ∷ xs) h = (
+each_anew conn wait last acts [] h = tt
+each_anew conn wait last acts (x ∷ xs) h = (
   cond_both (eqb x.conn conn) (record x { wait = wait; deadline = last }) x (IsEntry (Again conn wait last ∷ acts))
       (λ e. let same : eqb conn x.conn ≡ true = eq-eqb conn x.conn (sym (eqb-true x.conn conn e)) in
       (rw same (ap (option_map (λ before. wait)) h.0.0), rw same refl, h.0.2))
       (λ e. let apart : eqb conn x.conn ≡ false = turned x.conn conn e in (rw apart h.0.0, rw apart h.0.1, h.0.2)),
-  each-anew conn wait last acts xs h.1,
+  each_anew conn wait last acts xs h.1,
 )
 
-ordered-anew : (conn : ℕ) (wait : Wait) (last : Option ℕ) (acts : List WaitAct) (xs : List Entry) → IsOrdered acts xs
+ordered_anew : (conn : ℕ) (wait : Wait) (last : Option ℕ) (acts : List WaitAct) (xs : List Entry) → IsOrdered acts xs
     → IsOrdered (Again conn wait last ∷ acts) (map (anew conn wait last) xs)
-ordered-anew conn wait last acts [] h = tt
-ordered-anew conn wait last acts (x ∷ xs) h = (
-  subst (λ c. AllByRecursion (λ y. arrival c acts < arrival y.conn acts) (map (anew conn wait last) xs)) (sym (conn-anew conn wait last x))
+ordered_anew conn wait last acts [] h = tt
+ordered_anew conn wait last acts (x ∷ xs) h = (
+  subst (λ c. AllByRecursion (λ y. arrival c acts < arrival y.conn acts) (map (anew conn wait last) xs)) (sym (conn_anew conn wait last x))
       (all_anew (λ c. arrival x.conn acts < arrival c acts) conn wait last xs h.0),
-  ordered-anew conn wait last acts xs h.1,
+  ordered_anew conn wait last acts xs h.1,
 )
 
-find-anew : (conn : ℕ) (wait : Wait) (last : Option ℕ) (c : ℕ) (xs : List Entry)
+find_anew : (conn : ℕ) (wait : Wait) (last : Option ℕ) (c : ℕ) (xs : List Entry)
     → option_map (λ x. x.wait) (entry_of c (map (anew conn wait last) xs))
     ≡ cond (eqb conn c) (option_map (λ (x : Wait). wait) (option_map (λ x. x.wait) (entry_of c xs)))
     (option_map (λ x. x.wait) (entry_of c xs))
-find-anew conn wait last c [] = elim (cases_Bool (eqb conn c)) [ inl e ↦ rw e refl | inr e ↦ rw e refl ]
-find-anew conn wait last c (x ∷ xs) = elim (cases_Bool (eqb x.conn c)) [
+find_anew conn wait last c [] = elim (cases_Bool (eqb conn c)) [ inl e ↦ rw e refl | inr e ↦ rw e refl ]
+find_anew conn wait last c (x ∷ xs) = elim (cases_Bool (eqb x.conn c)) [
   | inl k ↦ elim (cases_Bool (eqb x.conn conn)) [
     | inl e ↦ let same : eqb conn c ≡ true = eq-eqb conn c (sym (eqb-true x.conn conn e) ∙ eqb-true x.conn c k) in rw (e, k, same) refl
     | inr e ↦ let apart : eqb conn c ≡ false = rw (← eqb-true x.conn c k) (turned x.conn conn e) in rw (e, k, apart) refl
   ]
-  | inr k ↦ rw (conn-anew conn wait last x, k) (find-anew conn wait last c xs)
+  | inr k ↦ rw (conn_anew conn wait last x, k) (find_anew conn wait last c xs)
 ]
 
-all-anew : (conn : ℕ) (wait : Wait) (last : Option ℕ) (c : ℕ) (acts : List WaitAct) (xs : List Entry)
+all_of_anew : (conn : ℕ) (wait : Wait) (last : Option ℕ) (c : ℕ) (acts : List WaitAct) (xs : List Entry)
     → waits c acts ≡ option_map (λ x. x.wait) (entry_of c xs)
     → waits c (Again conn wait last ∷ acts) ≡ option_map (λ x. x.wait) (entry_of c (map (anew conn wait last) xs))
-all-anew conn wait last c acts xs h = rw (find-anew conn wait last c xs, ← h) refl
+all_of_anew conn wait last c acts xs h = rw (find_anew conn wait last c xs, ← h) refl
 
-pub IsQueue-anew : (conn : ℕ) (wait : Wait) (last : Option ℕ) (acts : List WaitAct) (xs : List Entry)
+pub is_queue_anew : (conn : ℕ) (wait : Wait) (last : Option ℕ) (acts : List WaitAct) (xs : List Entry)
     → IsQueue xs acts → IsQueue (map (anew conn wait last) xs) (Again conn wait last ∷ acts)
-IsQueue-anew conn wait last acts xs is = record {
-  each = each-anew conn wait last acts xs is.each;
-  ordered = ordered-anew conn wait last acts xs is.ordered;
-  all = λ c. all-anew conn wait last c acts xs (is.all c);
+is_queue_anew conn wait last acts xs is = record {
+  each = each_anew conn wait last acts xs is.each;
+  ordered = ordered_anew conn wait last acts xs is.ordered;
+  all = λ c. all_of_anew conn wait last c acts xs (is.all c);
 }
 
 -- ---- a connection of which nothing is kept
 
-pub free-from_find : (conn : ℕ) (xs : List Entry) → entry_of conn xs ≡ None → IsFree conn xs
-free-from_find conn [] h = tt
-free-from_find conn (x ∷ xs) h = elim (cases_Bool (eqb x.conn conn)) [
+pub free_from_find : (conn : ℕ) (xs : List Entry) → entry_of conn xs ≡ None → IsFree conn xs
+free_from_find conn [] h = tt
+free_from_find conn (x ∷ xs) h = elim (cases_Bool (eqb x.conn conn)) [
   | inl e ↦ absurd (true≢false (ap is_some (rw e at h)))
-  | inr e ↦ (eqb-false x.conn conn e, free-from_find conn xs (rw e at h))
+  | inr e ↦ (eqb-false x.conn conn e, free_from_find conn xs (rw e at h))
 ]
 
 pub anew_none : (conn : ℕ) (wait : Wait) (last : Option ℕ) (xs : List Entry) → IsFree conn xs → map (anew conn wait last) xs ≡ xs
@@ -270,7 +270,7 @@ pub at_most : (n : ℕ) (xs : List Entry) → IsOnce xs → IsBelow n xs → len
 at_most zero [] once below = omega arith
 at_most zero (x ∷ xs) once below = absurd (omega (arith, below.0))
 at_most (suc n) xs once below =
-    let rest = at_most n (filter (other_than n) xs) (once-filter (other_than n) xs once) (below_less n xs below) in
+    let rest = at_most n (filter (other_than n) xs) (once_filter (other_than n) xs once) (below_less n xs below) in
     omega (arith, rest, one_less n xs once)
 
 -- a connection that is free is one of them, so that there is room
@@ -316,10 +316,10 @@ first_oldest acts IsSuch test sound complete (x ∷ xs) each ordered among = eli
   ]))
 ]
 
-pub IsOldest-find : (acts : List WaitAct) (IsSuch : ℕ → Type 0) (test : Entry → Bool) (xs : List Entry)
+pub is_oldest_find : (acts : List WaitAct) (IsSuch : ℕ → Type 0) (test : Entry → Bool) (xs : List Entry)
     → ((x : Entry) → IsEntry acts x → test x ≡ true → IsSuch x.conn) → ((x : Entry) → IsEntry acts x → IsSuch x.conn → test x ≡ true)
     → ((c : ℕ) → IsSuch c → waits c acts ≡ None → ⊥) → IsQueue xs acts → IsOldest acts IsSuch (option_map (λ x. x.conn) (find test xs))
-IsOldest-find acts IsSuch test xs sound complete does is = first_oldest acts IsSuch test sound complete xs is.each is.ordered
+is_oldest_find acts IsSuch test xs sound complete does is = first_oldest acts IsSuch test sound complete xs is.each is.ordered
     (λ c such. among_from_find c xs (λ none. does c such (is.all c ∙ ap (option_map (λ x. x.wait)) none)))
 
 there : (holder : Option ℕ) (can_write can_read : Bool) (acts : List WaitAct) (x : Entry) → IsEntry acts x
@@ -331,7 +331,7 @@ pub oldest_able : (holder : Option ℕ) (can_write can_read : Bool) (acts : List
     → IsOldest acts (IsAble holder can_write can_read acts)
     (option_map (λ x. x.conn) (find (λ x. is_there holder can_write can_read x.lid (Some x.wait)) xs))
 oldest_able holder can_write can_read acts xs is =
-    IsOldest-find acts (IsAble holder can_write can_read acts) (λ x. is_there holder can_write can_read x.lid (Some x.wait)) xs
+    is_oldest_find acts (IsAble holder can_write can_read acts) (λ x. is_there holder can_write can_read x.lid (Some x.wait)) xs
     (λ x each e. there holder can_write can_read acts x each ∙ e) (λ x each such. sym (there holder can_write can_read acts x each) ∙ such)
     (λ c such none. false≢true (rw none at such)) is
 
@@ -344,7 +344,7 @@ some≢none wait o some none = true≢false (ap is_some (sym some ∙ none))
 
 pub oldest_expired : (clock : ℕ) (acts : List WaitAct) (xs : List Entry) → IsQueue xs acts
     → IsOldest acts (IsExpired clock acts) (option_map (λ x. x.conn) (find (λ x. is_past clock x.deadline) xs))
-oldest_expired clock acts xs is = IsOldest-find acts (IsExpired clock acts) (λ x. is_past clock x.deadline) xs
+oldest_expired clock acts xs is = is_oldest_find acts (IsExpired clock acts) (λ x. is_past clock x.deadline) xs
     (λ x each e. let found = past clock x.deadline e in (x.wait, found.0, each.0, each.1 ∙ found.1, found.2))
     (λ x each such. rw (sym each.1 ∙ such.3) (le-leb such.1 clock such.4))
     (λ c such none. some≢none such.0 (waits c acts) such.2 none) is

@@ -21,28 +21,28 @@ IsAt a link = (x : Enabled) → link ≡ Some x → x.lid ≡ a
 some_is : (x y : Enabled) → Some x ≡ Some y → x ≡ y
 some_is x y e = cc
 
-pub asked-at : (lid : ℕ) (acts : List ChannelAct) → IsAt lid (srq_enabled lid acts)
-asked-at lid [] x h = absurd cc
-asked-at lid (SrqEnabled other conn handle ∷ acts) x h = elim (cases_Bool (eqb other lid)) [
+pub asked_at : (lid : ℕ) (acts : List ChannelAct) → IsAt lid (srq_enabled lid acts)
+asked_at lid [] x h = absurd cc
+asked_at lid (SrqEnabled other conn handle ∷ acts) x h = elim (cases_Bool (eqb other lid)) [
   | inl e ↦
       let one : Enabled = record { lid = lid; conn = conn; handle = handle } in
       ap (λ (link : Enabled). link.lid) (sym (some_is one x (rw e at h)))
-  | inr e ↦ asked-at lid acts x (rw e at h)
+  | inr e ↦ asked_at lid acts x (rw e at h)
 ]
-asked-at lid (SrqDisabled other ∷ acts) x h = elim (cases_Bool (eqb other lid)) [
+asked_at lid (SrqDisabled other ∷ acts) x h = elim (cases_Bool (eqb other lid)) [
   | inl e ↦ absurd (let none : None ≡ Some x = rw e at h in cc)
-  | inr e ↦ asked-at lid acts x (rw e at h)
+  | inr e ↦ asked_at lid acts x (rw e at h)
 ]
-asked-at lid (_ ∷ acts) x h = asked-at lid acts x h
+asked_at lid (_ ∷ acts) x h = asked_at lid acts x h
 
 -- none past all numbers asks
-asked-past : (lid : ℕ) (acts : List ChannelAct) → past acts ≤ lid → srq_enabled lid acts ≡ None
-asked-past lid [] h = refl
-asked-past lid (SrqEnabled other conn handle ∷ acts) h =
-    rw (ne_eqb other lid (λ e. absurd (omega (arith, e, h)))) (asked-past lid acts (omega (arith, h)))
-asked-past lid (SrqDisabled other ∷ acts) h = cond_both (eqb other lid) None (srq_enabled lid acts) (λ link. link ≡ None)
-    (λ _. refl) (λ _. asked-past lid acts h)
-asked-past lid (_ ∷ acts) h = asked-past lid acts h
+asked_past : (lid : ℕ) (acts : List ChannelAct) → past acts ≤ lid → srq_enabled lid acts ≡ None
+asked_past lid [] h = refl
+asked_past lid (SrqEnabled other conn handle ∷ acts) h =
+    rw (ne_eqb other lid (λ e. absurd (omega (arith, e, h)))) (asked_past lid acts (omega (arith, h)))
+asked_past lid (SrqDisabled other ∷ acts) h = cond_both (eqb other lid) None (srq_enabled lid acts) (λ link. link ≡ None)
+    (λ _. refl) (λ _. asked_past lid acts h)
+asked_past lid (_ ∷ acts) h = asked_past lid acts h
 
 -- ---- they stand by rising number
 
@@ -54,7 +54,7 @@ all_behind k a (Some x) xs is lt h = (rw (is x refl) lt, h)
 behind : (k a n : ℕ) (acts : List ChannelAct) → k < a → AllByRecursion (λ x. k < x.lid) (among a n acts)
 behind k a zero acts lt = tt
 behind k a (suc n) acts lt =
-    all_behind k a (srq_enabled a acts) (among (a + 1) n acts) (asked-at a acts) lt (behind k (a + 1) n acts (omega (arith, lt)))
+    all_behind k a (srq_enabled a acts) (among (a + 1) n acts) (asked_at a acts) lt (behind k (a + 1) n acts (omega (arith, lt)))
 
 sorted_with : (a : ℕ) (first : Option Enabled) (xs : List Enabled) → IsAt a first → AllByRecursion (λ x. a < x.lid) xs → IsSorted xs
     → IsSorted (cons_option first xs)
@@ -64,11 +64,11 @@ sorted_with a (Some x) xs is h sorted = (rw (is x refl) h, sorted)
 sorted : (a n : ℕ) (acts : List ChannelAct) → IsSorted (among a n acts)
 sorted a zero acts = tt
 sorted a (suc n) acts =
-    sorted_with a (srq_enabled a acts) (among (a + 1) n acts) (asked-at a acts) (behind a (a + 1) n acts (omega arith)) (sorted (a
+    sorted_with a (srq_enabled a acts) (among (a + 1) n acts) (asked_at a acts) (behind a (a + 1) n acts (omega arith)) (sorted (a
     + 1) n acts)
 
-pub enabled-sorted : (acts : List ChannelAct) → IsSorted (enabled_links acts)
-enabled-sorted acts = sorted 0 (past acts) acts
+pub enabled_sorted : (acts : List ChannelAct) → IsSorted (enabled_links acts)
+enabled_sorted acts = sorted 0 (past acts) acts
 
 -- ---- a link asks no more
 
@@ -87,14 +87,14 @@ less lid a zero acts = refl
 less lid a (suc n) acts =
     let rest = among (a + 1) n acts in
     elim (cases_eq lid a) [
-      | inl e ↦ rw (eq-eqb lid a e) (less lid (a + 1) n acts ∙ without_it lid a (srq_enabled a acts) rest (asked-at a acts) e)
+      | inl e ↦ rw (eq-eqb lid a e) (less lid (a + 1) n acts ∙ without_it lid a (srq_enabled a acts) rest (asked_at a acts) e)
       | inr e ↦
           rw (ne_eqb lid a e) (ap (cons_option (srq_enabled a acts)) (less lid (a + 1) n acts)
-          ∙ with_other lid a (srq_enabled a acts) rest (asked-at a acts) e)
+          ∙ with_other lid a (srq_enabled a acts) rest (asked_at a acts) e)
     ]
 
-pub enabled-disabled : (lid : ℕ) (acts : List ChannelAct) → enabled_links (SrqDisabled lid ∷ acts) ≡ other_links lid (enabled_links acts)
-enabled-disabled lid acts = less lid 0 (past acts) acts
+pub enabled_disabled : (lid : ℕ) (acts : List ChannelAct) → enabled_links (SrqDisabled lid ∷ acts) ≡ other_links lid (enabled_links acts)
+enabled_disabled lid acts = less lid 0 (past acts) acts
 
 -- ---- a link asks
 
@@ -136,25 +136,25 @@ more link a zero acts le lt = absurd (omega (arith, le, lt))
 more link a (suc n) acts le lt = elim (cases_eq link.lid a) [
   | inl e ↦ subst (λ a. among a (suc n) (SrqEnabled link.lid link.conn link.handle ∷ acts) ≡ with_link link (among a (suc n) acts)) e
       (rw (eq-eqb link.lid link.lid refl) (ap (λ (xs : List Enabled). link ∷ xs) (same link (link.lid + 1) n acts (omega arith))
-      ∙ in_front link (srq_enabled link.lid acts) (among (link.lid + 1) n acts) (asked-at link.lid acts)
+      ∙ in_front link (srq_enabled link.lid acts) (among (link.lid + 1) n acts) (asked_at link.lid acts)
       (behind link.lid (link.lid + 1) n acts (omega arith))))
   | inr e ↦ rw (ne_eqb link.lid a e) (ap (cons_option (srq_enabled a acts))
       (more link (a + 1) n acts (omega (arith, e, le)) (omega (arith, lt)))
-      ∙ further link a (srq_enabled a acts) (among (a + 1) n acts) (asked-at a acts) (omega (arith, e, le)))
+      ∙ further link a (srq_enabled a acts) (among (a + 1) n acts) (asked_at a acts) (omega (arith, e, le)))
 ]
 
 -- more numbers bring no link more
 longer : (a n m : ℕ) (acts : List ChannelAct) → past acts ≤ a + n → n ≤ m → among a n acts ≡ among a m acts
 longer a zero zero acts all le = refl
 longer a zero (suc m) acts all le =
-    rw (asked-past a acts (omega (arith, all))) (longer (a + 1) zero m acts (omega (arith, all)) (omega arith))
+    rw (asked_past a acts (omega (arith, all))) (longer (a + 1) zero m acts (omega (arith, all)) (omega arith))
 longer a (suc n) zero acts all le = absurd (omega (arith, le))
 longer a (suc n) (suc m) acts all le =
     ap (cons_option (srq_enabled a acts)) (longer (a + 1) n m acts (omega (arith, all)) (omega (arith, le)))
 
-pub enabled-enabled : (link : Enabled) (acts : List ChannelAct)
+pub enabled_enabled : (link : Enabled) (acts : List ChannelAct)
     → enabled_links (SrqEnabled link.lid link.conn link.handle ∷ acts) ≡ with_link link (enabled_links acts)
-enabled-enabled link acts =
+enabled_enabled link acts =
     let n = max (link.lid + 1) (past acts) in
     more link 0 n acts (omega arith) (omega arith)
     ∙ ap (with_link link) (sym (longer 0 (past acts) n acts (omega arith) (omega arith)))

@@ -12,29 +12,29 @@ use Rattle.sv_links.specs.Limits.{max_calls}
 use Rattle.sv_links.specs.Request.{request}
 use Rattle.sv_links.specs.Channels.{calls_left, may_call, add_call}
 use Rattle.sv_links.specs.ChannelRepresentation.{Channel, IsQueued, left_in}
-use Rattle.sv_links.proofs.Left.{left-sizes, left-bytes, left-left, left-push}
+use Rattle.sv_links.proofs.Left.{left_sizes, left_bytes, left_left, left_push}
 use Rattle.sv_links.proofs.Requests.{request_is_some}
 
 -- bytes are taken
-pub IsQueued-taken : (old new : Channel) (before count : ℕ) (calls : List (List ℕ)) → new.made ≡ old.made
+pub is_queued_taken : (old new : Channel) (before count : ℕ) (calls : List (List ℕ)) → new.made ≡ old.made
     → new.sizes ≡ left_in count old.sizes → new.bytes ≡ drop count old.bytes → count ≤ length old.bytes
     → IsQueued old before calls → IsQueued new (before + count) calls
-IsQueued-taken old new before count calls made sizes bytes within is = (
+is_queued_taken old new before count calls made sizes bytes within is = (
   made ∙ is.0,
-  sizes ∙ ap (left_in count) is.1 ∙ sym (left-sizes count (calls_left before calls)) ∙ ap (map length) (left-left before count calls),
-  bytes ∙ ap (drop count) is.2 ∙ sym (left-bytes count (calls_left before calls)) ∙ ap concat (left-left before count calls),
-  omega (arith, within, ap length is.2, ap length (left-bytes before calls), length-drop before (concat calls), is.3),
+  sizes ∙ ap (left_in count) is.1 ∙ sym (left_sizes count (calls_left before calls)) ∙ ap (map length) (left_left before count calls),
+  bytes ∙ ap (drop count) is.2 ∙ sym (left_bytes count (calls_left before calls)) ∙ ap concat (left_left before count calls),
+  omega (arith, within, ap length is.2, ap length (left_bytes before calls), length-drop before (concat calls), is.3),
 )
 
 concat_push : (calls : List (List ℕ)) (call : List ℕ) → concat (calls ++ call ∷ []) ≡ concat calls ++ call
 concat_push calls call = concat-append calls (call ∷ []) ∙ ap (λ (t : List ℕ). concat calls ++ t) (append-nil call)
 
 -- a call is sent
-pub IsQueued-called : (old new : Channel) (count : ℕ) (calls : List (List ℕ)) (call : List ℕ) → new.made ≡ old.made + 1
+pub is_queued_called : (old new : Channel) (count : ℕ) (calls : List (List ℕ)) (call : List ℕ) → new.made ≡ old.made + 1
     → new.sizes ≡ old.sizes ++ length call ∷ [] → new.bytes ≡ old.bytes ++ call → 0 < length call
     → IsQueued old count calls → IsQueued new count (calls ++ call ∷ [])
-IsQueued-called old new count calls call made sizes bytes some is =
-    let left = left-push count calls call some is.3 in (
+is_queued_called old new count calls call made sizes bytes some is =
+    let left = left_push count calls call some is.3 in (
       made ∙ ap (λ (n : ℕ). n + 1) is.0 ∙ sym (length_push calls call),
       sizes ∙ ap (λ (ns : List ℕ). ns ++ length call ∷ []) is.1 ∙ sym (map_push length (calls_left count calls) call)
           ∙ ap (map length) (sym left),
@@ -67,17 +67,17 @@ abbrev with_call : Peer → List ℕ → List (List ℕ) → Bool → List (List
 with_call peer handle calls can = if can then calls ++ request (length calls + 1) peer handle ∷ [] else calls
 
 -- a call is sent, as it may be
-pub IsQueued-sent : (old new : Channel) (peer : Peer) (handle : List ℕ) (count : ℕ) (calls : List (List ℕ)) (size : ℕ)
+pub is_queued_sent : (old new : Channel) (peer : Peer) (handle : List ℕ) (count : ℕ) (calls : List (List ℕ)) (size : ℕ)
     → new.made ≡ old.made + 1 → new.sizes ≡ old.sizes ++ size ∷ [] → new.bytes ≡ old.bytes ++ request (old.made + 1) peer handle
     → length new.bytes ≡ length old.bytes + size → length old.sizes < max_calls → old.made < 4294967295
     → IsQueued old count calls → IsQueued new count (add_call (Some peer) count calls handle)
-IsQueued-sent old new peer handle count calls size made sizes bytes total few left is =
+is_queued_sent old new peer handle count calls size made sizes bytes total few left is =
     let call = request (length calls + 1) peer handle in
     let bytes : new.bytes ≡ old.bytes ++ call = bytes ∙ ap (λ (n : ℕ). old.bytes ++ request (n + 1) peer handle) is.0 in
     let size_is : size ≡ length call = omega (arith, total, ap length bytes, length-append old.bytes call) in
     let sizes = sizes ∙ ap (λ (n : ℕ). old.sizes ++ n ∷ []) size_is in
     subst (λ (can : Bool). IsQueued new count (with_call peer handle calls can)) (sym (may_be_sent old count calls is few left))
-    (IsQueued-called old new count calls call made sizes bytes (request_is_some (length calls + 1) peer handle) is)
+    (is_queued_called old new count calls call made sizes bytes (request_is_some (length calls + 1) peer handle) is)
 
 pub open≢closed : (stage : Stage) (peer : Peer) → stage ≡ Open peer → stage ≡ Closed → ⊥
 open≢closed stage peer e k = cc

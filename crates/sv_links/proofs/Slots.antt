@@ -14,20 +14,20 @@ abbrev pub keep : (Link → Bool) → Option Link → Option Link
 keep p None = None
 keep p (Some link) = cond (p link) (Some link) None
 
-filter-append : (p : Link → Bool) (xs ys : List Link) → filter p (xs ++ ys) ≡ filter p xs ++ filter p ys
-filter-append p [] ys = refl
-filter-append p (x ∷ xs) ys = elim (cases_Bool (p x)) [
-  | inl e ↦ rw e (ap (λ (zs : List Link). x ∷ zs) (filter-append p xs ys))
-  | inr e ↦ rw e (filter-append p xs ys)
+filter_append : (p : Link → Bool) (xs ys : List Link) → filter p (xs ++ ys) ≡ filter p xs ++ filter p ys
+filter_append p [] ys = refl
+filter_append p (x ∷ xs) ys = elim (cases_Bool (p x)) [
+  | inl e ↦ rw e (ap (λ (zs : List Link). x ∷ zs) (filter_append p xs ys))
+  | inr e ↦ rw e (filter_append p xs ys)
 ]
 
-pub kept-filter : (p : Link → Bool) (slots : List (Option Link)) (links : List Link) → IsKept slots links
+pub kept_filter : (p : Link → Bool) (slots : List (Option Link)) (links : List Link) → IsKept slots links
     → IsKept (map (keep p) slots) (filter p links)
-kept-filter p [] links e = rw e refl
-kept-filter p (None ∷ slots) links h = kept-filter p slots links h
-kept-filter p (Some x ∷ slots) links h =
-    let rest = subst (IsKept (map (keep p) slots)) (filter-append p h.0 h.1) (kept-filter p slots (h.0 ++ h.1) h.3) in
-    let whole = filter-append p h.0 (x ∷ h.1) in
+kept_filter p [] links e = rw e refl
+kept_filter p (None ∷ slots) links h = kept_filter p slots links h
+kept_filter p (Some x ∷ slots) links h =
+    let rest = subst (IsKept (map (keep p) slots)) (filter_append p h.0 h.1) (kept_filter p slots (h.0 ++ h.1) h.3) in
+    let whole = filter_append p h.0 (x ∷ h.1) in
     rw (h.2, whole) (elim (cases_Bool (p x)) [
       | inl e ↦ rw e (filter p h.0, filter p h.1, refl, rest)
       | inr e ↦ rw e rest
@@ -35,32 +35,32 @@ kept-filter p (Some x ∷ slots) links h =
 
 -- ---- how many
 
-length-between : (xs : List Link) (x : Link) (ys : List Link) → length (xs ++ x ∷ ys) ≡ length (xs ++ ys) + 1
-length-between [] x ys = omega arith
-length-between (z ∷ xs) x ys = omega (arith, length-between xs x ys)
+length_between : (xs : List Link) (x : Link) (ys : List Link) → length (xs ++ x ∷ ys) ≡ length (xs ++ ys) + 1
+length_between [] x ys = omega arith
+length_between (z ∷ xs) x ys = omega (arith, length_between xs x ys)
 
-count-some : (x : Link) (slots : List (Option Link)) → count_by is_some (Some x ∷ slots) ≡ count_by is_some slots + 1
-count-some x slots = omega (arith, sum_by-cons (λ (slot : Option Link). cond (is_some slot) 1 0) (Some x) slots)
+count_some : (x : Link) (slots : List (Option Link)) → count_by is_some (Some x ∷ slots) ≡ count_by is_some slots + 1
+count_some x slots = omega (arith, sum_by-cons (λ (slot : Option Link). cond (is_some slot) 1 0) (Some x) slots)
 
-pub kept-count : (slots : List (Option Link)) (links : List Link) → IsKept slots links → count_by is_some slots ≡ length links
-kept-count [] links e = rw e refl
-kept-count (None ∷ slots) links h = kept-count slots links h
-kept-count (Some x ∷ slots) links h =
-    count-some x slots ∙ ap (λ (n : ℕ). n + 1) (kept-count slots (h.0 ++ h.1) h.3) ∙ sym (length-between h.0 x h.1) ∙ ap length (sym h.2)
+pub kept_count : (slots : List (Option Link)) (links : List Link) → IsKept slots links → count_by is_some slots ≡ length links
+kept_count [] links e = rw e refl
+kept_count (None ∷ slots) links h = kept_count slots links h
+kept_count (Some x ∷ slots) links h =
+    count_some x slots ∙ ap (λ (n : ℕ). n + 1) (kept_count slots (h.0 ++ h.1) h.3) ∙ sym (length_between h.0 x h.1) ∙ ap length (sym h.2)
 
-count-none : (slots : List (Option Link)) → count_by is_some (None ∷ slots) ≡ count_by is_some slots
-count-none slots = omega (arith, sum_by-cons (λ (slot : Option Link). cond (is_some slot) 1 0) None slots)
+count_none : (slots : List (Option Link)) → count_by is_some (None ∷ slots) ≡ count_by is_some slots
+count_none slots = omega (arith, sum_by-cons (λ (slot : Option Link). cond (is_some slot) 1 0) None slots)
 
-count-keep : (p : Link → Bool) (slots : List (Option Link)) → count_by is_some (map (keep p) slots) ≤ count_by is_some slots
-count-keep p [] = omega arith
-count-keep p (None ∷ slots) = omega (arith, count-keep p slots, count-none slots, count-none (map (keep p) slots))
-count-keep p (Some x ∷ slots) = elim (cases_Bool (p x)) [
-  | inl e ↦ rw e (omega (arith, count-keep p slots, count-some x slots, count-some x (map (keep p) slots)))
-  | inr e ↦ rw e (omega (arith, count-keep p slots, count-some x slots, count-none (map (keep p) slots)))
+count_keep : (p : Link → Bool) (slots : List (Option Link)) → count_by is_some (map (keep p) slots) ≤ count_by is_some slots
+count_keep p [] = omega arith
+count_keep p (None ∷ slots) = omega (arith, count_keep p slots, count_none slots, count_none (map (keep p) slots))
+count_keep p (Some x ∷ slots) = elim (cases_Bool (p x)) [
+  | inl e ↦ rw e (omega (arith, count_keep p slots, count_some x slots, count_some x (map (keep p) slots)))
+  | inr e ↦ rw e (omega (arith, count_keep p slots, count_some x slots, count_none (map (keep p) slots)))
 ]
 
 pub no_more : (p : Link → Bool) (old new : List (Option Link)) → new ≡ map (keep p) old → count_by is_some new ≤ count_by is_some old
-no_more p old new e = rw e (count-keep p old)
+no_more p old new e = rw e (count_keep p old)
 
 -- ---- a link more
 
@@ -89,36 +89,36 @@ apart_suc : (m n : ℕ) → m ≢ n → suc m ≢ suc n
 apart_suc m n apart e = apart (omega (arith, e))
 
 -- a link at a key that had none, and the others as before
-pub kept-put : (old new : List (Option Link)) (key : ℕ) (x : Link) (links : List Link) → at old key ≡ None → at new key ≡ Some x
+pub kept_put : (old new : List (Option Link)) (key : ℕ) (x : Link) (links : List Link) → at old key ≡ None → at new key ≡ Some x
     → ((other : ℕ) → other ≢ key → at new other ≡ at old other) → IsKept old links → IsKept new (links ++ x ∷ [])
-kept-put old [] key x links free put others h = absurd (some≢none x (sym put))
-kept-put [] (slot ∷ new) zero x links free put others h =
+kept_put old [] key x links free put others h = absurd (some≢none x (sym put))
+kept_put [] (slot ∷ new) zero x links free put others h =
     subst (λ slot. IsKept (slot ∷ new) (links ++ x ∷ [])) (sym put)
     (links, [], refl, rw (append-nil links) (same_slots [] new links (λ key. others (suc key) (λ e. absurd (omega (arith, e)))) h))
-kept-put (None ∷ old) (slot ∷ new) zero x links free put others h =
+kept_put (None ∷ old) (slot ∷ new) zero x links free put others h =
     subst (λ slot. IsKept (slot ∷ new) (links ++ x ∷ [])) (sym put)
     (links, [], refl, rw (append-nil links) (same_slots old new links (λ key. others (suc key) (λ e. absurd (omega (arith, e)))) h))
-kept-put (Some y ∷ old) (slot ∷ new) zero x links free put others h = absurd (some≢none y free)
-kept-put [] (slot ∷ new) (suc key) x links free put others h =
+kept_put (Some y ∷ old) (slot ∷ new) zero x links free put others h = absurd (some≢none y free)
+kept_put [] (slot ∷ new) (suc key) x links free put others h =
     subst (λ slot. IsKept (slot ∷ new) (links ++ x ∷ [])) (sym (others 0 (λ e. absurd (omega (arith, e)))))
-    (kept-put [] new key x links refl put (λ other apart. others (suc other) (apart_suc other key apart)) h)
-kept-put (None ∷ old) (slot ∷ new) (suc key) x links free put others h =
+    (kept_put [] new key x links refl put (λ other apart. others (suc other) (apart_suc other key apart)) h)
+kept_put (None ∷ old) (slot ∷ new) (suc key) x links free put others h =
     subst (λ slot. IsKept (slot ∷ new) (links ++ x ∷ [])) (sym (others 0 (λ e. absurd (omega (arith, e)))))
-    (kept-put old new key x links free put (λ other apart. others (suc other) (apart_suc other key apart)) h)
-kept-put (Some y ∷ old) (slot ∷ new) (suc key) x links free put others h =
+    (kept_put old new key x links free put (λ other apart. others (suc other) (apart_suc other key apart)) h)
+kept_put (Some y ∷ old) (slot ∷ new) (suc key) x links free put others h =
     subst (λ slot. IsKept (slot ∷ new) (links ++ x ∷ [])) (sym (others 0 (λ e. absurd (omega (arith, e))))) (
       h.0,
       h.1 ++ x ∷ [],
       ap (λ (xs : List Link). xs ++ x ∷ []) h.2 ∙ append_assoc h.0 (y ∷ h.1) (x ∷ []),
       subst (IsKept new) (append_assoc h.0 h.1 (x ∷ []))
-          (kept-put old new key x (h.0 ++ h.1) free put (λ other apart. others (suc other) (apart_suc other key apart)) h.3),
+          (kept_put old new key x (h.0 ++ h.1) free put (λ other apart. others (suc other) (apart_suc other key apart)) h.3),
     )
 
 -- ---- the slab's retain
 
-slot-kept : (p : Link → Bool) (b : Bool) (x y : Link) → b ≡ p x → y ≡ x → (if b then Some y else None) ≡ cond (p x) (Some x) None
-slot-kept p true x y e same = rw (← e, same) refl
-slot-kept p false x y e same = rw (← e) refl
+slot_kept : (p : Link → Bool) (b : Bool) (x y : Link) → b ≡ p x → y ≡ x → (if b then Some y else None) ≡ cond (p x) (Some x) None
+slot_kept p true x y e same = rw (← e, same) refl
+slot_kept p false x y e same = rw (← e) refl
 
 module _ {F : Type 0} (step : F → ℕ → MutBor Link → Bool → MutBor Link → F → Type 0) (f : F) (p : Link → Bool)
     (told : (key : ℕ) (shown : MutBor Link) (b : Bool) (left : MutBor Link) (next : F) → step f key shown b left next
@@ -129,7 +129,7 @@ module _ {F : Type 0} (step : F → ℕ → MutBor Link → Bool → MutBor Link
   retained key (Some x ∷ old) new h =
       let call = h.3 in
       let same = told key call.shown h.0 call.left h.2 call.called in
-      let slot = slot-kept p h.0 x h.1 (same.1 ∙ ap p call.shows) (sym call.leaves ∙ same.2 ∙ call.shows) in
+      let slot = slot_kept p h.0 x h.1 (same.1 ∙ ap p call.shows) (sym call.leaves ∙ same.2 ∙ call.shows) in
       let rest = subst (λ (next : F). RetainsFrom step next (key + 1) old h.4) same.0 h.6 in
       h.5 ∙ ap (λ (xs : List (Option Link)). (if h.0 then Some h.1 else None) ∷ xs) (retained (key + 1) old h.4 rest)
       ∙ ap (λ (slot : Option Link). slot ∷ map (keep p) old) slot

@@ -11,67 +11,67 @@ use Rattle.sv_links.specs.declared.links.CreateRefused.TheVariants.{OutOfResourc
 use Rattle.sv_links.specs.Limits.{max_links}
 use Rattle.sv_links.specs.Links.{LinkAct, Made, Destroyed, live, may_make}
 use Rattle.sv_links.specs.Table.{Table, IsTable, IsRising, count_of}
-use Rattle.sv_links.proofs.Slots.{keep, kept-filter, kept-put, kept-count}
-use Rattle.sv_links.proofs.Locks.{freed, lock-destroyed}
+use Rattle.sv_links.proofs.Slots.{keep, kept_filter, kept_put, kept_count}
+use Rattle.sv_links.proofs.Locks.{freed, lock_destroyed}
 
 -- links made before others
 abbrev pub Below : Link → Link → Type 0
 Below x y = x.lid < y.lid
 
-pub above-filter : (p : Link → Bool) (x : Link) (ys : List Link) → AllByRecursion (Below x) ys → AllByRecursion (Below x) (filter p ys)
-above-filter p x ys h = recursion_from_All (Below x) _ (All-filter p (Below x) ys (All-from_recursion (Below x) ys h))
+pub above_filter : (p : Link → Bool) (x : Link) (ys : List Link) → AllByRecursion (Below x) ys → AllByRecursion (Below x) (filter p ys)
+above_filter p x ys h = recursion_from_All (Below x) _ (All-filter p (Below x) ys (All-from_recursion (Below x) ys h))
 
-pub rising-filter : (p : Link → Bool) (xs : List Link) (n : ℕ) → IsRising xs n → IsRising (filter p xs) n
-rising-filter p [] n r = tt
-rising-filter p (x ∷ xs) n r = cond_both (p x) (x ∷ filter p xs) (filter p xs) (λ ys. IsRising ys n)
-    (λ _. (r.0, above-filter p x xs r.1, rising-filter p xs n r.2)) (λ _. rising-filter p xs n r.2)
+pub rising_filter : (p : Link → Bool) (xs : List Link) (n : ℕ) → IsRising xs n → IsRising (filter p xs) n
+rising_filter p [] n r = tt
+rising_filter p (x ∷ xs) n r = cond_both (p x) (x ∷ filter p xs) (filter p xs) (λ ys. IsRising ys n)
+    (λ _. (r.0, above_filter p x xs r.1, rising_filter p xs n r.2)) (λ _. rising_filter p xs n r.2)
 
-pub rising-push : (xs : List Link) (n c : ℕ) → IsRising xs n → IsRising (xs ++ record { lid = n + 1; conn = c } ∷ []) (n + 1)
-rising-push [] n c r = (omega arith, tt, tt)
-rising-push (x ∷ xs) n c r = (
+pub rising_push : (xs : List Link) (n c : ℕ) → IsRising xs n → IsRising (xs ++ record { lid = n + 1; conn = c } ∷ []) (n + 1)
+rising_push [] n c r = (omega arith, tt, tt)
+rising_push (x ∷ xs) n c r = (
   omega (arith, r.0),
   recursion_from_All (Below x) _ (All-push (Below x) xs _ (All-from_recursion (Below x) xs r.1) (omega (arith, r.0))),
-  rising-push xs n c r.2,
+  rising_push xs n c r.2,
 )
 
 abbrev pub other_than : ℕ → Link → Bool
 other_than lid link = not (eqb link.lid lid)
 
 -- the table without a link
-pub IsTable-destroyed : (table : Table) (lid : ℕ) (acts : List LinkAct) (slots : List (Option Link)) (holder : Option ℕ)
+pub is_table_destroyed : (table : Table) (lid : ℕ) (acts : List LinkAct) (slots : List (Option Link)) (holder : Option ℕ)
     → slots ≡ map (keep (other_than lid)) table.slots → holder ≡ freed lid table.holder → IsTable table acts
     → IsTable (record table { slots = slots; holder = holder }) (Destroyed lid ∷ acts)
-IsTable-destroyed table lid acts slots holder kept held is = record {
+is_table_destroyed table lid acts slots holder kept held is = record {
   made = is.made;
-  kept = rw kept (kept-filter (other_than lid) table.slots (live acts) is.kept);
-  rising = rising-filter (other_than lid) (live acts) table.made is.rising;
-  lock = rw held (lock-destroyed lid table.holder acts is.lock);
+  kept = rw kept (kept_filter (other_than lid) table.slots (live acts) is.kept);
+  rising = rising_filter (other_than lid) (live acts) table.made is.rising;
+  lock = rw held (lock_destroyed lid table.holder acts is.lock);
 }
 
-pub freed-held : (lid : ℕ) (o : Option ℕ) (r : Bool) → r ≡ option_eq eqb o (Some lid) → r ≡ true → None ≡ freed lid o
-freed-held lid None r told e = refl
-freed-held lid (Some m) r told e = rw (sym told ∙ e) refl
+pub freed_held : (lid : ℕ) (o : Option ℕ) (r : Bool) → r ≡ option_eq eqb o (Some lid) → r ≡ true → None ≡ freed lid o
+freed_held lid None r told e = refl
+freed_held lid (Some m) r told e = rw (sym told ∙ e) refl
 
-pub freed-other : (lid : ℕ) (o : Option ℕ) (r : Bool) → r ≡ option_eq eqb o (Some lid) → r ≡ false → o ≡ freed lid o
-freed-other lid None r told e = refl
-freed-other lid (Some m) r told e = rw (sym told ∙ e) refl
+pub freed_other : (lid : ℕ) (o : Option ℕ) (r : Bool) → r ≡ option_eq eqb o (Some lid) → r ≡ false → o ≡ freed lid o
+freed_other lid None r told e = refl
+freed_other lid (Some m) r told e = rw (sym told ∙ e) refl
 
 -- the table with a link more
-pub IsTable-made : (table : Table) (conn : ℕ) (acts : List LinkAct) (slots : List (Option Link)) (key spare : ℕ)
+pub is_table_made : (table : Table) (conn : ℕ) (acts : List LinkAct) (slots : List (Option Link)) (key spare : ℕ)
     → slice_index_or table.slots key None ≡ None → slice_index_or slots key None ≡ Some (record { lid = table.made + 1; conn = conn })
     → ((other : ℕ) → other ≢ key → slice_index_or slots other None ≡ slice_index_or table.slots other None) → IsTable table acts
     → IsTable (record table { made = table.made + 1; slots = slots; spare = spare }) (Made (table.made + 1) conn ∷ acts)
-IsTable-made table conn acts slots key spare free put others is = record {
+is_table_made table conn acts slots key spare free put others is = record {
   made = ap (λ (n : ℕ). n + 1) is.made;
-  kept = kept-put table.slots slots key (record { lid = table.made + 1; conn = conn }) (live acts) free put others is.kept;
-  rising = rising-push (live acts) table.made conn is.rising;
+  kept = kept_put table.slots slots key (record { lid = table.made + 1; conn = conn }) (live acts) free put others is.kept;
+  rising = rising_push (live acts) table.made conn is.rising;
   lock = is.lock;
 }
 
 -- ---- how many
 
 pub count_is : (table : Table) (acts : List LinkAct) → IsTable table acts → count_of table ≡ length (live acts)
-count_is table acts is = kept-count table.slots (live acts) is.kept
+count_is table acts is = kept_count table.slots (live acts) is.kept
 
 pub may_is : (table : Table) (acts : List LinkAct) → IsTable table acts
     → may_make acts ≡ (nat_lt (count_of table) max_links && nat_lt table.made 2147483647)

@@ -57,10 +57,10 @@ took_more text done rest n old mid new e within x y =
     )
 
 -- bytes are spelled one after the other
-pub encode-append : (t a b : List ℕ) → encode_with t (a ++ b) ≡ encode_with t a ++ encode_with t b
+pub encode_append : (t a b : List ℕ) → encode_with t (a ++ b) ≡ encode_with t a ++ encode_with t b
 unfolding encode_with
-encode-append t [] b = refl
-encode-append t (x ∷ a) b = ap (λ (l : List ℕ). slice_index t (x / 16) ∷ slice_index t (x % 16) ∷ l) (encode-append t a b)
+encode_append t [] b = refl
+encode_append t (x ∷ a) b = ap (λ (l : List ℕ). slice_index t (x / 16) ∷ slice_index t (x % 16) ∷ l) (encode_append t a b)
 
 -- the first bytes were spelled and taken
 pub hex_none : (old : Option (List ℕ)) (bytes : List ℕ) → (done : List ℕ) × (bytes ≡ done ++ bytes) × Appends old old (encode_lower done)
@@ -74,7 +74,7 @@ pub hex_more : (bytes done rest piece others : List ℕ) (old mid new : Option (
 hex_more bytes done rest piece others old mid new e f x y = (
   done ++ piece,
   e ∙ ap (λ (l : List ℕ). done ++ l) f ∙ sym (append_assoc done piece others),
-  subst (λ (l : List ℕ). Appends old new l) (sym (encode-append lower_digits done piece))
+  subst (λ (l : List ℕ). Appends old new l) (sym (encode_append lower_digits done piece))
       (appends_then old mid new (encode_lower done) (encode_lower piece) x y),
 )
 
@@ -86,8 +86,8 @@ pub hex_stop : {E F : Type 0} (bytes done rest piece others : List ℕ) (old mid
 hex_stop bytes done rest piece others old mid new e r is split h x y =
     let whole : encode_lower bytes ≡ (encode_lower done ++ encode_lower piece) ++ encode_lower others =
     ap encode_lower (is ∙ ap (λ (l : List ℕ). done ++ l) split ∙ sym (append_assoc done piece others))
-    ∙ encode-append lower_digits (done ++ piece) others
-    ∙ ap (λ (l : List ℕ). l ++ encode_lower others) (encode-append lower_digits done piece) in
+    ∙ encode_append lower_digits (done ++ piece) others
+    ∙ ap (λ (l : List ℕ). l ++ encode_lower others) (encode_append lower_digits done piece) in
     subst (λ (l : List ℕ). IsTakenByWriter old new r l) (sym whole)
     (takes_stop old new (encode_lower done ++ encode_lower piece) (encode_lower others) e r h
     (takes_then old mid new (encode_lower done) (encode_lower piece) (Err e) x y))

@@ -56,9 +56,9 @@ onto_glued b first [] [] = refl
 onto_glued b first [] (part ∷ more) = refl
 onto_glued b first (other ∷ others) more = refl
 
-parts-append : (text more : List ℕ) → parts (text ++ more) ≡ glued (parts text) (parts more)
-parts-append [] more = let (first, others, e) = parts_some more in e ∙ ap (glued ([] ∷ [])) (sym e)
-parts-append (b ∷ text) more = here (b == 10) (parts_some text) (parts-append text more)
+parts_append : (text more : List ℕ) → parts (text ++ more) ≡ glued (parts text) (parts more)
+parts_append [] more = let (first, others, e) = parts_some more in e ∙ ap (glued ([] ∷ [])) (sym e)
+parts_append (b ∷ text) more = here (b == 10) (parts_some text) (parts_append text more)
   where
     here : (test : Bool) → (first : List ℕ) × (others : List (List ℕ)) × (parts text ≡ first ∷ others)
         → parts (text ++ more) ≡ glued (parts text) (parts more)
@@ -83,6 +83,6 @@ pub parts_more : (read left more : List ℕ) (lines : List (List ℕ)) → parts
     → parts (read ++ more) ≡ lines ++ parts (left ++ more)
 parts_more read left more lines e =
     let (first, others, some) = parts_some left in
-    parts-append read more ∙ ap (λ (ps : List (List ℕ)). glued ps (parts more)) (e ∙ ap (λ (ps : List (List ℕ)). lines ++ ps) some)
+    parts_append read more ∙ ap (λ (ps : List (List ℕ)). glued ps (parts more)) (e ∙ ap (λ (ps : List (List ℕ)). lines ++ ps) some)
     ∙ glued_behind lines first others (parts more)
-    ∙ ap (λ (ps : List (List ℕ)). lines ++ ps) (sym (parts-append left more ∙ ap (λ (ps : List (List ℕ)). glued ps (parts more)) some))
+    ∙ ap (λ (ps : List (List ℕ)). lines ++ ps) (sym (parts_append left more ∙ ap (λ (ps : List (List ℕ)). glued ps (parts more)) some))

@@ -4,7 +4,7 @@ use Rattle.std.proofs.lemmas.Bool.{cases_Bool, cond-true, cond-false, eqb-true, 
 use Rattle.sv_xdr.specs.declared.fault.XdrFault.{XdrFault}
 use Rattle.sv_xdr.specs.Spelling.{Unsigned, Opaque, Begins, BeginsAll}
 use Rattle.sv_xdr.specs.Reader.{unsigned_at, opaque_at}
-use Rattle.sv_xdr.proofs.Fields.{IsBytes, bytes_after, unsigned_begins, unsigned_takes, opaque_again, opaque_at-takes}
+use Rattle.sv_xdr.proofs.Fields.{IsBytes, bytes_after, unsigned_begins, unsigned_takes, opaque_again, opaque_at_takes}
 use Rattle.sv_rpc.specs.declared.call.CallFault.{CallFault}
 use Rattle.sv_rpc.specs.declared.call.CallFault.TheVariants.{BadHeader, Version}
 use Rattle.sv_rpc.specs.Limits.{max_auth}
@@ -102,7 +102,7 @@ opaque_step : {P : Type 0} (bytes : List ℕ) (f : List ℕ × List ℕ → Resu
     → f (text, after) ≡ r → P) → P
 opaque_step bytes f r fits good e then =
     let s = bind_good (opaque_at max_auth bytes) f r good e in
-    let b = opaque_at-takes max_auth bytes s.0.0 s.0.1 fits s.1 in
+    let b = opaque_at_takes max_auth bytes s.0.0 s.0.1 fits s.1 in
     then s.0.0 s.0.1 b.0 b.1 (bytes_after (Opaque s.0.0) bytes s.0.1 fits b.0) s.2
 
 -- what is read behind the version is spelled there

@@ -8,50 +8,50 @@ use Rattle.sv_rpc.specs.Record.{Header, Data}
 use Rattle.sv_rpc.specs.RecordBuf.{used_by}
 use Rattle.sv_rpc.specs.Representation.{cut}
 
-pub sum-cons : (n : ℕ) (ns : List ℕ) → sum (n ∷ ns) ≡ n + sum ns
-sum-cons n ns = sum_by-cons (λ x. x) n ns
+pub sum_cons : (n : ℕ) (ns : List ℕ) → sum (n ∷ ns) ≡ n + sum ns
+sum_cons n ns = sum_by-cons (λ x. x) n ns
 
-pub sum-push : (ns : List ℕ) (n : ℕ) → sum (ns ++ n ∷ []) ≡ sum ns + n
-sum-push ns n = sum_by-append (λ x. x) ns (n ∷ []) ∙ ap (λ (k : ℕ). sum ns + k) (sum-cons n [] ∙ omega arith)
+pub sum_push : (ns : List ℕ) (n : ℕ) → sum (ns ++ n ∷ []) ≡ sum ns + n
+sum_push ns n = sum_by-append (λ x. x) ns (n ∷ []) ∙ ap (λ (k : ℕ). sum ns + k) (sum_cons n [] ∙ omega arith)
 
 -- what whole records count
-pub counted-cut : (ns : List ℕ) (bytes : List ℕ) → sum ns ≤ length bytes
+pub counted_cut : (ns : List ℕ) (bytes : List ℕ) → sum ns ≤ length bytes
     → sum_by (λ (r : List ℕ). 4 + length r) (cut ns bytes) ≡ 4 * length ns + sum ns
-counted-cut [] bytes h = refl
-counted-cut (n ∷ ns) bytes h =
-    let total = sum-cons n ns in
+counted_cut [] bytes h = refl
+counted_cut (n ∷ ns) bytes h =
+    let total = sum_cons n ns in
     let short : sum ns ≤ length (drop n bytes) = omega (arith, length-drop n bytes) in
     let size : length (take n bytes) ≡ n = length-take-le n bytes (omega arith) in
-    omega (arith, sum_by-cons (λ (r : List ℕ). 4 + length r) (take n bytes) (cut ns (drop n bytes)), counted-cut ns (drop n bytes) short)
+    omega (arith, sum_by-cons (λ (r : List ℕ). 4 + length r) (take n bytes) (cut ns (drop n bytes)), counted_cut ns (drop n bytes) short)
 
 -- more bytes behind them change no record
-pub cut-append : (ns bytes piece : List ℕ) → sum ns ≤ length bytes → cut ns (bytes ++ piece) ≡ cut ns bytes
-cut-append [] bytes piece h = refl
-cut-append (n ∷ ns) bytes piece h =
-    let total = sum-cons n ns in
+pub cut_append : (ns bytes piece : List ℕ) → sum ns ≤ length bytes → cut ns (bytes ++ piece) ≡ cut ns bytes
+cut_append [] bytes piece h = refl
+cut_append (n ∷ ns) bytes piece h =
+    let total = sum_cons n ns in
     let le : n ≤ length bytes = omega arith in
     let short : sum ns ≤ length (drop n bytes) = omega (arith, length-drop n bytes) in
     let first = take-append-le n bytes piece le in
-    let others = ap (cut ns) (drop-append-le n bytes piece le) ∙ cut-append ns (drop n bytes) piece short in
+    let others = ap (cut ns) (drop-append-le n bytes piece le) ∙ cut_append ns (drop n bytes) piece short in
     cc
 
 -- what stands behind them is one record more
-pub cut-push : (ns bytes : List ℕ) (n : ℕ) → sum ns + n ≡ length bytes → cut (ns ++ n ∷ []) bytes ≡ cut ns bytes ++ drop (sum ns) bytes ∷ []
-cut-push [] bytes n h = let size : n ≡ length bytes = omega arith in
+pub cut_push : (ns bytes : List ℕ) (n : ℕ) → sum ns + n ≡ length bytes → cut (ns ++ n ∷ []) bytes ≡ cut ns bytes ++ drop (sum ns) bytes ∷ []
+cut_push [] bytes n h = let size : n ≡ length bytes = omega arith in
     ap (λ (r : List ℕ). r ∷ []) (ap (λ (k : ℕ). take k bytes) size ∙ take-length bytes)
-cut-push (m ∷ ns) bytes n h =
-    let total = sum-cons m ns in
+cut_push (m ∷ ns) bytes n h =
+    let total = sum_cons m ns in
     let rest : sum ns + n ≡ length (drop m bytes) = omega (arith, length-drop m bytes) in
     let behind : drop (sum ns) (drop m bytes) ≡ drop (sum (m ∷ ns)) bytes =
     drop-drop (sum ns) m bytes ∙ ap (λ (k : ℕ). drop k bytes) (sym total) in
     ap (λ (rs : List (List ℕ)). take m bytes ∷ rs)
-    (cut-push ns (drop m bytes) n rest ∙ ap (λ (r : List ℕ). cut ns (drop m bytes) ++ r ∷ []) behind)
+    (cut_push ns (drop m bytes) n rest ∙ ap (λ (r : List ℕ). cut ns (drop m bytes) ++ r ∷ []) behind)
 
 -- what the buffer counts, by the lengths of its parts
 pub used_at_header : (ns bytes header : List ℕ) (n : ℕ) → sum ns + n ≡ length bytes
     → used_by (cut ns bytes) (Header (drop (sum ns) bytes) header) ≡ 4 * length ns + length bytes + 4 + length header
-used_at_header ns bytes header n h = omega (arith, counted-cut ns bytes (omega arith), length-drop (sum ns) bytes)
+used_at_header ns bytes header n h = omega (arith, counted_cut ns bytes (omega arith), length-drop (sum ns) bytes)
 
 pub used_in_data : (ns bytes : List ℕ) (n missing : ℕ) (last : Bool) → sum ns + n ≡ length bytes
     → used_by (cut ns bytes) (Data (drop (sum ns) bytes) missing last) ≡ 4 * length ns + length bytes + 4
-used_in_data ns bytes n missing last h = omega (arith, counted-cut ns bytes (omega arith), length-drop (sum ns) bytes)
+used_in_data ns bytes n missing last h = omega (arith, counted_cut ns bytes (omega arith), length-drop (sum ns) bytes)

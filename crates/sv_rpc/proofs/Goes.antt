@@ -95,21 +95,21 @@ data_goes records payload piece missing last within stream dropped st =
         (data_ends stream piece st.all payload missing st.splits e)
 
 -- one stretch after the other
-pub GoesOn-then : (old mid new : Records) (a b : List ℕ) → GoesOn old mid a → GoesOn mid new b → GoesOn old new (a ++ b)
-GoesOn-then old mid new a b first second stream dropped st =
+pub goes_on_then : (old mid new : Records) (a b : List ℕ) → GoesOn old mid a → GoesOn mid new b → GoesOn old new (a ++ b)
+goes_on_then old mid new a b first second stream dropped st =
     subst (λ (l : List ℕ). StandsFor new l dropped) (append_assoc stream a b) (second (stream ++ a) dropped (first stream dropped st))
 
 -- no stretch at all
-pub GoesOn-none : (held : Records) → GoesOn held held []
-GoesOn-none held stream dropped st = rw (append-nil stream) st
+pub goes_on_none : (held : Records) → GoesOn held held []
+goes_on_none held stream dropped st = rw (append-nil stream) st
 
 -- all of a piece, once none of it is left
-pub GoesOn-all : (old new : Records) (piece rest : List ℕ) → length rest ≡ 0
+pub goes_on_all : (old new : Records) (piece rest : List ℕ) → length rest ≡ 0
     → (taken : List ℕ) × (piece ≡ taken ++ rest) × GoesOn old new taken
     → GoesOn old new piece
-GoesOn-all old new piece [] e stands =
+goes_on_all old new piece [] e stands =
     subst (λ (l : List ℕ). GoesOn old new l) (sym (stands.1 ∙ append-nil stands.0)) stands.2
-GoesOn-all old new piece (b ∷ rest) e stands = absurd (omega arith)
+goes_on_all old new piece (b ∷ rest) e stands = absurd (omega arith)
 
 -- a byte of a header, where a buffer takes it in
 pub header_goes_on : (bytes lengths header : List ℕ) (spot : Place) (old new : Records) (byte : ℕ) → held_of bytes lengths header spot ≡ old

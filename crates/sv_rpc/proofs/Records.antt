@@ -10,7 +10,7 @@ use Rattle.sv_rpc.specs.Limits.{capacity}
 use Rattle.sv_rpc.specs.Record.{Header, Data}
 use Rattle.sv_rpc.specs.RecordBuf.{Records, StandsFor, IsRoom, used_by, room_of}
 use Rattle.sv_rpc.specs.Representation.{IsValid, InRoom, IsPlace, IsInHeader, IsBeforeHeader, IsInData, held_of, cut, tail_of, finish_record, begun_of, after_data}
-use Rattle.sv_rpc.proofs.Cuts.{sum-push, cut-append, cut-push, used_at_header, used_in_data}
+use Rattle.sv_rpc.proofs.Cuts.{sum_push, cut_append, cut_push, used_at_header, used_in_data}
 
 -- the room of a value is the room of the stream
 pub room_answer : (held : Records) (stream : List ℕ) (dropped room : ℕ) → room ≡ room_of held → StandsFor held stream dropped
@@ -113,7 +113,7 @@ pub finish_keeps : (bytes lengths lengths' header : List ℕ) (space slots slots
     → lengths' ≡ lengths ++ payload ∷ [] → slots' ≡ slots
     → IsValid bytes lengths' header space slots' 0 header_len spot
 finish_keeps bytes lengths lengths' header space slots slots' payload header_len place.Header k h room e f = record {
-  whole = omega (arith, ap sum e, sum-push lengths payload, k.whole);
+  whole = omega (arith, ap sum e, sum_push lengths payload, k.whole);
   four = k.four;
   at = (omega arith, k.at.1);
   enough = k.enough;
@@ -130,8 +130,8 @@ pub finish_holds : (bytes lengths lengths' header : List ℕ) (space slots paylo
     ≡ finish_record (cut lengths bytes) (tail_of spot (drop (sum lengths) bytes) (take header_len header))
 finish_holds bytes lengths lengths' header space slots payload header_len place.Header k h e =
     let records : cut lengths' bytes ≡ cut lengths bytes ++ drop (sum lengths) bytes ∷ [] =
-    ap (λ (ns : List ℕ). cut ns bytes) e ∙ cut-push lengths bytes payload k.whole in
-    let size : sum lengths' ≡ length bytes = omega (arith, ap sum e, sum-push lengths payload, k.whole) in
+    ap (λ (ns : List ℕ). cut ns bytes) e ∙ cut_push lengths bytes payload k.whole in
+    let size : sum lengths' ≡ length bytes = omega (arith, ap sum e, sum_push lengths payload, k.whole) in
     let rest : drop (sum lengths') bytes ≡ [] = drop_all (sum lengths') bytes (omega arith) in
     let made : List (List ℕ) → List ℕ → List ℕ → Records = λ rs payload header. record { records = rs; tail = Header payload header } in
     ap (λ (rs : List (List ℕ)). made rs (drop (sum lengths') bytes) (take header_len header)) records
@@ -200,7 +200,7 @@ pub data_holds : (bytes bytes' lengths header piece : List ℕ) (n : ℕ) (spot'
     }
 data_holds bytes bytes' lengths header piece n spot' whole e =
     let le : sum lengths ≤ length bytes = omega arith in
-    let records : cut lengths bytes' ≡ cut lengths bytes = ap (cut lengths) e ∙ cut-append lengths bytes piece le in
+    let records : cut lengths bytes' ≡ cut lengths bytes = ap (cut lengths) e ∙ cut_append lengths bytes piece le in
     let payload : drop (sum lengths) bytes' ≡ drop (sum lengths) bytes ++ piece =
     ap (drop (sum lengths)) e ∙ drop-append-le (sum lengths) bytes piece le in
     let made : List (List ℕ) → List ℕ → Records = λ rs p. record { records = rs; tail = tail_of spot' p header } in

@@ -12,9 +12,9 @@ use Rattle.sv_rpc.specs.RecordBuf.{Records, used_by, room_of}
 use Rattle.sv_rpc.specs.Representation.{InRoom, Fits, IsInHeader, IsInData, held_of, tail_of, spare_of, after_byte, after_header, after_data}
 
 -- what records count, with one more
-counted-push : (records : List (List ℕ)) (r : List ℕ)
+counted_push : (records : List (List ℕ)) (r : List ℕ)
     → sum_by (λ (r : List ℕ). 4 + length r) (records ++ r ∷ []) ≡ sum_by (λ (r : List ℕ). 4 + length r) records + (4 + length r)
-counted-push records r = sum_by-append (λ r. 4 + length r) records (r ∷ [])
+counted_push records r = sum_by-append (λ r. 4 + length r) records (r ∷ [])
     ∙ ap (λ (n : ℕ). sum_by (λ (r : List ℕ). 4 + length r) records + n) (sum_by-cons (λ (r : List ℕ). 4 + length r) r [] ∙ omega arith)
 
 spare_is_small : (payload : List ℕ) → spare_of payload ≤ 4
@@ -36,7 +36,7 @@ header_room records payload header size n last fits =
     empty : (b : Bool)
         → InRoom (cond b (record { records = records ++ payload ∷ []; tail = Header [] [] })
         (record { records = records; tail = Header payload [] })) n
-    empty true = omega (arith, counted-push records payload, spare_is_small payload, fits)
+    empty true = omega (arith, counted_push records payload, spare_is_small payload, fits)
     empty false = omega (arith, fits)
 
 -- behind a byte of a header
@@ -97,7 +97,7 @@ data_room records payload piece missing last n m all fits =
   where
     ends : (b : Bool) → InRoom (cond b (record { records = records ++ (payload ++ piece) ∷ []; tail = Header [] [] })
         (record { records = records; tail = Header (payload ++ piece) [] })) m
-    ends true = omega (arith, counted-push records (payload ++ piece), length-append payload piece, fits)
+    ends true = omega (arith, counted_push records (payload ++ piece), length-append payload piece, fits)
     ends false = omega (arith, length-append payload piece, fits)
 
 -- behind some of a fragment's data, where a buffer takes it in

@@ -6,7 +6,7 @@ use Rattle.std.proofs.lemmas.List.{take_more, map-append, append-nil}
 use Rattle.std.proofs.lemmas.List.Folds.{concat-append}
 use Rattle.sv_xdr.specs.declared.writer.Writer.{Writer}
 use Rattle.sv_xdr.specs.Writer.{rest_of, Appends, Stays}
-use Rattle.sv_xdr.proofs.Appended.{Appends-then}
+use Rattle.sv_xdr.proofs.Appended.{appends_then}
 
 -- the first pieces and one more
 pub one_more : (f : ℕ → List ℕ) (words : List ℕ) (i : ℕ) (old mid new : Writer) → i < length words
@@ -17,7 +17,7 @@ one_more f words i old mid new h first second =
     let whole : concat (map f (take (i + 1) words)) ≡ concat pieces ++ f (get_or words i 0) =
     ap (λ (l : List ℕ). concat (map f l)) (take_more words i 0 h) ∙ ap concat (map-append f (take i words) (get_or words i 0 ∷ []))
     ∙ concat-append pieces (f (get_or words i 0) ∷ []) ∙ ap (λ (l : List ℕ). concat pieces ++ l) (append-nil (f (get_or words i 0))) in
-    subst (λ (l : List ℕ). Appends l old new) (sym whole) (Appends-then (concat pieces) (f (get_or words i 0)) old mid new first second)
+    subst (λ (l : List ℕ). Appends l old new) (sym whole) (appends_then (concat pieces) (f (get_or words i 0)) old mid new first second)
 
 -- one of the pieces, with those in front of it and behind it
 pub cut_at : (f : ℕ → List ℕ) (words : List ℕ) (i : ℕ) → i < length words
@@ -25,8 +25,8 @@ pub cut_at : (f : ℕ → List ℕ) (words : List ℕ) (i : ℕ) → i < length 
 cut_at f words i h = ap (map f) (split_at words i 0 h) ∙ map-append f (take i words) _
 
 -- a write that did nothing adds nothing
-pub Appends-stays : (bytes : List ℕ) (old mid new : Writer) → Appends bytes old mid → Stays mid new → Appends bytes old new
-Appends-stays bytes old mid new first second = record {
+pub appends_stays : (bytes : List ℕ) (old mid new : Writer) → Appends bytes old mid → Stays mid new → Appends bytes old new
+appends_stays bytes old mid new first second = record {
   text = second.text ∙ first.text;
   rest = first.rest ∙ ap (λ (l : List ℕ). take (length bytes) (rest_of old) ++ l) (sym second.rest);
   fits = first.fits;

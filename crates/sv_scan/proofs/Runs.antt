@@ -97,11 +97,11 @@ bounded_more : (readings : List Reading) (x : Reading) → list_all is_bounded r
 bounded_more readings x all one =
     list_all-append is_bounded readings (x ∷ []) ∙ ap (λ (b : Bool). b && (is_bounded x && true)) all ∙ ap (λ (b : Bool). b && true) one
 
-pub IsValid-sample : (contents : Contents) (capacity : ℕ) (r : Run) (x : Reading) (touched : Touched) → contents.run ≡ Some r
+pub is_valid_sample : (contents : Contents) (capacity : ℕ) (r : Run) (x : Reading) (touched : Touched) → contents.run ≡ Some r
     → IsValid contents capacity
     → is_scanning (run_state contents.run (length contents.readings)) ≡ true → is_bounded x ≡ true
     → IsValid (record contents { readings = contents.readings ++ x ∷ []; touched = touched }) capacity
-IsValid-sample contents capacity r x touched e valid scanning one =
+is_valid_sample contents capacity r x touched e valid scanning one =
     let run : IsRun r (length contents.readings) = subst (λ (o : Option Run). IsRunOf o (length contents.readings)) e valid.run in
     let now : is_scanning (run_state (Some r) (length contents.readings)) ≡ true =
     subst (λ (o : Option Run). is_scanning (run_state o (length contents.readings)) ≡ true) e scanning in

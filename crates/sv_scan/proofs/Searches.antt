@@ -17,16 +17,16 @@ use Rattle.sv_scan.specs.Stands.{Run, Contents, Holds, current_run, progress_by}
 use Rattle.sv_scan.specs.Representation.{run_state, run_complete}
 
 -- there are as many readings as samples
-pub length-readings : (log : List ScanAct) → length (readings log) ≡ samples log
-length-readings [] = refl
-length-readings (Sample ∷ log) = length-append (readings log) (reading log ∷ []) ∙ ap (λ (n : ℕ). n + 1) (length-readings log)
+pub length_readings : (log : List ScanAct) → length (readings log) ≡ samples log
+length_readings [] = refl
+length_readings (Sample ∷ log) = length-append (readings log) (reading log ∷ []) ∙ ap (λ (n : ℕ). n + 1) (length_readings log)
     ∙ add-one (samples log)
-length-readings (Init ∷ log) = refl
-length-readings (Abort ∷ log) = refl
-length-readings (Reset ∷ log) = refl
-length-readings (Input channel microvolts ∷ log) = length-readings log
-length-readings (Configure setting ∷ log) = length-readings log
-length-readings (Trigger source ∷ log) = length-readings log
+length_readings (Init ∷ log) = refl
+length_readings (Abort ∷ log) = refl
+length_readings (Reset ∷ log) = refl
+length_readings (Input channel microvolts ∷ log) = length_readings log
+length_readings (Configure setting ∷ log) = length_readings log
+length_readings (Trigger source ∷ log) = length_readings log
 
 -- the last reading
 pub last_found : (found kept : List Reading) (log : List ScanAct) → found ≡ kept → kept ≡ readings log
@@ -50,7 +50,7 @@ pub state_is : (contents : Contents) (log : List ScanAct) → Holds contents log
     → run_state contents.run (length contents.readings) ≡ state log
 state_is contents log is =
     ap (λ (r : Option Run). run_state r (length contents.readings)) is.run
-    ∙ ap (run_state (current_run log)) (ap length is.readings ∙ length-readings log)
+    ∙ ap (run_state (current_run log)) (ap length is.readings ∙ length_readings log)
     ∙ state_of_run (before_init log) (triggers log) (samples log)
 
 -- whether its readings are complete
@@ -63,7 +63,7 @@ pub complete_is : (contents : Contents) (log : List ScanAct) → Holds contents 
     → run_complete contents.run (length contents.readings) ≡ is_complete log
 complete_is contents log is =
     ap (λ (r : Option Run). run_complete r (length contents.readings)) is.run
-    ∙ ap (run_complete (current_run log)) (ap length is.readings ∙ length-readings log)
+    ∙ ap (run_complete (current_run log)) (ap length is.readings ∙ length_readings log)
     ∙ complete_of_run (before_init log) (triggers log) (samples log)
 
 -- the list of the measurement of the contents
@@ -106,7 +106,7 @@ pub progress_is : (contents : Contents) (log : List ScanAct) → Holds contents 
     → run_progress contents.run (length contents.readings) ≡ progress log
 progress_is contents log is =
     ap (λ (r : Option Run). run_progress r (length contents.readings)) is.run
-    ∙ ap (run_progress (current_run log)) (ap length is.readings ∙ length-readings log)
+    ∙ ap (run_progress (current_run log)) (ap length is.readings ∙ length_readings log)
     ∙ progress_of_run (before_init log) (triggers log) (samples log)
 
 -- the newest reading, with its channel
@@ -115,7 +115,7 @@ pub newest_is : (contents : Contents) (log : List ScanAct) (r : Run) (reading_no
     → Some (record { channel = channel; reading = reading_now }) ≡ newest_reading log
 newest_is contents log r reading_now channel is e told at =
     let channels : option_map_or scan_list (before_init log) [] ≡ r.channels = list_is log r (sym is.run ∙ e) in
-    let many : length contents.readings ≡ samples log = ap length is.readings ∙ length-readings log in
+    let many : length contents.readings ≡ samples log = ap length is.readings ∙ length_readings log in
     let place : channel ≡ channel_at (option_map_or scan_list (before_init log) []) (samples log - 1) =
     at ∙ ap (λ (n : ℕ). channel_at r.channels (n - 1)) many ∙ ap (λ (cs : List ℕ). channel_at cs (samples log - 1)) (sym channels) in
     let made : ℕ → Reading → Taken = λ c x. record { channel = c; reading = x } in

@@ -20,26 +20,26 @@ use Rattle.sv_scan.specs.Stands.{Run, Contents, Holds, StandsFor, current_run}
 use Rattle.sv_scan.specs.Representation.{contents_of}
 use Rattle.sv_scan.specs.Touched.{IsTouched, nothing}
 use Rattle.sv_scan.specs.Together.{AreOf}
-use Rattle.sv_scan.proofs.Searches.{length-readings, list_is}
-use Rattle.sv_scan.proofs.Untouched.{IsTouched-all, IsTouched-input}
+use Rattle.sv_scan.proofs.Searches.{length_readings, list_is}
+use Rattle.sv_scan.proofs.Untouched.{is_touched_all, is_touched_input}
 
 -- ---- acts that count
 
 keeps : (act : ScanAct) (acts : List ScanAct) → counts (effective acts) act ≡ true → effective (act ∷ acts) ≡ act ∷ effective acts
 keeps act acts e = ap (λ (b : Bool). if b then act ∷ effective acts else effective acts) e
 
-pub StandsFor-counted : (contents : Contents) (act : ScanAct) (acts : List ScanAct) → counts (effective acts) act ≡ true
+pub stands_for_counted : (contents : Contents) (act : ScanAct) (acts : List ScanAct) → counts (effective acts) act ≡ true
     → Holds contents (act ∷ effective acts) → StandsFor contents (act ∷ acts)
-StandsFor-counted contents act acts e is = subst (Holds contents) (sym (keeps act acts e)) is
+stands_for_counted contents act acts e is = subst (Holds contents) (sym (keeps act acts e)) is
 
 -- ---- acts that don't
 
 drops : (act : ScanAct) (acts : List ScanAct) → counts (effective acts) act ≡ false → effective (act ∷ acts) ≡ effective acts
 drops act acts e = ap (λ (b : Bool). if b then act ∷ effective acts else effective acts) e
 
-pub StandsFor-dropped : (contents : Contents) (act : ScanAct) (acts : List ScanAct) → counts (effective acts) act ≡ false
+pub stands_for_dropped : (contents : Contents) (act : ScanAct) (acts : List ScanAct) → counts (effective acts) act ≡ false
     → StandsFor contents acts → StandsFor contents (act ∷ acts)
-StandsFor-dropped contents act acts e is = subst (Holds contents) (sym (drops act acts e)) is
+stands_for_dropped contents act acts e is = subst (Holds contents) (sym (drops act acts e)) is
 
 -- ---- what is accepted counts, and what is refused doesn't
 
@@ -75,13 +75,13 @@ input_after inputs channel other microvolts before size legal known same =
     let apart : other - 1 ≢ channel - 1 = λ (h : other - 1 ≡ channel - 1). ne (omega arith) in
     get_or-set_other inputs (channel - 1) (other - 1) microvolts (pos 0) apart ∙ same)
 
-pub Holds-input : (contents : Contents) (log : List ScanAct) (channel : ℕ) (microvolts : ℤ) → length contents.inputs ≡ channel_count
+pub holds_input : (contents : Contents) (log : List ScanAct) (channel : ℕ) (microvolts : ℤ) → length contents.inputs ≡ channel_count
     → is_channel channel ≡ true → Holds contents log
     → Holds (record contents {
       inputs = slice_set contents.inputs (channel - 1) microvolts;
       touched = record { operation = false; questionable = false; limit = channel == contents.monitor };
     }) (Input channel microvolts ∷ log)
-Holds-input contents log channel microvolts size legal is = record {
+holds_input contents log channel microvolts size legal is = record {
   inputs = λ other known. input_after contents.inputs channel other microvolts (input other log) size legal known (is.inputs other known);
   list = is.list;
   monitor = is.monitor;
@@ -95,24 +95,24 @@ Holds-input contents log channel microvolts size legal is = record {
   readings = is.readings;
   touched = subst (λ (m : ℕ).
       IsTouched (record { operation = false; questionable = false; limit = channel == m }) (Input channel microvolts ∷ log))
-      (sym is.monitor) (IsTouched-input channel microvolts log);
+      (sym is.monitor) (is_touched_input channel microvolts log);
 }
 
 -- whether an act changes neither inputs nor settings
 abbrev pub is_of_run : ScanAct → Bool
 is_of_run = elim [ Input channel microvolts ↦ false | Configure setting ↦ false | Reset ↦ false | _ ↦ true ]
 
-pub Holds-run : (contents : Contents) (log : List ScanAct) (act : ScanAct) (now : Option Run) (made : List Reading) (touched : Touched)
+pub holds_run : (contents : Contents) (log : List ScanAct) (act : ScanAct) (now : Option Run) (made : List Reading) (touched : Touched)
     → is_of_run act ≡ true → Holds contents log → now ≡ current_run (act ∷ log) → made ≡ readings (act ∷ log)
     → IsTouched touched (act ∷ log)
     → Holds (record contents { run = now; readings = made; touched = touched }) (act ∷ log)
-Holds-run contents log Init now made touched e is at has said = assumption
-Holds-run contents log (Trigger from) now made touched e is at has said = assumption
-Holds-run contents log Abort now made touched e is at has said = assumption
-Holds-run contents log Sample now made touched e is at has said = assumption
-Holds-run contents log (Input channel microvolts) now made touched e is at has said = cc
-Holds-run contents log (Configure setting) now made touched e is at has said = cc
-Holds-run contents log Reset now made touched e is at has said = cc
+holds_run contents log Init now made touched e is at has said = assumption
+holds_run contents log (Trigger from) now made touched e is at has said = assumption
+holds_run contents log Abort now made touched e is at has said = assumption
+holds_run contents log Sample now made touched e is at has said = assumption
+holds_run contents log (Input channel microvolts) now made touched e is at has said = cc
+holds_run contents log (Configure setting) now made touched e is at has said = cc
+holds_run contents log Reset now made touched e is at has said = cc
 
 -- a sample
 abbrev pub sampled : Contents → Run → Reading
@@ -123,22 +123,22 @@ sampled_is : (contents : Contents) (log : List ScanAct) (r : Run) → contents.r
     → is_channel (channel_at r.channels (length contents.readings)) ≡ true → Holds contents log → sampled contents r ≡ reading log
 sampled_is contents log r e known is =
     let channels : option_map_or scan_list (before_init log) [] ≡ r.channels = list_is log r (sym is.run ∙ e) in
-    let many : length contents.readings ≡ samples log = ap length is.readings ∙ length-readings log in
+    let many : length contents.readings ≡ samples log = ap length is.readings ∙ length_readings log in
     ap (reading_in contents.range) (is.inputs (channel_at r.channels (length contents.readings)) known)
     ∙ ap (λ (range : ℤ). reading_in range (input (channel_at r.channels (length contents.readings)) log)) is.range
     ∙ ap (λ (n : ℕ). reading_in (range log) (input (channel_at r.channels n) log)) many
     ∙ ap (λ (cs : List ℕ). reading_in (range log) (input (channel_at cs (samples log)) log)) (sym channels)
 
-pub Holds-sample : (contents : Contents) (log : List ScanAct) (r : Run) → contents.run ≡ Some r
+pub holds_sample : (contents : Contents) (log : List ScanAct) (r : Run) → contents.run ≡ Some r
     → is_channel (channel_at r.channels (length contents.readings)) ≡ true → Holds contents log
     → Holds (record contents {
       readings = contents.readings ++ sampled contents r ∷ [];
       touched = record { operation = true; questionable = true; limit = true };
     }) (Sample ∷ log)
-Holds-sample contents log r e known is =
-    Holds-run contents log Sample contents.run (contents.readings ++ sampled contents r ∷ []) _ refl is is.run
+holds_sample contents log r e known is =
+    holds_run contents log Sample contents.run (contents.readings ++ sampled contents r ∷ []) _ refl is is.run
     (ap (λ (xs : List Reading). xs ++ sampled contents r ∷ []) is.readings
-    ∙ ap (λ (x : Reading). readings log ++ x ∷ []) (sampled_is contents log r e known is)) (IsTouched-all Sample log)
+    ∙ ap (λ (x : Reading). readings log ++ x ∷ []) (sampled_is contents log r e known is)) (is_touched_all Sample log)
 
 zeros : (n place : ℕ) → get_or (replicate n (pos 0)) place (pos 0) ≡ pos 0
 zeros n place = elim (cases_lt place n) [
@@ -147,9 +147,9 @@ zeros n place = elim (cases_lt place n) [
 ]
 
 -- no input was given, and each is 0
-pub StandsFor-new : (n : ℕ) (settings : Settings) → AreOf settings []
+pub stands_for_new : (n : ℕ) (settings : Settings) → AreOf settings []
     → StandsFor (contents_of (replicate n (pos 0)) settings None [] nothing) []
-StandsFor-new n settings are = record {
+stands_for_new n settings are = record {
   inputs = λ channel known. zeros n (channel - 1);
   list = are.list;
   monitor = are.monitor;

@@ -9,9 +9,9 @@ use Rattle.sv_scan.specs.Condition.{bit, is_below, is_above}
 use Rattle.sv_scan.specs.Touched.{IsTouched}
 
 -- nothing is said
-pub IsTouched-all : (act : ScanAct) (log : List ScanAct)
+pub is_touched_all : (act : ScanAct) (log : List ScanAct)
     → IsTouched (record { operation = true; questionable = true; limit = true }) (act ∷ log)
-IsTouched-all act log = ((λ e. absurd cc), (λ e. absurd cc), (λ e. absurd cc))
+is_touched_all act log = ((λ e. absurd cc), (λ e. absurd cc), (λ e. absurd cc))
 
 -- the limits that are passed, by the live input of the monitored channel
 abbrev live_word : ℤ → List ScanAct → ℕ
@@ -20,9 +20,9 @@ live_word live log = bit 0 (limits log && is_below (last_reading log) (lower log
     + bit 2 (limits log && (int_lt live (lower log) || int_lt (upper log) live))
 
 -- an input changes a word where its channel is the monitored one
-pub IsTouched-input : (channel : ℕ) (microvolts : ℤ) (log : List ScanAct)
+pub is_touched_input : (channel : ℕ) (microvolts : ℤ) (log : List ScanAct)
     → IsTouched (record { operation = false; questionable = false; limit = channel == monitor log }) (Input channel microvolts ∷ log)
-IsTouched-input channel microvolts log = (
+is_touched_input channel microvolts log = (
   (λ e. refl),
   (λ e. refl),
   (λ e. ap (λ (b : Bool). live_word (unwrap_or (if b then Some microvolts else None) (input (monitor log) log)) log) e),

@@ -1,5 +1,5 @@
--- An event register after one more act: which events are set (`event-..`), and that the stored
--- words agree with the acts (`StandsFor-..`).
+-- An event register after one more act: which events are set (`event_..`), and that the stored
+-- words agree with the acts (`stands_for_..`).
 use Rattle.std.proofs.Common.{◌≡◌, ℕ, List, [], ◌∷◌, refl, subst, sym, ◌⊎◌, inl, inr, bit_and, bit_or, arith}
 use Rattle.std.specs.Prelude.{◌↔◌, bit_xor}
 use Rattle.std.specs.Int.{bit_at}
@@ -17,8 +17,8 @@ no_change c k P Q (inr h) = absurd (omega arith)
 -- ---- which events stand
 
 -- none before all acts
-pub event-none : (k : ℕ) → EventStands k [] → ⊥
-event-none k stands = ((since_empty (Passes k) NotCleared).0 stands).0
+pub event_none : (k : ℕ) → EventStands k [] → ⊥
+event_none k stands = ((since_empty (Passes k) NotCleared).0 stands).0
 
 -- an act that keeps a bit, and at which it doesn't pass
 pub same_event : (k : ℕ) (act : RegisterAct) (acts : List RegisterAct) → NotCleared (act ∷ acts) → (Passes k (act ∷ acts) → ⊥)
@@ -27,38 +27,38 @@ same_event k act acts kept none =
     let same = since_same (Passes k) NotCleared act acts kept none in (same.1, same.0)
 
 -- a condition: a bit passes its filter, or its event stood before
-pub event-condition : (k word : ℕ) (acts : List RegisterAct)
+pub event_condition : (k word : ℕ) (acts : List RegisterAct)
     → EventStands k (Condition word ∷ acts) ↔ (Passes k (Condition word ∷ acts) ⊎ EventStands k acts)
-event-condition k word acts = since_kept (Passes k) NotCleared (Condition word) acts tt
+event_condition k word acts = since_kept (Passes k) NotCleared (Condition word) acts tt
 
 -- the condition that there was
-pub event-unchanged : (k word : ℕ) (acts : List RegisterAct) → word ≡ condition acts
+pub event_unchanged : (k word : ℕ) (acts : List RegisterAct) → word ≡ condition acts
     → EventStands k (Condition word ∷ acts) ↔ EventStands k acts
-event-unchanged k word acts same = since_same (Passes k) NotCleared (Condition word) acts tt (rw same (no_change (condition acts) k _ _))
+event_unchanged k word acts same = since_same (Passes k) NotCleared (Condition word) acts tt (rw same (no_change (condition acts) k _ _))
 
 -- filters, enable and presetting
-pub event-filter : (k up down : ℕ) (acts : List RegisterAct) → EventStands k (SetFilter up down ∷ acts) ↔ EventStands k acts
-event-filter k up down acts = since_same (Passes k) NotCleared (SetFilter up down) acts tt (no_change (condition acts) k _ _)
+pub event_filter : (k up down : ℕ) (acts : List RegisterAct) → EventStands k (SetFilter up down ∷ acts) ↔ EventStands k acts
+event_filter k up down acts = since_same (Passes k) NotCleared (SetFilter up down) acts tt (no_change (condition acts) k _ _)
 
-pub event-enable : (k word : ℕ) (acts : List RegisterAct) → EventStands k (SetEnable word ∷ acts) ↔ EventStands k acts
-event-enable k word acts = since_same (Passes k) NotCleared (SetEnable word) acts tt (no_change (condition acts) k _ _)
+pub event_enable : (k word : ℕ) (acts : List RegisterAct) → EventStands k (SetEnable word ∷ acts) ↔ EventStands k acts
+event_enable k word acts = since_same (Passes k) NotCleared (SetEnable word) acts tt (no_change (condition acts) k _ _)
 
-pub event-preset : (k : ℕ) (acts : List RegisterAct) → EventStands k (Preset ∷ acts) ↔ EventStands k acts
-event-preset k acts = since_same (Passes k) NotCleared Preset acts tt (no_change (condition acts) k _ _)
+pub event_preset : (k : ℕ) (acts : List RegisterAct) → EventStands k (Preset ∷ acts) ↔ EventStands k acts
+event_preset k acts = since_same (Passes k) NotCleared Preset acts tt (no_change (condition acts) k _ _)
 
 -- a reading or a clearing
-pub event-read : (k : ℕ) (acts : List RegisterAct) → EventStands k (ReadEvent ∷ acts) → ⊥
-event-read k acts = since_ended (Passes k) NotCleared ReadEvent acts (λ kept. kept)
+pub event_read : (k : ℕ) (acts : List RegisterAct) → EventStands k (ReadEvent ∷ acts) → ⊥
+event_read k acts = since_ended (Passes k) NotCleared ReadEvent acts (λ kept. kept)
 
-pub event-cleared : (k : ℕ) (acts : List RegisterAct) → EventStands k (Clear ∷ acts) → ⊥
-event-cleared k acts = since_ended (Passes k) NotCleared Clear acts (λ kept. kept)
+pub event_cleared : (k : ℕ) (acts : List RegisterAct) → EventStands k (Clear ∷ acts) → ⊥
+event_cleared k acts = since_ended (Passes k) NotCleared Clear acts (λ kept. kept)
 
 -- ---- what a register keeps
 
 -- filters and enable change no event
-pub StandsFor-filter : (start : ℕ) (latches : Latches) (acts : List RegisterAct) (up down : ℕ) → StandsFor start latches acts
+pub stands_for_filter : (start : ℕ) (latches : Latches) (acts : List RegisterAct) (up down : ℕ) → StandsFor start latches acts
     → StandsFor start (record latches { rise = without_top_bit up; fall = without_top_bit down }) (SetFilter up down ∷ acts)
-StandsFor-filter start latches acts up down is = record {
+stands_for_filter start latches acts up down is = record {
   begins = is.begins;
   condition = is.condition;
   rise = refl;
@@ -67,9 +67,9 @@ StandsFor-filter start latches acts up down is = record {
   event = λ k. then_same (is.event k) (same_event k (SetFilter up down) acts tt (no_change (condition acts) k _ _));
 }
 
-pub StandsFor-enable : (start : ℕ) (latches : Latches) (acts : List RegisterAct) (word : ℕ) → StandsFor start latches acts
+pub stands_for_enable : (start : ℕ) (latches : Latches) (acts : List RegisterAct) (word : ℕ) → StandsFor start latches acts
     → StandsFor start (record latches { enable = without_top_bit word }) (SetEnable word ∷ acts)
-StandsFor-enable start latches acts word is = record {
+stands_for_enable start latches acts word is = record {
   begins = is.begins;
   condition = is.condition;
   rise = is.rise;
@@ -78,9 +78,9 @@ StandsFor-enable start latches acts word is = record {
   event = λ k. then_same (is.event k) (same_event k (SetEnable word) acts tt (no_change (condition acts) k _ _));
 }
 
-pub StandsFor-preset : (start : ℕ) (latches : Latches) (acts : List RegisterAct) → StandsFor start latches acts
+pub stands_for_preset : (start : ℕ) (latches : Latches) (acts : List RegisterAct) → StandsFor start latches acts
     → StandsFor start (record latches { rise = 32767; fall = 0; enable = latches.start }) (Preset ∷ acts)
-StandsFor-preset start latches acts is = record {
+stands_for_preset start latches acts is = record {
   begins = is.begins;
   condition = is.condition;
   rise = refl;
@@ -134,9 +134,9 @@ latched_bit latches word k =
     )
 
 -- a change of the condition
-pub StandsFor-condition : (start : ℕ) (latches : Latches) (acts : List RegisterAct) (word : ℕ) → StandsFor start latches acts
+pub stands_for_condition : (start : ℕ) (latches : Latches) (acts : List RegisterAct) (word : ℕ) → StandsFor start latches acts
     → StandsFor start (record latches { condition = word; event = latched latches word }) (Condition word ∷ acts)
-StandsFor-condition start latches acts word is = record {
+stands_for_condition start latches acts word is = record {
   begins = is.begins;
   condition = refl;
   rise = is.rise;
@@ -155,29 +155,29 @@ StandsFor-condition start latches acts word is = record {
 }
 
 -- the event register is cleared, by reading it or by itself
-pub StandsFor-read : (start : ℕ) (latches : Latches) (acts : List RegisterAct) → StandsFor start latches acts
+pub stands_for_read : (start : ℕ) (latches : Latches) (acts : List RegisterAct) → StandsFor start latches acts
     → StandsFor start (record latches { event = 0 }) (ReadEvent ∷ acts)
-StandsFor-read start latches acts is = record {
+stands_for_read start latches acts is = record {
   begins = is.begins;
   condition = is.condition;
   rise = is.rise;
   fall = is.fall;
   enable = is.enable;
-  event = λ k. no_bits k (EventStands k (ReadEvent ∷ acts)) (event-read k acts);
+  event = λ k. no_bits k (EventStands k (ReadEvent ∷ acts)) (event_read k acts);
 }
 
-pub StandsFor-cleared : (start : ℕ) (latches : Latches) (acts : List RegisterAct) → StandsFor start latches acts
+pub stands_for_cleared : (start : ℕ) (latches : Latches) (acts : List RegisterAct) → StandsFor start latches acts
     → StandsFor start (record latches { event = 0 }) (Clear ∷ acts)
-StandsFor-cleared start latches acts is = record {
+stands_for_cleared start latches acts is = record {
   begins = is.begins;
   condition = is.condition;
   rise = is.rise;
   fall = is.fall;
   enable = is.enable;
-  event = λ k. no_bits k (EventStands k (Clear ∷ acts)) (event-cleared k acts);
+  event = λ k. no_bits k (EventStands k (Clear ∷ acts)) (event_cleared k acts);
 }
 
 -- what it keeps for a preset is what its enable started with
-pub StandsFor-start : (start : ℕ) (latches : Latches) (acts : List RegisterAct) → StandsFor start latches acts
+pub stands_for_start : (start : ℕ) (latches : Latches) (acts : List RegisterAct) → StandsFor start latches acts
     → StandsFor latches.start latches acts
-StandsFor-start start latches acts is = subst (λ (s : ℕ). StandsFor s latches acts) (sym is.begins) is
+stands_for_start start latches acts is = subst (λ (s : ℕ). StandsFor s latches acts) (sym is.begins) is

@@ -1,5 +1,5 @@
--- The standard events after one more act: which are set (`stands-..`), and that the stored words
--- agree with the acts (`StandsFor-..`).
+-- The standard events after one more act: which are set (`stands_..`), and that the stored words
+-- agree with the acts (`stands_for_..`).
 use Rattle.std.proofs.Common.{◌≡◌, ℕ, List, [], ◌∷◌, refl, ap, ◌⊎◌, inl, inr, bit_or, arith}
 use Rattle.std.specs.Prelude.{◌↔◌}
 use Rattle.std.specs.Int.{bit_at}
@@ -14,23 +14,23 @@ use Rattle.sv_status.proofs.Words.{no_bits, either_bit}
 -- ---- which events stand
 
 -- power on alone before all acts
-pub stands-none : (k : ℕ) → Stands k [] ↔ (k ≡ 7)
-stands-none k = let law = since_empty (Occurs k) NotCleared in ((λ s. (law.0 s).0), (λ e. law.1 (e, tt)))
+pub stands_none : (k : ℕ) → Stands k [] ↔ (k ≡ 7)
+stands_none k = let law = since_empty (Occurs k) NotCleared in ((λ s. (law.0 s).0), (λ e. law.1 (e, tt)))
 
 -- events occur: one of these, or it stood before
-pub stands-occurred : (k bits : ℕ) (acts : List StandardAct) → Stands k (Occur bits ∷ acts) ↔ ((bit_at bits k ≡ 1) ⊎ Stands k acts)
-stands-occurred k bits acts = since_kept (Occurs k) NotCleared (Occur bits) acts tt
+pub stands_occurred : (k bits : ℕ) (acts : List StandardAct) → Stands k (Occur bits ∷ acts) ↔ ((bit_at bits k ≡ 1) ⊎ Stands k acts)
+stands_occurred k bits acts = since_kept (Occurs k) NotCleared (Occur bits) acts tt
 
 -- the enable
-pub stands-enable : (k word : ℕ) (acts : List StandardAct) → Stands k (SetEnable word ∷ acts) ↔ Stands k acts
-stands-enable k word acts = since_same (Occurs k) NotCleared (SetEnable word) acts tt (λ none. none)
+pub stands_enable : (k word : ℕ) (acts : List StandardAct) → Stands k (SetEnable word ∷ acts) ↔ Stands k acts
+stands_enable k word acts = since_same (Occurs k) NotCleared (SetEnable word) acts tt (λ none. none)
 
 -- a reading or a clearing
-pub stands-read : (k : ℕ) (acts : List StandardAct) → Stands k (Read ∷ acts) → ⊥
-stands-read k acts = since_ended (Occurs k) NotCleared Read acts (λ kept. kept)
+pub stands_read : (k : ℕ) (acts : List StandardAct) → Stands k (Read ∷ acts) → ⊥
+stands_read k acts = since_ended (Occurs k) NotCleared Read acts (λ kept. kept)
 
-pub stands-cleared : (k : ℕ) (acts : List StandardAct) → Stands k (Clear ∷ acts) → ⊥
-stands-cleared k acts = since_ended (Occurs k) NotCleared Clear acts (λ kept. kept)
+pub stands_cleared : (k : ℕ) (acts : List StandardAct) → Stands k (Clear ∷ acts) → ⊥
+stands_cleared k acts = since_ended (Occurs k) NotCleared Clear acts (λ kept. kept)
 
 -- ---- what the register keeps
 
@@ -42,12 +42,12 @@ power_on k =
       (λ s. ap (bit_at 128) (law.0 s).0),
     )
 
-pub StandsFor-new : StandsFor (record { event = 128; enable = 0 }) []
-StandsFor-new = record { enable = refl; event = power_on }
+pub stands_for_new : StandsFor (record { event = 128; enable = 0 }) []
+stands_for_new = record { enable = refl; event = power_on }
 
-pub StandsFor-occurred : (latches : Latches) (acts : List StandardAct) (bits : ℕ) → StandsFor latches acts
+pub stands_for_occurred : (latches : Latches) (acts : List StandardAct) (bits : ℕ) → StandsFor latches acts
     → StandsFor (record latches { event = bit_or latches.event bits }) (Occur bits ∷ acts)
-StandsFor-occurred latches acts bits is = record {
+stands_for_occurred latches acts bits is = record {
   enable = is.enable;
   event = λ k.
       let bit = either_bit latches.event bits k in
@@ -57,9 +57,9 @@ StandsFor-occurred latches acts bits is = record {
       );
 }
 
-pub StandsFor-enable : (latches : Latches) (acts : List StandardAct) (word : ℕ) → StandsFor latches acts
+pub stands_for_enable : (latches : Latches) (acts : List StandardAct) (word : ℕ) → StandsFor latches acts
     → StandsFor (record latches { enable = word }) (SetEnable word ∷ acts)
-StandsFor-enable latches acts word is = record {
+stands_for_enable latches acts word is = record {
   enable = refl;
   event = λ k.
       let law = since_step (Occurs k) NotCleared (SetEnable word) acts in
@@ -67,10 +67,10 @@ StandsFor-enable latches acts word is = record {
 }
 
 -- the register is cleared, by reading it or by itself
-pub StandsFor-read : (latches : Latches) (acts : List StandardAct) → StandsFor latches acts
+pub stands_for_read : (latches : Latches) (acts : List StandardAct) → StandsFor latches acts
     → StandsFor (record latches { event = 0 }) (Read ∷ acts)
-StandsFor-read latches acts is = record { enable = is.enable; event = λ k. no_bits k (Stands k (Read ∷ acts)) (stands-read k acts) }
+stands_for_read latches acts is = record { enable = is.enable; event = λ k. no_bits k (Stands k (Read ∷ acts)) (stands_read k acts) }
 
-pub StandsFor-cleared : (latches : Latches) (acts : List StandardAct) → StandsFor latches acts
+pub stands_for_cleared : (latches : Latches) (acts : List StandardAct) → StandsFor latches acts
     → StandsFor (record latches { event = 0 }) (Clear ∷ acts)
-StandsFor-cleared latches acts is = record { enable = is.enable; event = λ k. no_bits k (Stands k (Clear ∷ acts)) (stands-cleared k acts) }
+stands_for_cleared latches acts is = record { enable = is.enable; event = λ k. no_bits k (Stands k (Clear ∷ acts)) (stands_cleared k acts) }

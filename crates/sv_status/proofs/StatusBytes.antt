@@ -1,5 +1,5 @@
--- The status byte after one more act: whether service is requested (`request-..`) and the request
--- is new (`raised-..`), and that the stored bits agree with the acts (`StandsFor-..`).
+-- The status byte after one more act: whether service is requested (`request_..`) and the request
+-- is new (`raised_..`), and that the stored bits agree with the acts (`stands_for_..`).
 use Rattle.std.proofs.Common.{◌≡◌, ◌≢◌, ◌⊎◌, ℕ, Bool, true, false, ◌&&◌, ◌||◌, eqb, List, [], ◌∷◌, refl, ap, ◌∙◌, sym, inl, inr, bit_and, bit_or, ◌<◌, arith}
 use Rattle.std.specs.Prelude.{◌↔◌, not, bit_xor}
 use Rattle.std.specs.Int.{bit_at}
@@ -14,24 +14,24 @@ use Rattle.sv_status.proofs.Words.{not_zero, rose, either_bit, without_six}
 -- ---- whether a request stands
 
 -- none before all acts
-pub request-none : Request [] → ⊥
-request-none stands = ((since_empty Reason Lasts).0 stands).0
+pub request_none : Request [] → ⊥
+request_none stands = ((since_empty Reason Lasts).0 stands).0
 
 -- an update: it stands if the master summary does, and a reason arises or it stood before
-pub request-updated : (word mask : ℕ) (acts : List StatusAct) → Request (Update word mask ∷ acts)
+pub request_updated : (word mask : ℕ) (acts : List StatusAct) → Request (Update word mask ∷ acts)
     ↔ (Master (Update word mask ∷ acts) × (Reason (Update word mask ∷ acts) ⊎ Request acts))
-request-updated word mask acts = since_step Reason Lasts (Update word mask) acts
+request_updated word mask acts = since_step Reason Lasts (Update word mask) acts
 
-pub request-polled : (acts : List StatusAct) → Request (Poll ∷ acts) → ⊥
-request-polled acts = since_ended Reason Lasts Poll acts (λ lasts. lasts)
+pub request_polled : (acts : List StatusAct) → Request (Poll ∷ acts) → ⊥
+request_polled acts = since_ended Reason Lasts Poll acts (λ lasts. lasts)
 
 -- ---- whether it is raised
 
 -- an update: a reason arises, and none stood
-pub raised-updated : (word mask : ℕ) (acts : List StatusAct)
+pub raised_updated : (word mask : ℕ) (acts : List StatusAct)
     → IsRaised (Update word mask ∷ acts) ↔ (Reason (Update word mask ∷ acts) × (Request acts → ⊥))
-raised-updated word mask acts =
-    let law = request-updated word mask acts in (
+raised_updated word mask acts =
+    let law = request_updated word mask acts in (
       (λ raised. (elim (law.0 raised.0).1 [ inl r ↦ r | inr stood ↦ absurd (raised.1 stood) ], raised.1)),
       (λ h. let r = h.0 in (law.1 ((r.0, r.1), inl r), h.1)),
     )
@@ -80,7 +80,7 @@ request_is : (before now : ℕ) (latches : Latches) (acts : List StatusAct) (wor
     → HasAsking before latches.bits latches.enable → HasAsking now word mask
     → (((not (eqb (bit_and (bit_xor before now) now) 0) || latches.request) && not (eqb now 0)) ≡ true) ↔ Request (Update word mask ∷ acts)
 request_is before now latches acts word mask is was asks =
-    let law = request-updated word mask acts in
+    let law = request_updated word mask acts in
     let reason = reason_is before now latches acts word mask is was asks in
     let zero = not_zero now in (
       (λ h.
@@ -110,7 +110,7 @@ pub raised_is : (before now : ℕ) (latches : Latches) (acts : List StatusAct) (
     → HasAsking before latches.bits latches.enable → HasAsking now word mask
     → ((not (eqb (bit_and (bit_xor before now) now) 0) && not latches.request) ≡ true) ↔ IsRaised (Update word mask ∷ acts)
 raised_is before now latches acts word mask is was asks =
-    let law = raised-updated word mask acts in
+    let law = raised_updated word mask acts in
     let reason = reason_is before now latches acts word mask is was asks in (
       (λ h.
           let both = and_parts (not (eqb (bit_and (bit_xor before now) now) 0)) (not latches.request) h in
@@ -122,7 +122,7 @@ raised_is before now latches acts word mask is was asks =
     )
 
 -- the bits that asked before an update, and those that ask after it, decide the request
-pub StandsFor-updated : (before now : ℕ) (latches : Latches) (acts : List StatusAct) (word mask : ℕ) → StandsFor latches acts
+pub stands_for_updated : (before now : ℕ) (latches : Latches) (acts : List StatusAct) (word mask : ℕ) → StandsFor latches acts
     → HasAsking before latches.bits latches.enable → HasAsking now word mask
     → StandsFor (record {
       bits = word;
@@ -130,17 +130,17 @@ pub StandsFor-updated : (before now : ℕ) (latches : Latches) (acts : List Stat
       request =
           (not (eqb (bit_and (bit_xor before now) now) 0) || latches.request) && not (eqb now 0);
     }) (Update word mask ∷ acts)
-StandsFor-updated before now latches acts word mask is was asks =
+stands_for_updated before now latches acts word mask is was asks =
     record { bits = refl; enable = refl; request = request_is before now latches acts word mask is was asks }
 
 -- a poll ends the request
-pub StandsFor-polled : (latches : Latches) (acts : List StatusAct) → StandsFor latches acts
+pub stands_for_polled : (latches : Latches) (acts : List StatusAct) → StandsFor latches acts
     → StandsFor (record latches { request = false }) (Poll ∷ acts)
-StandsFor-polled latches acts is = record {
+stands_for_polled latches acts is = record {
   bits = is.bits;
   enable = is.enable;
   request =
-      ((λ h. absurd cc), (λ s. absurd (request-polled acts s)));
+      ((λ h. absurd cc), (λ s. absurd (request_polled acts s)));
 }
 
 -- ---- the status byte as it is shown

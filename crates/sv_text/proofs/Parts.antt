@@ -14,9 +14,9 @@ abbrev pub parts_at : ℕ → ℕ → ℕ → List ℕ → List (List ℕ)
 parts_at separator n size bytes = take n bytes ∷ cond (nat_lt n size) (cut_at separator (drop (n + 1) bytes)) []
 
 -- a byte in front
-parts_at-cons : (s b n m : ℕ) (bytes : List ℕ) → m ≡ suc n
+parts_at_cons : (s b n m : ℕ) (bytes : List ℕ) → m ≡ suc n
     → onto b (parts_at s n (length bytes) bytes) ≡ parts_at s m (suc (length bytes)) (b ∷ bytes)
-parts_at-cons s b n m bytes e =
+parts_at_cons s b n m bytes e =
     elim (cases_lt n (length bytes)) [
       | inl lt ↦
           let next : suc n + 1 ≡ suc (n + 1) = omega arith in
@@ -33,7 +33,7 @@ parts_cut s (b ∷ bytes) = at (b == s) (parts_cut s bytes)
         → cond t ([] ∷ cut_at s bytes) (onto b (cut_at s bytes))
         ≡ parts_at s (cond (not t) (1 + part_size s bytes) 0) (suc (length bytes)) (b ∷ bytes)
     at true h = rw (lt-ltb 0 (suc (length bytes)) (omega arith)) refl
-    at false h = ap (onto b) h ∙ parts_at-cons s b (part_size s bytes) (1 + part_size s bytes) bytes (omega arith)
+    at false h = ap (onto b) h ∙ parts_at_cons s b (part_size s bytes) (1 + part_size s bytes) bytes (omega arith)
 
 -- a part that a separator ends, and those behind it
 pub part_ended : (s n : ℕ) (bytes : List ℕ) → n ≡ part_size s bytes → n < length bytes

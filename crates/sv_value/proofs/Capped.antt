@@ -7,7 +7,7 @@ use Rattle.std.proofs.lemmas.List.{take_rest}
 use Rattle.std.proofs.Math.Seq.{take-append-add}
 use Rattle.std.proofs.Math.Nat.{pow-le-pow_right}
 use Rattle.sv_value.specs.Number.{nearest}
-use Rattle.sv_value.proofs.Rounding.{value-join}
+use Rattle.sv_value.proofs.Rounding.{value_join}
 use Rattle.std.proofs.lemmas.Nat.{mul-le}
 
 -- one more digit
@@ -45,11 +45,11 @@ cap_digit b most x v (d ∷ digits) some lt e =
 -- digits behind a value that was counted to the bound
 pub cap_join : (most : ℕ) (front behind : List ℕ)
     → min (digits_value_after 10 (min (digits_value 10 front) most) behind) most ≡ min (digits_value 10 (front ++ behind)) most
-cap_join most front behind = cap most 10 (digits_value 10 front) behind (omega arith) ∙ ap (λ n. min n most) (sym (value-join front behind))
+cap_join most front behind = cap most 10 (digits_value 10 front) behind (omega arith) ∙ ap (λ n. min n most) (sym (value_join front behind))
 
 -- so far into two lists is all of the first and the rest into the second
-pub take-join : (k : ℕ) (front behind : List ℕ) → length front ≤ k → take k (front ++ behind) ≡ front ++ take (k - length front) behind
-take-join k front behind le =
+pub take_join : (k : ℕ) (front behind : List ℕ) → length front ≤ k → take k (front ++ behind) ≡ front ++ take (k - length front) behind
+take_join k front behind le =
     let e : k ≡ length front + (k - length front) = omega (arith, le) in
     ap (λ n. take n (front ++ behind)) e ∙ take-append-add front behind (k - length front)
 
@@ -73,6 +73,6 @@ pub cap_round : (most value up front carry result : ℕ) → front ≡ min value
 cap_round most value up front carry result f u e = omega (arith, f, u, e)
 
 -- a fraction whose powers of ten are told in another way
-pub same-powers : (most n up right down left : ℕ) → up ≡ right → down ≡ left
+pub same_powers : (most n up right down left : ℕ) → up ≡ right → down ≡ left
     → min (nearest (n * 10 ^ up) (10 ^ down)) most ≡ min (nearest (n * 10 ^ right) (10 ^ left)) most
-same-powers most n up right down left u d = rw (u, d) refl
+same_powers most n up right down left u d = rw (u, d) refl

@@ -14,29 +14,29 @@ use Rattle.sv_text.specs.Cut.{cut_at}
 use Rattle.sv_text.proofs.Parts.{parts_some}
 use Rattle.sv_value.specs.Channels.{Span as Ends, inner, list_channels, next, read_items, read_list, channel_range, span}
 use Rattle.sv_value.specs.Value.{ReadIsChannelList}
-use Rattle.sv_value.proofs.Spans.{run-up, run-down, run-one, length-run}
+use Rattle.sv_value.proofs.Spans.{run_up, run_down, run_one, length_run}
 
 -- one more channel in front
-cons-channel : (c : ℕ) (cs : List ℕ) → 1 ≤ c → c ≤ channel_count → list_all is_channel cs ≡ true → list_all is_channel (c ∷ cs) ≡ true
-cons-channel c cs some most h = rw (le-leb 1 c some, le-leb c channel_count most) h
+cons_channel : (c : ℕ) (cs : List ℕ) → 1 ≤ c → c ≤ channel_count → list_all is_channel cs ≡ true → list_all is_channel (c ∷ cs) ≡ true
+cons_channel c cs some most h = rw (le-leb 1 c some, le-leb c channel_count most) h
 
 -- a run between two channels
-run-channels : (k first last : ℕ) → (first - last) + (last - first) ≡ k → 1 ≤ first → first ≤ channel_count → 1 ≤ last
+run_channels : (k first last : ℕ) → (first - last) + (last - first) ≡ k → 1 ≤ first → first ≤ channel_count → 1 ≤ last
     → last ≤ channel_count → list_all is_channel (channel_range first last) ≡ true
-run-channels zero first last size f1 f2 l1 l2 =
+run_channels zero first last size f1 f2 l1 l2 =
     let e : first ≡ last = omega (arith, size) in
-    rw e (ap (list_all is_channel) (run-one last) ∙ cons-channel last [] l1 l2 refl)
-run-channels (suc k) first last size f1 f2 l1 l2 =
+    rw e (ap (list_all is_channel) (run_one last) ∙ cons_channel last [] l1 l2 refl)
+run_channels (suc k) first last size f1 f2 l1 l2 =
     elim (cases_lt first last) [
       | inl up ↦
-          ap (list_all is_channel) (run-up first last up)
-          ∙ cons-channel first (channel_range (first + 1) last) f1 f2
-          (run-channels k (first + 1) last (omega (arith, size, up)) (omega arith) (omega (arith, up, l2)) l1 l2)
+          ap (list_all is_channel) (run_up first last up)
+          ∙ cons_channel first (channel_range (first + 1) last) f1 f2
+          (run_channels k (first + 1) last (omega (arith, size, up)) (omega arith) (omega (arith, up, l2)) l1 l2)
       | inr other ↦
           let down : last < first = omega (arith, size, other) in
-          ap (list_all is_channel) (run-down first last down)
-          ∙ cons-channel first (channel_range (first - 1) last) f1 f2
-          (run-channels k (first - 1) last (omega (arith, size, down)) (omega (arith, down, l1)) (omega (arith, f2)) l1 l2)
+          ap (list_all is_channel) (run_down first last down)
+          ∙ cons_channel first (channel_range (first - 1) last) f1 f2
+          (run_channels k (first - 1) last (omega (arith, size, down)) (omega (arith, down, l1)) (omega (arith, f2)) l1 l2)
     ]
 
 -- both tests hold
@@ -44,26 +44,26 @@ both : (a b : Bool) → (a && b) ≡ true → (a ≡ true) × (b ≡ true)
 both true b h = (refl, h)
 both false b h = absurd cc
 
-ends-channels : (first last : ℕ) → (is_channel first && is_channel last) ≡ true → list_all is_channel (channel_range first last) ≡ true
-ends-channels first last h =
+ends_channels : (first last : ℕ) → (is_channel first && is_channel last) ≡ true → list_all is_channel (channel_range first last) ≡ true
+ends_channels first last h =
     let one = both (is_channel first) (is_channel last) h in
     let f = both (nat_le 1 first) (nat_le first channel_count) one.0 in
     let l = both (nat_le 1 last) (nat_le last channel_count) one.1 in
-    run-channels ((first - last) + (last - first)) first last refl (leb-true 1 first f.0)
+    run_channels ((first - last) + (last - first)) first last refl (leb-true 1 first f.0)
     (leb-true first channel_count f.1) (leb-true 1 last l.0) (leb-true last channel_count l.1)
 
 -- as many as a list may have, and at least one
-are-listed : (before list : List ℕ) → list_all is_channel before ≡ true → length before ≤ longest_list → 1 ≤ length before → before ≡ list
+are_listed : (before list : List ℕ) → list_all is_channel before ≡ true → length before ≤ longest_list → 1 ≤ length before → before ≡ list
     → is_channel_list list ≡ true
-are-listed before list all most some e = rw (← e) (rw (le-leb 1 (length before) some, le-leb (length before) longest_list most) all)
+are_listed before list all most some e = rw (← e) (rw (le-leb 1 (length before) some, le-leb (length before) longest_list most) all)
 
 -- the channels of an item behind others, if the items behind it go on well
-item-channels : (o : Option Ends) (before list : List ℕ) (others : List ℕ → Result (List ℕ) Code) → list_all is_channel before ≡ true
+item_channels : (o : Option Ends) (before list : List ℕ) (others : List ℕ → Result (List ℕ) Code) → list_all is_channel before ≡ true
     → ((so_far : List ℕ) → list_all is_channel so_far ≡ true → length so_far ≤ longest_list → 1 ≤ length so_far → others so_far ≡ Ok list
     → is_channel_list list ≡ true)
     → next o before others ≡ Ok list → is_channel_list list ≡ true
-item-channels None before list others all go h = absurd cc
-item-channels (Some ends) before list others all go h =
+item_channels None before list others all go h = absurd cc
+item_channels (Some ends) before list others all go h =
     at (is_channel ends.first && is_channel ends.last)
     (nat_lt longest_list (length (before ++ channel_range ends.first ends.last))) refl refl h
   where
@@ -75,39 +75,39 @@ item-channels (Some ends) before list others all go h =
     at false full is_legal is_full e = absurd cc
     at true true is_legal is_full e = absurd cc
     at true false is_legal is_full e =
-        let channels = ends-channels ends.first ends.last is_legal in
-        let run_size = length-run ends.first ends.last in
+        let channels = ends_channels ends.first ends.last is_legal in
+        let run_size = length_run ends.first ends.last in
         let size = length-append before (channel_range ends.first ends.last) in
         go (before ++ channel_range ends.first ends.last)
         (list_all-append is_channel before (channel_range ends.first ends.last) ∙ rw (all, channels) refl)
         (ltb-false longest_list (length (before ++ channel_range ends.first ends.last)) is_full) (omega (arith, size, run_size)) e
 
-listed-channels : (items : List (List ℕ)) (before list : List ℕ) → list_all is_channel before ≡ true → length before ≤ longest_list
+listed_channels : (items : List (List ℕ)) (before list : List ℕ) → list_all is_channel before ≡ true → length before ≤ longest_list
     → 1 ≤ length before + length items → list_channels before items ≡ Ok list → is_channel_list list ≡ true
-listed-channels [] before list all most some h = are-listed before list all most (omega (arith, some)) cc
-listed-channels (item ∷ items) before list all most some h =
-    item-channels (span item) before list (λ so_far. list_channels so_far items) all
-    (λ so_far a m s e. listed-channels items so_far list a m (omega (arith, s)) e) h
+listed_channels [] before list all most some h = are_listed before list all most (omega (arith, some)) cc
+listed_channels (item ∷ items) before list all most some h =
+    item_channels (span item) before list (λ so_far. list_channels so_far items) all
+    (λ so_far a m s e. listed_channels items so_far list a m (omega (arith, s)) e) h
 
-items-channels : (o : Option (List ℕ)) (list : List ℕ) → option_map_or read_items o (Err InvalidExpression) ≡ Ok list
+items_channels : (o : Option (List ℕ)) (list : List ℕ) → option_map_or read_items o (Err InvalidExpression) ≡ Ok list
     → is_channel_list list ≡ true
-items-channels None list h = absurd cc
-items-channels (Some text) list h = at (list_all (λ item. is_some (span item)) (cut_at 44 text)) h
+items_channels None list h = absurd cc
+items_channels (Some text) list h = at (list_all (λ item. is_some (span item)) (cut_at 44 text)) h
   where
     at : (t : Bool) → cond t (list_channels [] (cut_at 44 text)) (Err InvalidExpression) ≡ Ok list → is_channel_list list ≡ true
     at false e = absurd cc
-    at true e = let some = parts_some 44 text in listed-channels (cut_at 44 text) [] list refl (omega arith) (omega (arith, some)) e
+    at true e = let some = parts_some 44 text in listed_channels (cut_at 44 text) [] list refl (omega arith) (omega (arith, some)) e
 
-pub read-channels : ReadIsChannelList
-read-channels Expression text list h = items-channels (inner text) list h
-read-channels Number text list h = absurd cc
-read-channels Base text list h = absurd cc
-read-channels Word text list h = absurd cc
-read-channels Other text list h = absurd cc
+pub read_channels : ReadIsChannelList
+read_channels Expression text list h = items_channels (inner text) list h
+read_channels Number text list h = absurd cc
+read_channels Base text list h = absurd cc
+read_channels Word text list h = absurd cc
+read_channels Other text list h = absurd cc
 
 -- what is found to be a list is one
-pub if-listed : {L : Type 0} (items : L → List ℕ) (text : List ℕ) (r : Result L Code)
+pub if_listed : {L : Type 0} (items : L → List ℕ) (text : List ℕ) (r : Result L Code)
     → MatchResult r (λ list. read_list text ≡ Ok (items list)) (λ code. read_list text ≡ Err code)
     → IfOk r (λ list. is_channel_list (items list) ≡ true)
-if-listed items text (Ok list) h = items-channels (inner text) (items list) h
-if-listed items text (Err code) h = tt
+if_listed items text (Ok list) h = items_channels (inner text) (items list) h
+if_listed items text (Err code) h = tt

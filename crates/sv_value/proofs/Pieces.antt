@@ -9,7 +9,7 @@ use Rattle.std.proofs.lemmas.List.{take-append-drop, append-nil}
 use Rattle.sv_text.specs.White.{is_white, trim_start}
 use Rattle.sv_value.specs.Decimal.{digits_in, behind_digits, digits_size, behind_sign, fraction_in, behind_fraction}
 use Rattle.sv_value.specs.Spelling.{AreDigits, IsSpace, IsSign, IsFraction}
-use Rattle.sv_value.proofs.Runs.{run-passes}
+use Rattle.sv_value.proofs.Runs.{run_passes}
 
 -- whether the first byte passes a test
 abbrev pub begins : (ℕ → Bool) → List ℕ → Bool
@@ -23,9 +23,9 @@ abbrev pub is_point : ℕ → Bool
 is_point b = b == 46
 
 -- digits in front of text
-pub digits-joined : (digits text : List ℕ) → AreDigits digits → digits_in (digits ++ text) ≡ digits ++ digits_in text
-digits-joined [] text all = refl
-digits-joined (b ∷ digits) text all = at (is_ascii_digit b) all (digits-joined digits text)
+pub digits_joined : (digits text : List ℕ) → AreDigits digits → digits_in (digits ++ text) ≡ digits ++ digits_in text
+digits_joined [] text all = refl
+digits_joined (b ∷ digits) text all = at (is_ascii_digit b) all (digits_joined digits text)
   where
     at : (t : Bool) → (t && list_all is_ascii_digit digits) ≡ true
         → (AreDigits digits → digits_in (digits ++ text) ≡ digits ++ digits_in text)
@@ -34,9 +34,9 @@ digits-joined (b ∷ digits) text all = at (is_ascii_digit b) all (digits-joined
         rw n (ap (λ xs. b ∷ xs) (ih h))
     at false h ih = absurd cc
 
-pub behind-joined : (digits text : List ℕ) → AreDigits digits → behind_digits (digits ++ text) ≡ behind_digits text
-behind-joined [] text all = refl
-behind-joined (b ∷ digits) text all = at (is_ascii_digit b) all (behind-joined digits text)
+pub behind_joined : (digits text : List ℕ) → AreDigits digits → behind_digits (digits ++ text) ≡ behind_digits text
+behind_joined [] text all = refl
+behind_joined (b ∷ digits) text all = at (is_ascii_digit b) all (behind_joined digits text)
   where
     at : (t : Bool) → (t && list_all is_ascii_digit digits) ≡ true
         → (AreDigits digits → behind_digits (digits ++ text) ≡ behind_digits text)
@@ -44,39 +44,39 @@ behind-joined (b ∷ digits) text all = at (is_ascii_digit b) all (behind-joined
     at true h ih = let n : 1 + digits_size (digits ++ text) ≡ suc (digits_size (digits ++ text)) = omega arith in rw n (ih h)
     at false h ih = absurd cc
 
-pub digits-none : (text : List ℕ) → begins is_ascii_digit text ≡ false → digits_in text ≡ []
-digits-none [] h = refl
-digits-none (b ∷ text) h = rw h refl
+pub digits_none : (text : List ℕ) → begins is_ascii_digit text ≡ false → digits_in text ≡ []
+digits_none [] h = refl
+digits_none (b ∷ text) h = rw h refl
 
-pub behind-none : (text : List ℕ) → begins is_ascii_digit text ≡ false → behind_digits text ≡ text
-behind-none [] h = refl
-behind-none (b ∷ text) h = rw h refl
+pub behind_none : (text : List ℕ) → begins is_ascii_digit text ≡ false → behind_digits text ≡ text
+behind_none [] h = refl
+behind_none (b ∷ text) h = rw h refl
 
 -- white space in front of text
-pub trim-joined : (space text : List ℕ) → IsSpace space → trim_start (space ++ text) ≡ trim_start text
-trim-joined [] text all = refl
-trim-joined (b ∷ space) text all = at (is_white b) all (trim-joined space text)
+pub trim_joined : (space text : List ℕ) → IsSpace space → trim_start (space ++ text) ≡ trim_start text
+trim_joined [] text all = refl
+trim_joined (b ∷ space) text all = at (is_white b) all (trim_joined space text)
   where
     at : (t : Bool) → (t && list_all is_white space) ≡ true → (IsSpace space → trim_start (space ++ text) ≡ trim_start text)
         → cond t (trim_start (space ++ text)) (b ∷ (space ++ text)) ≡ trim_start text
     at true h ih = ih h
     at false h ih = absurd cc
 
-pub trim-none : (text : List ℕ) → begins is_white text ≡ false → trim_start text ≡ text
-trim-none [] h = refl
-trim-none (b ∷ text) h = rw h refl
+pub trim_none : (text : List ℕ) → begins is_white text ≡ false → trim_start text ≡ text
+trim_none [] h = refl
+trim_none (b ∷ text) h = rw h refl
 
 -- text is the digits in front and what stands behind them
-pub digits-apart : (text : List ℕ) → text ≡ digits_in text ++ behind_digits text
-digits-apart text = sym (take-append-drop (digits_size text) text)
+pub digits_apart : (text : List ℕ) → text ≡ digits_in text ++ behind_digits text
+digits_apart text = sym (take-append-drop (digits_size text) text)
 
-pub digits-all : (text : List ℕ) → AreDigits (digits_in text)
-digits-all text = run-passes is_ascii_digit text
+pub digits_all : (text : List ℕ) → AreDigits (digits_in text)
+digits_all text = run_passes is_ascii_digit text
 
 -- text is white space and what stands behind it
-pub trim-apart : (text : List ℕ) → (space : List ℕ) × (text ≡ space ++ trim_start text) × IsSpace space
-trim-apart [] = ([], refl, refl)
-trim-apart (b ∷ text) = at (is_white b) refl (trim-apart text)
+pub trim_apart : (text : List ℕ) → (space : List ℕ) × (text ≡ space ++ trim_start text) × IsSpace space
+trim_apart [] = ([], refl, refl)
+trim_apart (b ∷ text) = at (is_white b) refl (trim_apart text)
   where
     at : (t : Bool) → is_white b ≡ t → ((space : List ℕ) × (text ≡ space ++ trim_start text) × IsSpace space)
         → (space : List ℕ) × (b ∷ text ≡ space ++ cond t (trim_start text) (b ∷ text)) × IsSpace space
@@ -84,19 +84,19 @@ trim-apart (b ∷ text) = at (is_white b) refl (trim-apart text)
     at false is h = ([], refl, refl)
 
 -- a sign in front of text
-pub sign-joined : (sign text : List ℕ) (minus : Bool) → IsSign sign minus → begins is_sign text ≡ false
+pub sign_joined : (sign text : List ℕ) (minus : Bool) → IsSign sign minus → begins is_sign text ≡ false
     → (has_minus (sign ++ text) ≡ minus) × (behind_sign (sign ++ text) ≡ text)
-sign-joined sign text minus (inl s) h = rw (s.0, s.1) (none text h)
+sign_joined sign text minus (inl s) h = rw (s.0, s.1) (none text h)
   where
     none : (text : List ℕ) → begins is_sign text ≡ false → (has_minus text ≡ false) × (behind_sign text ≡ text)
     none [] h = (refl, refl)
     none (b ∷ text) h = (grind (arith, nat_tests, h), rw h refl)
-sign-joined sign text minus (inr (inl s)) h = rw (s.0, s.1) (refl, refl)
-sign-joined sign text minus (inr (inr s)) h = rw (s.0, s.1) (refl, refl)
+sign_joined sign text minus (inr (inl s)) h = rw (s.0, s.1) (refl, refl)
+sign_joined sign text minus (inr (inr s)) h = rw (s.0, s.1) (refl, refl)
 
-pub sign-apart : (text : List ℕ) → (sign : List ℕ) × (text ≡ sign ++ behind_sign text) × IsSign sign (has_minus text)
-sign-apart [] = ([], refl, inl (refl, refl))
-sign-apart (b ∷ text) = at (b == 43) (b == 45) refl refl
+pub sign_apart : (text : List ℕ) → (sign : List ℕ) × (text ≡ sign ++ behind_sign text) × IsSign sign (has_minus text)
+sign_apart [] = ([], refl, inl (refl, refl))
+sign_apart (b ∷ text) = at (b == 43) (b == 45) refl refl
   where
     at : (plus minus : Bool) → (b == 43) ≡ plus → (b == 45) ≡ minus
         → (sign : List ℕ) × (b ∷ text ≡ sign ++ cond (plus || minus) text (b ∷ text)) × IsSign sign minus
@@ -106,25 +106,25 @@ sign-apart (b ∷ text) = at (b == 43) (b == 45) refl refl
     at false false p m = ([], refl, inl (refl, refl))
 
 -- a fraction in front of text
-pub fraction-joined : (piece digits text : List ℕ) → IsFraction piece digits → begins is_ascii_digit text ≡ false
+pub fraction_joined : (piece digits text : List ℕ) → IsFraction piece digits → begins is_ascii_digit text ≡ false
     → begins is_point text ≡ false
     → (fraction_in (piece ++ text) ≡ digits) × (behind_fraction (piece ++ text) ≡ text)
-fraction-joined piece digits text (inl f) d p = rw (f.0, f.1) (none text p)
+fraction_joined piece digits text (inl f) d p = rw (f.0, f.1) (none text p)
   where
     none : (text : List ℕ) → begins is_point text ≡ false → (fraction_in text ≡ []) × (behind_fraction text ≡ text)
     none [] p = (refl, refl)
     none (b ∷ text) p = (rw p refl, rw p refl)
-fraction-joined piece digits text (inr f) d p =
+fraction_joined piece digits text (inr f) d p =
     let front : digits_in (digits ++ text) ≡ digits =
-    digits-joined digits text f.1 ∙ ap (λ xs. digits ++ xs) (digits-none text d) ∙ append-nil digits in
-    let behind : behind_digits (digits ++ text) ≡ text = behind-joined digits text f.1 ∙ behind-none text d in
+    digits_joined digits text f.1 ∙ ap (λ xs. digits ++ xs) (digits_none text d) ∙ append-nil digits in
+    let behind : behind_digits (digits ++ text) ≡ text = behind_joined digits text f.1 ∙ behind_none text d in
     rw f.0 (front, behind)
 
-pub fraction-apart : (text : List ℕ) → (piece : List ℕ) × (text ≡ piece ++ behind_fraction text) × IsFraction piece (fraction_in text)
-fraction-apart [] = ([], refl, inl (refl, refl))
-fraction-apart (b ∷ text) = at (b == 46) refl
+pub fraction_apart : (text : List ℕ) → (piece : List ℕ) × (text ≡ piece ++ behind_fraction text) × IsFraction piece (fraction_in text)
+fraction_apart [] = ([], refl, inl (refl, refl))
+fraction_apart (b ∷ text) = at (b == 46) refl
   where
     at : (point : Bool) → (b == 46) ≡ point → (piece : List ℕ) × (b ∷ text ≡ piece ++ cond point (behind_digits text) (b ∷ text))
         × IsFraction piece (cond point (digits_in text) [])
-    at true p = (46 ∷ digits_in text, rw (eqb-true b 46 p) (ap (λ xs. 46 ∷ xs) (digits-apart text)), inr (refl, digits-all text))
+    at true p = (46 ∷ digits_in text, rw (eqb-true b 46 p) (ap (λ xs. 46 ∷ xs) (digits_apart text)), inr (refl, digits_all text))
     at false p = ([], refl, inl (refl, refl))

@@ -13,39 +13,39 @@ pub volts_short : (n : ℕ) → n ≤ 1000000000 → length (decimal (n / 100000
 volts_short n le = length-decimal-le 4 (n / 1000000) (omega arith) (omega (arith, le)) (omega (arith, le))
 
 -- zeros in front fill up to six
-drop-zeros : (k n : ℕ) → drop {A = ℕ} k (replicate n 48) ≡ replicate (n - k) 48
-drop-zeros zero n = let e : n - 0 ≡ n = omega arith in rw e refl
-drop-zeros (suc k) zero = let e : 0 - suc k ≡ 0 = omega arith in rw e refl
-drop-zeros (suc k) (suc n) = let e : suc n - suc k ≡ n - k = omega arith in rw e (drop-zeros k n)
+drop_zeros : (k n : ℕ) → drop {A = ℕ} k (replicate n 48) ≡ replicate (n - k) 48
+drop_zeros zero n = let e : n - 0 ≡ n = omega arith in rw e refl
+drop_zeros (suc k) zero = let e : 0 - suc k ≡ 0 = omega arith in rw e refl
+drop_zeros (suc k) (suc n) = let e : suc n - suc k ≡ n - k = omega arith in rw e (drop_zeros k n)
 
-abbrev pub six-zeros : List ℕ
-six-zeros = 48 ∷ 48 ∷ 48 ∷ 48 ∷ 48 ∷ 48 ∷ []
+abbrev pub six_zeros : List ℕ
+six_zeros = 48 ∷ 48 ∷ 48 ∷ 48 ∷ 48 ∷ 48 ∷ []
 
-pub zeros-are : (k : ℕ) → k ≤ 6 → take (6 - k) (drop k six-zeros) ≡ replicate (6 - k) 48
-zeros-are k le =
+pub zeros_are : (k : ℕ) → k ≤ 6 → take (6 - k) (drop k six_zeros) ≡ replicate (6 - k) 48
+zeros_are k le =
     let size : length {A = ℕ} (replicate (6 - k) 48) ≤ 6 - k = let l = length-replicate {A = ℕ} (6 - k) 48 in omega (arith, l) in
-    ap (take (6 - k)) (drop-zeros k 6) ∙ take_all (6 - k) (replicate (6 - k) 48) size
+    ap (take (6 - k)) (drop_zeros k 6) ∙ take_all (6 - k) (replicate (6 - k) 48) size
 
-pub length-six : (n : ℕ) → n < 1000000 → length (six_digits n) ≡ 6
-length-six n lt =
+pub length_six : (n : ℕ) → n < 1000000 → length (six_digits n) ≡ 6
+length_six n lt =
     let short = six_short n lt in
     let zeros : length {A = ℕ} (replicate (6 - length (decimal n)) 48) ≡ 6 - length (decimal n) =
     length-replicate (6 - length (decimal n)) 48 in
     length-append (replicate (6 - length (decimal n)) 48) (decimal n) ∙ omega (arith, short, zeros)
 
 -- zeros and digits behind a text are six digits behind it
-pub six-behind : (text rest zeros digits new six : List ℕ) → length zeros + length digits ≡ 6 → six ≡ zeros ++ digits
+pub six_behind : (text rest zeros digits new six : List ℕ) → length zeros + length digits ≡ 6 → six ≡ zeros ++ digits
     → new ≡ (text ++ zeros) ++ (digits ++ drop (length digits) (drop (length zeros) rest)) → new ≡ text ++ (six ++ drop 6 rest)
-six-behind text rest zeros digits new six size e h =
+six_behind text rest zeros digits new six size e h =
     let dropped : drop (length digits) (drop (length zeros) rest) ≡ drop 6 rest =
     drop-drop (length digits) (length zeros) rest ∙ ap (λ n. drop n rest) size in
     h ∙ ap (λ r. (text ++ zeros) ++ (digits ++ r)) dropped ∙ simp append_assoc refl ∙ ap (λ s. text ++ (s ++ drop 6 rest)) (sym e)
 
 -- one byte, digits, a point and six digits, one behind the other
-pub all-behind : (old new volts six : List ℕ) (sign : ℕ) → length six ≡ 6
+pub all_behind : (old new volts six : List ℕ) (sign : ℕ) → length six ≡ 6
     → new ≡ (((sign ∷ []) ++ volts) ++ 46 ∷ []) ++ (six ++ drop 6 (drop 1 (drop (length volts) (drop 1 old))))
     → new ≡ (sign ∷ (volts ++ 46 ∷ six)) ++ drop (length (sign ∷ (volts ++ 46 ∷ six))) old
-all-behind old new volts six sign size h =
+all_behind old new volts six sign size h =
     let whole : length (sign ∷ (volts ++ 46 ∷ six)) ≡ 1 + length volts + 1 + 6 = let inner = length-append volts (46 ∷ six) in
     omega (arith, inner, size) in
     let dropped : drop 6 (drop 1 (drop (length volts) (drop 1 old))) ≡ drop (length (sign ∷ (volts ++ 46 ∷ six))) old =
@@ -54,15 +54,15 @@ all-behind old new volts six sign size h =
     h ∙ ap (λ r. (((sign ∷ []) ++ volts) ++ 46 ∷ []) ++ (six ++ r)) dropped ∙ simp append_assoc refl
 
 -- a text in front of what it leaves of another
-abbrev pub in-front : List ℕ → ℕ → List ℕ → ℕ → List ℕ
-in-front old sign volts n = (sign ∷ (volts ++ 46 ∷ six_digits n)) ++ drop (length (sign ∷ (volts ++ 46 ∷ six_digits n))) old
+abbrev pub in_front : List ℕ → ℕ → List ℕ → ℕ → List ℕ
+in_front old sign volts n = (sign ∷ (volts ++ 46 ∷ six_digits n)) ++ drop (length (sign ∷ (volts ++ 46 ∷ six_digits n))) old
 
 -- the same parts make the same text
-pub voltage-same : (old volts volts2 : List ℕ) (sign sign2 n n2 : ℕ) → sign ≡ sign2 → volts ≡ volts2 → n ≡ n2
-    → in-front old sign volts n ≡ in-front old sign2 volts2 n2
-voltage-same old volts volts2 sign sign2 n n2 s v e =
-    ap (λ x. in-front old x volts n) s ∙ ap (λ x. in-front old sign2 x n) v ∙ ap (λ x. in-front old sign2 volts2 x) e
+pub voltage_same : (old volts volts2 : List ℕ) (sign sign2 n n2 : ℕ) → sign ≡ sign2 → volts ≡ volts2 → n ≡ n2
+    → in_front old sign volts n ≡ in_front old sign2 volts2 n2
+voltage_same old volts volts2 sign sign2 n n2 s v e =
+    ap (λ x. in_front old x volts n) s ∙ ap (λ x. in_front old sign2 x n) v ∙ ap (λ x. in_front old sign2 volts2 x) e
 
 -- how long it is
-pub voltage-size : (volts : List ℕ) (n : ℕ) → n < 1000000 → length (volts ++ 46 ∷ six_digits n) ≡ length volts + 1 + 6
-voltage-size volts n lt = let inner = length-append volts (46 ∷ six_digits n) in let six = length-six n lt in omega (arith, inner, six)
+pub voltage_size : (volts : List ℕ) (n : ℕ) → n < 1000000 → length (volts ++ 46 ∷ six_digits n) ≡ length volts + 1 + 6
+voltage_size volts n lt = let inner = length-append volts (46 ∷ six_digits n) in let six = length_six n lt in omega (arith, inner, six)

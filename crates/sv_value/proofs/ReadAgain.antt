@@ -16,55 +16,55 @@ use Rattle.sv_value.specs.Decimal.{Parts, digits_in, behind_digits, fraction_in,
 use Rattle.sv_value.specs.Number.{magnitude, nearest, significant_digits, signed, read_with}
 use Rattle.sv_value.specs.Value.{power_of_volts, within_volts}
 use Rattle.sv_value.specs.PrintedVoltage.{PrintedIsRead, six_digits}
-use Rattle.sv_value.proofs.Pieces.{digits-joined, behind-joined}
-use Rattle.sv_value.proofs.Rounding.{value-join, after-moves, nearest-right}
-use Rattle.sv_value.proofs.Printed.{length-six, volts_short}
+use Rattle.sv_value.proofs.Pieces.{digits_joined, behind_joined}
+use Rattle.sv_value.proofs.Rounding.{value_join, after_moves, nearest_right}
+use Rattle.sv_value.proofs.Printed.{length_six, volts_short}
 
 -- decimal digits
-is-digit : (b : ℕ) → digit_value b < 10 → is_ascii_digit b ≡ true
-is-digit b lt = grind (arith, nat_tests, lt)
+is_digit : (b : ℕ) → digit_value b < 10 → is_ascii_digit b ≡ true
+is_digit b lt = grind (arith, nat_tests, lt)
 
-all-digits : (ds : List ℕ) → AllDigits 10 ds → list_all is_ascii_digit ds ≡ true
-all-digits [] h = refl
-all-digits (d ∷ ds) h = rw (is-digit d h.0) (all-digits ds h.1)
+all_digits : (ds : List ℕ) → AllDigits 10 ds → list_all is_ascii_digit ds ≡ true
+all_digits [] h = refl
+all_digits (d ∷ ds) h = rw (is_digit d h.0) (all_digits ds h.1)
 
-decimal-digits : (n : ℕ) → n < 2 ^ 64 → list_all is_ascii_digit (decimal n) ≡ true
-decimal-digits n lt = all-digits (decimal n) (decimal_is_IsNumeral n lt).0.1
+decimal_digits : (n : ℕ) → n < 2 ^ 64 → list_all is_ascii_digit (decimal n) ≡ true
+decimal_digits n lt = all_digits (decimal n) (decimal_is_IsNumeral n lt).0.1
 
-zeros-digits : (k : ℕ) → list_all is_ascii_digit (replicate k 48) ≡ true
-zeros-digits zero = refl
-zeros-digits (suc k) = zeros-digits k
+zeros_digits : (k : ℕ) → list_all is_ascii_digit (replicate k 48) ≡ true
+zeros_digits zero = refl
+zeros_digits (suc k) = zeros_digits k
 
-six-digits : (n : ℕ) → n < 1000000 → list_all is_ascii_digit (six_digits n) ≡ true
-six-digits n lt =
-    let zeros = zeros-digits (6 - length (decimal n)) in
-    let digits = decimal-digits n (omega (arith, lt)) in
+six_digits_back : (n : ℕ) → n < 1000000 → list_all is_ascii_digit (six_digits n) ≡ true
+six_digits_back n lt =
+    let zeros = zeros_digits (6 - length (decimal n)) in
+    let digits = decimal_digits n (omega (arith, lt)) in
     list_all-append is_ascii_digit (replicate (6 - length (decimal n)) 48) (decimal n) ∙ rw (zeros, digits) refl
 
 -- zeros in front are worth nothing
-zeros-value : (k : ℕ) → digits_value 10 (replicate k 48) ≡ 0
-zeros-value zero = refl
-zeros-value (suc k) = zeros-value k
+zeros_value : (k : ℕ) → digits_value 10 (replicate k 48) ≡ 0
+zeros_value zero = refl
+zeros_value (suc k) = zeros_value k
 
-six-value : (n : ℕ) → n < 1000000 → digits_value 10 (six_digits n) ≡ n
-six-value n lt =
-    value-join (replicate (6 - length (decimal n)) 48) (decimal n)
-    ∙ ap (λ v. digits_value_after 10 v (decimal n)) (zeros-value (6 - length (decimal n)))
+six_value : (n : ℕ) → n < 1000000 → digits_value 10 (six_digits n) ≡ n
+six_value n lt =
+    value_join (replicate (6 - length (decimal n)) 48) (decimal n)
+    ∙ ap (λ v. digits_value_after 10 v (decimal n)) (zeros_value (6 - length (decimal n)))
     ∙ (decimal_is_IsNumeral n (omega (arith, lt))).1
 
 -- the digits of a voltage
-whole-value : (m : ℕ) → m ≤ 1000000000 → digits_value 10 (decimal (m / 1000000) ++ six_digits (m % 1000000)) ≡ m
-whole-value m le =
+whole_value : (m : ℕ) → m ≤ 1000000000 → digits_value 10 (decimal (m / 1000000) ++ six_digits (m % 1000000)) ≡ m
+whole_value m le =
     let front = (decimal_is_IsNumeral (m / 1000000) (omega (arith, le))).1 in
-    let behind = six-value (m % 1000000) (omega arith) in
-    let size = length-six (m % 1000000) (omega arith) in
-    value-join (decimal (m / 1000000)) (six_digits (m % 1000000))
-    ∙ after-moves (digits_value 10 (decimal (m / 1000000))) (six_digits (m % 1000000))
+    let behind = six_value (m % 1000000) (omega arith) in
+    let size = length_six (m % 1000000) (omega arith) in
+    value_join (decimal (m / 1000000)) (six_digits (m % 1000000))
+    ∙ after_moves (digits_value 10 (decimal (m / 1000000))) (six_digits (m % 1000000))
     ∙ rw (front, behind, size) (omega arith)
 
 -- the parts of digits, a point and digits behind a sign
-abbrev parts-of : Bool → List ℕ → List ℕ → List ℕ → Parts
-parts-of negative whole fraction rest = record {
+abbrev parts_of : Bool → List ℕ → List ℕ → List ℕ → Parts
+parts_of negative whole fraction rest = record {
   negative = negative;
   whole = whole;
   fraction = fraction;
@@ -74,55 +74,55 @@ parts-of negative whole fraction rest = record {
 }
 
 -- are these
-parts-printed : (negative : Bool) (whole fraction : List ℕ) → list_all is_ascii_digit whole ≡ true → list_all is_ascii_digit fraction ≡ true
-    → parts-of negative (digits_in (whole ++ 46 ∷ fraction)) (fraction_in (behind_digits (whole ++ 46 ∷ fraction)))
-    (behind_fraction (behind_digits (whole ++ 46 ∷ fraction))) ≡ parts-of negative whole fraction []
-parts-printed negative whole fraction w f =
+parts_printed : (negative : Bool) (whole fraction : List ℕ) → list_all is_ascii_digit whole ≡ true → list_all is_ascii_digit fraction ≡ true
+    → parts_of negative (digits_in (whole ++ 46 ∷ fraction)) (fraction_in (behind_digits (whole ++ 46 ∷ fraction)))
+    (behind_fraction (behind_digits (whole ++ 46 ∷ fraction))) ≡ parts_of negative whole fraction []
+parts_printed negative whole fraction w f =
     let text : List ℕ = whole ++ 46 ∷ fraction in
-    let front : digits_in text ≡ whole = digits-joined whole (46 ∷ fraction) w ∙ append-nil whole in
-    let behind : behind_digits text ≡ 46 ∷ fraction = behind-joined whole (46 ∷ fraction) w in
-    let all : digits_in fraction ≡ fraction = ap digits_in (sym (append-nil fraction)) ∙ digits-joined fraction [] f
+    let front : digits_in text ≡ whole = digits_joined whole (46 ∷ fraction) w ∙ append-nil whole in
+    let behind : behind_digits text ≡ 46 ∷ fraction = behind_joined whole (46 ∷ fraction) w in
+    let all : digits_in fraction ≡ fraction = ap digits_in (sym (append-nil fraction)) ∙ digits_joined fraction [] f
     ∙ append-nil fraction in
-    let none : behind_digits fraction ≡ [] = ap behind_digits (sym (append-nil fraction)) ∙ behind-joined fraction [] f in
-    ap (λ d. parts-of negative d (fraction_in (behind_digits text)) (behind_fraction (behind_digits text))) front
-    ∙ ap (λ b. parts-of negative whole (fraction_in b) (behind_fraction b)) behind
-    ∙ ap (λ d. parts-of negative whole d (behind_digits fraction)) all
-    ∙ ap (parts-of negative whole fraction) none
+    let none : behind_digits fraction ≡ [] = ap behind_digits (sym (append-nil fraction)) ∙ behind_joined fraction [] f in
+    ap (λ d. parts_of negative d (fraction_in (behind_digits text)) (behind_fraction (behind_digits text))) front
+    ∙ ap (λ b. parts_of negative whole (fraction_in b) (behind_fraction b)) behind
+    ∙ ap (λ d. parts_of negative whole d (behind_digits fraction)) all
+    ∙ ap (parts_of negative whole fraction) none
 
 -- something is there
-some-there : (digits : List ℕ) → 0 < length digits → is_empty digits ≡ false
-some-there [] lt = absurd (omega (arith, lt))
-some-there (d ∷ digits) lt = refl
+some_there : (digits : List ℕ) → 0 < length digits → is_empty digits ≡ false
+some_there [] lt = absurd (omega (arith, lt))
+some_there (d ∷ digits) lt = refl
 
 -- a voltage's parts are read as it
-read-parts : (negative : Bool) (m : ℕ) → m ≤ 1000000000
-    → read_with (Some 6) InvalidSuffix (parts-of negative (decimal (m / 1000000)) (six_digits (m % 1000000)) []) ≡ Ok (signed negative m)
-read-parts negative m le =
+read_parts : (negative : Bool) (m : ℕ) → m ≤ 1000000000
+    → read_with (Some 6) InvalidSuffix (parts_of negative (decimal (m / 1000000)) (six_digits (m % 1000000)) []) ≡ Ok (signed negative m)
+read_parts negative m le =
     let whole : List ℕ = decimal (m / 1000000) in
     let fraction : List ℕ = six_digits (m % 1000000) in
-    let some = some-there whole (decimal_is_IsNumeral (m / 1000000) (omega (arith, le))).0.0 in
+    let some = some_there whole (decimal_is_IsNumeral (m / 1000000) (omega (arith, le))).0.0 in
     let short = volts_short m le in
-    let six = length-six (m % 1000000) (omega arith) in
+    let six = length_six (m % 1000000) (omega arith) in
     let joined = length-append whole fraction in
     let few : significant_digits (whole ++ fraction) ≤ 255 = omega (arith, short, six, joined) in
     let even : length fraction + 0 ≡ 6 = omega (arith, six) in
-    let value : magnitude 6 (parts-of negative whole fraction []) ≡ m =
+    let value : magnitude 6 (parts_of negative whole fraction []) ≡ m =
     ap (λ k. nearest (digits_value 10 (whole ++ fraction) * 10 ^ 6) (10 ^ k)) even
-    ∙ nearest-right (digits_value 10 (whole ++ fraction)) 6 6 (omega arith) ∙ (let v = whole-value m le in omega (arith, v)) in
+    ∙ nearest_right (digits_value 10 (whole ++ fraction)) 6 6 (omega arith) ∙ (let v = whole_value m le in omega (arith, v)) in
     rw (some, le-ltb 255 (significant_digits (whole ++ fraction)) few, value) refl
 
-pub read-again : PrintedIsRead
-read-again (pos n) le =
-    let whole = decimal-digits (n / 1000000) (omega (arith, le)) in
-    let fraction = six-digits (n % 1000000) (omega arith) in
+pub read_again : PrintedIsRead
+read_again (pos n) le =
+    let whole = decimal_digits (n / 1000000) (omega (arith, le)) in
+    let fraction = six_digits_back (n % 1000000) (omega arith) in
     ap (λ p. within_volts (read_with (power_of_volts p.suffix) InvalidSuffix p))
-    (parts-printed false (decimal (n / 1000000)) (six_digits (n % 1000000)) whole fraction)
-    ∙ ap within_volts (read-parts false n le)
+    (parts_printed false (decimal (n / 1000000)) (six_digits (n % 1000000)) whole fraction)
+    ∙ ap within_volts (read_parts false n le)
     ∙ rw (le-leb n 1000000000 le) refl
-read-again (negsuc n) le =
-    let whole = decimal-digits (suc n / 1000000) (omega (arith, le)) in
-    let fraction = six-digits (suc n % 1000000) (omega arith) in
+read_again (negsuc n) le =
+    let whole = decimal_digits (suc n / 1000000) (omega (arith, le)) in
+    let fraction = six_digits_back (suc n % 1000000) (omega arith) in
     ap (λ p. within_volts (read_with (power_of_volts p.suffix) InvalidSuffix p))
-    (parts-printed true (decimal (suc n / 1000000)) (six_digits (suc n % 1000000)) whole fraction)
-    ∙ ap within_volts (read-parts true (suc n) le)
+    (parts_printed true (decimal (suc n / 1000000)) (six_digits (suc n % 1000000)) whole fraction)
+    ∙ ap within_volts (read_parts true (suc n) le)
     ∙ rw (le-leb n 999999999 (omega (arith, le))) refl

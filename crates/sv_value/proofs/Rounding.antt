@@ -13,75 +13,75 @@ use Rattle.std.proofs.Math.Nat.{div-eq_of_lt-le, div-eq_of_lt, mul-div-mul_right
 use Rattle.sv_value.specs.Number.{nearest}
 
 -- digits join
-after-join : (b n : ℕ) (xs ys : List ℕ) → digits_value_after b n (xs ++ ys) ≡ digits_value_after b (digits_value_after b n xs) ys
-after-join b n [] ys = refl
-after-join b n (x ∷ xs) ys = after-join b (n * b + digit_value x) xs ys
+after_join : (b n : ℕ) (xs ys : List ℕ) → digits_value_after b n (xs ++ ys) ≡ digits_value_after b (digits_value_after b n xs) ys
+after_join b n [] ys = refl
+after_join b n (x ∷ xs) ys = after_join b (n * b + digit_value x) xs ys
 
 -- the digits behind a value move it
-pub after-moves : (n : ℕ) (ds : List ℕ) → digits_value_after 10 n ds ≡ n * 10 ^ length ds + digits_value 10 ds
-after-moves n [] = omega arith
-after-moves n (d ∷ ds) =
-    let a = after-moves (n * 10 + digit_value d) ds in
-    let b = after-moves (0 * 10 + digit_value d) ds in
+pub after_moves : (n : ℕ) (ds : List ℕ) → digits_value_after 10 n ds ≡ n * 10 ^ length ds + digits_value 10 ds
+after_moves n [] = omega arith
+after_moves n (d ∷ ds) =
+    let a = after_moves (n * 10 + digit_value d) ds in
+    let b = after_moves (0 * 10 + digit_value d) ds in
     let p : 10 ^ suc (length ds) ≡ 10 * 10 ^ length ds = pow-succ' 10 (length ds) in
     omega (arith, a, b, ap (λ x. n * x) p)
 
 -- one digit or more behind others
-pub value-join : (xs ys : List ℕ) → digits_value 10 (xs ++ ys) ≡ digits_value_after 10 (digits_value 10 xs) ys
-value-join xs ys = after-join 10 0 xs ys
+pub value_join : (xs ys : List ℕ) → digits_value 10 (xs ++ ys) ≡ digits_value_after 10 (digits_value 10 xs) ys
+value_join xs ys = after_join 10 0 xs ys
 
 -- nothing is left out
-nearest-whole : (n : ℕ) → nearest n 1 ≡ n
-nearest-whole n = div-eq_of_lt-le 2 (omega arith) (omega arith)
+nearest_whole : (n : ℕ) → nearest n 1 ≡ n
+nearest_whole n = div-eq_of_lt-le 2 (omega arith) (omega arith)
 
 -- a fraction may be shortened
-nearest-short : (n d k : ℕ) → 1 ≤ k → nearest (n * k) (d * k) ≡ nearest n d
-nearest-short n d k some =
+nearest_short : (n d k : ℕ) → 1 ≤ k → nearest (n * k) (d * k) ≡ nearest n d
+nearest_short n d k some =
     let over : 2 * (n * k) + d * k ≡ (2 * n + d) * k = omega arith in
     let under : 2 * (d * k) ≡ 2 * d * k = omega arith in
     rw (over, under) (mul-div-mul_right (2 * n + d) (2 * d) (omega (arith, some)))
 
-pub ten-some : (n : ℕ) → 1 ≤ 10 ^ n
-ten-some n = one-le-pow n 10 (omega arith)
+pub ten_some : (n : ℕ) → 1 ≤ 10 ^ n
+ten_some n = one-le-pow n 10 (omega arith)
 
 -- the point moves to the right
-pub nearest-right : (n up down : ℕ) → down ≤ up → nearest (n * 10 ^ up) (10 ^ down) ≡ n * 10 ^ (up - down)
-nearest-right n up down le =
+pub nearest_right : (n up down : ℕ) → down ≤ up → nearest (n * 10 ^ up) (10 ^ down) ≡ n * 10 ^ (up - down)
+nearest_right n up down le =
     let split : 10 ^ up ≡ 10 ^ (up - down) * 10 ^ down =
     ap (λ k. 10 ^ k) (let e : up ≡ (up - down) + down = omega (arith, le) in e) ∙ pow-add 10 (up - down) down in
     let over : n * 10 ^ up ≡ n * 10 ^ (up - down) * 10 ^ down = ap (λ k. n * k) split ∙ omega arith in
     let under : 10 ^ down ≡ 1 * 10 ^ down = omega arith in
     ap (λ k. nearest k (10 ^ down)) over ∙ ap (λ k. nearest (n * 10 ^ (up - down) * 10 ^ down) k) under
-    ∙ nearest-short (n * 10 ^ (up - down)) 1 (10 ^ down) (ten-some down) ∙ nearest-whole (n * 10 ^ (up - down))
+    ∙ nearest_short (n * 10 ^ (up - down)) 1 (10 ^ down) (ten_some down) ∙ nearest_whole (n * 10 ^ (up - down))
 
 -- or to the left
-pub nearest-left : (n up down : ℕ) → up ≤ down → nearest (n * 10 ^ up) (10 ^ down) ≡ nearest n (10 ^ (down - up))
-nearest-left n up down le =
+pub nearest_left : (n up down : ℕ) → up ≤ down → nearest (n * 10 ^ up) (10 ^ down) ≡ nearest n (10 ^ (down - up))
+nearest_left n up down le =
     let split : 10 ^ down ≡ 10 ^ (down - up) * 10 ^ up =
     ap (λ k. 10 ^ k) (let e : down ≡ (down - up) + up = omega (arith, le) in e) ∙ pow-add 10 (down - up) up in
-    ap (λ k. nearest (n * 10 ^ up) k) split ∙ nearest-short n (10 ^ (down - up)) (10 ^ up) (ten-some up)
+    ap (λ k. nearest (n * 10 ^ up) k) split ∙ nearest_short n (10 ^ (down - up)) (10 ^ up) (ten_some up)
 
 -- a digit is at most 9
-digit-most : (b : ℕ) → is_ascii_digit b ≡ true → digit_value b ≤ 9
-digit-most b h = grind (arith, nat_tests, h)
+digit_most : (b : ℕ) → is_ascii_digit b ≡ true → digit_value b ≤ 9
+digit_most b h = grind (arith, nat_tests, h)
 
 -- digits write less than the power of ten that has one more
-pub value-less : (ds : List ℕ) → list_all is_ascii_digit ds ≡ true → digits_value 10 ds < 10 ^ length ds
-value-less [] h = omega arith
-value-less (d ∷ ds) h =
+pub value_less : (ds : List ℕ) → list_all is_ascii_digit ds ≡ true → digits_value 10 ds < 10 ^ length ds
+value_less [] h = omega arith
+value_less (d ∷ ds) h =
     let digits = and_parts (is_ascii_digit d) (list_all is_ascii_digit ds) h in
-    let most = digit-most d digits.0 in
-    let rest = value-less ds digits.1 in
-    let moves = after-moves (0 * 10 + digit_value d) ds in
+    let most = digit_most d digits.0 in
+    let rest = value_less ds digits.1 in
+    let moves = after_moves (0 * 10 + digit_value d) ds in
     let p : 10 ^ suc (length ds) ≡ 10 * 10 ^ length ds = pow-succ' 10 (length ds) in
     let part : digit_value d * 10 ^ length ds ≤ 9 * 10 ^ length ds =
     mul-le (digit_value d) (10 ^ length ds) 9 (10 ^ length ds) most (omega arith) in
     omega (arith, moves, p, part, rest)
 
 -- where more digits are left out than there are, less than half is left
-pub nearest-none : (ds : List ℕ) (c : ℕ) → list_all is_ascii_digit ds ≡ true → length ds < c → nearest (digits_value 10 ds) (10 ^ c) ≡ 0
-nearest-none ds c h lt =
-    let less = value-less ds h in
+pub nearest_none : (ds : List ℕ) (c : ℕ) → list_all is_ascii_digit ds ≡ true → length ds < c → nearest (digits_value 10 ds) (10 ^ c) ≡ 0
+nearest_none ds c h lt =
+    let less = value_less ds h in
     let p : 10 ^ suc (length ds) ≡ 10 * 10 ^ length ds = pow-succ' 10 (length ds) in
     let more : 10 ^ suc (length ds) ≤ 10 ^ c = pow-le-pow_right (omega arith) (omega (arith, lt)) in
     div-eq_of_lt (omega (arith, less, p, more))
@@ -107,29 +107,29 @@ half kept digit behind p most lt = at (nat_le 5 digit) refl
         div-eq_of_lt-le (2 * (10 * p)) (omega (arith, spread, low, lt)) (omega (arith, spread, low, lt))
 
 -- the digit at a place stands between those in front of it and those behind
-split-at : (ds : List ℕ) (k : ℕ) → k < length ds → ds ≡ take k ds ++ slice_index_or ds k 0 ∷ drop (suc k) ds
-split-at [] k lt = absurd (omega (arith, lt))
-split-at (d ∷ ds) zero lt = refl
-split-at (d ∷ ds) (suc k) lt = ap (λ xs. d ∷ xs) (split-at ds k (omega (arith, lt)))
+split_at : (ds : List ℕ) (k : ℕ) → k < length ds → ds ≡ take k ds ++ slice_index_or ds k 0 ∷ drop (suc k) ds
+split_at [] k lt = absurd (omega (arith, lt))
+split_at (d ∷ ds) zero lt = refl
+split_at (d ∷ ds) (suc k) lt = ap (λ xs. d ∷ xs) (split_at ds k (omega (arith, lt)))
 
 -- rounding by the first digit that is left out
-pub nearest-digits : (ds : List ℕ) (c kept : ℕ) → list_all is_ascii_digit ds ≡ true → 1 ≤ c → kept + c ≡ length ds
+pub nearest_digits : (ds : List ℕ) (c kept : ℕ) → list_all is_ascii_digit ds ≡ true → 1 ≤ c → kept + c ≡ length ds
     → nearest (digits_value 10 ds) (10 ^ c) ≡ digits_value 10 (take kept ds) +
     (if nat_le 5 (digit_value (slice_index_or ds kept 0)) then 1 else 0)
-nearest-digits ds c kept h some size =
+nearest_digits ds c kept h some size =
     let front : List ℕ = take kept ds in
     let behind : List ℕ = drop (suc kept) ds in
     let digit : ℕ = slice_index_or ds kept 0 in
-    let split = split-at ds kept (omega (arith, some, size)) in
+    let split = split_at ds kept (omega (arith, some, size)) in
     let parts = and_parts (list_all is_ascii_digit front) (list_all is_ascii_digit (digit ∷ behind))
     (sym (list_all-append is_ascii_digit front (digit ∷ behind)) ∙ ap (list_all is_ascii_digit) (sym split) ∙ h) in
     let digits = and_parts (is_ascii_digit digit) (list_all is_ascii_digit behind) parts.1 in
     let few : length behind ≡ c - 1 = length-drop (suc kept) ds ∙ omega (arith, some, size) in
     let value : digits_value 10 ds ≡ (digits_value 10 front * 10 + digit_value digit) * 10 ^ (c - 1) + digits_value 10 behind =
-    ap (digits_value 10) split ∙ value-join front (digit ∷ behind) ∙ after-moves (digits_value 10 front * 10 + digit_value digit) behind
+    ap (digits_value 10) split ∙ value_join front (digit ∷ behind) ∙ after_moves (digits_value 10 front * 10 + digit_value digit) behind
     ∙ ap (λ n. (digits_value 10 front * 10 + digit_value digit) * 10 ^ n + digits_value 10 behind) few in
-    let less : digits_value 10 behind < 10 ^ (c - 1) = rw (← few) (value-less behind digits.1) in
+    let less : digits_value 10 behind < 10 ^ (c - 1) = rw (← few) (value_less behind digits.1) in
     let tens : 10 ^ c ≡ 10 * 10 ^ (c - 1) = ap (λ n. 10 ^ n) (let e : c ≡ suc (c - 1) = omega (arith, some) in e) ∙ pow-succ' 10 (c - 1) in
     ap (λ n. nearest n (10 ^ c)) value ∙ ap (nearest
     ((digits_value 10 front * 10 + digit_value digit) * 10 ^ (c - 1) + digits_value 10 behind)) tens
-    ∙ half (digits_value 10 front) (digit_value digit) (digits_value 10 behind) (10 ^ (c - 1)) (digit-most digit digits.0) less
+    ∙ half (digits_value 10 front) (digit_value digit) (digits_value 10 behind) (10 ^ (c - 1)) (digit_most digit digits.0) less

@@ -3,9 +3,9 @@ use Rattle.std.proofs.Common.{◌≡◌, ℕ, suc, ◌+◌, ◌<◌, ◌≤◌, 
 use Rattle.std.specs.List.{position_or_len, list_all}
 
 -- what stands in front of the first that doesn't pass passes
-pub run-passes : (test : ℕ → Bool) (bytes : List ℕ) → list_all test (take (position_or_len (λ b. not (test b)) bytes) bytes) ≡ true
-run-passes test [] = refl
-run-passes test (b ∷ bytes) = at (test b) refl (run-passes test bytes)
+pub run_passes : (test : ℕ → Bool) (bytes : List ℕ) → list_all test (take (position_or_len (λ b. not (test b)) bytes) bytes) ≡ true
+run_passes test [] = refl
+run_passes test (b ∷ bytes) = at (test b) refl (run_passes test bytes)
   where
     at : (t : Bool) → test b ≡ t → list_all test (take (position_or_len (λ x. not (test x)) bytes) bytes) ≡ true
         → list_all test (take (cond (not (not t)) (1 + position_or_len (λ x. not (test x)) bytes) 0) (b ∷ bytes)) ≡ true
@@ -14,10 +14,10 @@ run-passes test (b ∷ bytes) = at (test b) refl (run-passes test bytes)
     at false is h = refl
 
 -- the first that passes, where it is among the first bytes, or isn't
-pub first-in : (test : ℕ → Bool) (front behind : List ℕ) → position_or_len test front < length front
+pub first_in : (test : ℕ → Bool) (front behind : List ℕ) → position_or_len test front < length front
     → position_or_len test (front ++ behind) ≡ position_or_len test front
-first-in test [] behind lt = absurd (omega (arith, lt))
-first-in test (b ∷ front) behind lt = at (test b) lt (first-in test front behind)
+first_in test [] behind lt = absurd (omega (arith, lt))
+first_in test (b ∷ front) behind lt = at (test b) lt (first_in test front behind)
   where
     at : (t : Bool) → cond (not t) (1 + position_or_len test front) 0 < suc (length front)
         → (position_or_len test front < length front → position_or_len test (front ++ behind) ≡ position_or_len test front)
@@ -25,10 +25,10 @@ first-in test (b ∷ front) behind lt = at (test b) lt (first-in test front behi
     at true lt h = refl
     at false lt h = let e = h (omega (arith, lt)) in omega (arith, e)
 
-pub first-behind : (test : ℕ → Bool) (front behind : List ℕ) → length front ≤ position_or_len test front
+pub first_behind : (test : ℕ → Bool) (front behind : List ℕ) → length front ≤ position_or_len test front
     → position_or_len test (front ++ behind) ≡ length front + position_or_len test behind
-first-behind test [] behind ge = omega arith
-first-behind test (b ∷ front) behind ge = at (test b) ge (first-behind test front behind)
+first_behind test [] behind ge = omega arith
+first_behind test (b ∷ front) behind ge = at (test b) ge (first_behind test front behind)
   where
     at : (t : Bool) → suc (length front) ≤ cond (not t) (1 + position_or_len test front) 0
         → (length front ≤ position_or_len test front → position_or_len test (front ++ behind) ≡ length front + position_or_len test behind)

@@ -13,94 +13,94 @@ use Rattle.sv_value.specs.Channels.{Span as Ends, next, channel_range, span_of}
 use Rattle.sv_value.specs.Plain.{ends_up_to}
 
 -- a run upwards begins with its first channel
-pub run-up : (first last : ℕ) → first < last → channel_range first last ≡ first ∷ channel_range (first + 1) last
-run-up first last lt =
+pub run_up : (first last : ℕ) → first < last → channel_range first last ≡ first ∷ channel_range (first + 1) last
+run_up first last lt =
     let size : last - first + 1 ≡ suc (last - (first + 1) + 1) = omega (arith, lt) in
     rw (le-leb first last (omega (arith, lt)), le-leb (first + 1) last (omega (arith, lt)), size) refl
 
 -- one channel
-pub run-one : (channel : ℕ) → channel_range channel channel ≡ channel ∷ []
-run-one channel =
+pub run_one : (channel : ℕ) → channel_range channel channel ≡ channel ∷ []
+run_one channel =
     let size : channel - channel + 1 ≡ 1 = omega arith in
     rw (le-leb channel channel (omega arith), size) refl
 
 -- one more at the end of a range
-range-push : (first n : ℕ) → range_with_len first (suc n) ≡ range_with_len first n ++ (first + n) ∷ []
-range-push first zero = let e : first ≡ first + 0 = omega arith in ap (λ c. c ∷ []) e
-range-push first (suc n) =
+range_push : (first n : ℕ) → range_with_len first (suc n) ≡ range_with_len first n ++ (first + n) ∷ []
+range_push first zero = let e : first ≡ first + 0 = omega arith in ap (λ c. c ∷ []) e
+range_push first (suc n) =
     let e : first + 1 + n ≡ first + suc n = omega arith in
-    ap (λ cs. first ∷ cs) (range-push (first + 1) n ∙ ap (λ c. range_with_len (first + 1) n ++ c ∷ []) e)
+    ap (λ cs. first ∷ cs) (range_push (first + 1) n ∙ ap (λ c. range_with_len (first + 1) n ++ c ∷ []) e)
 
 -- a run that doesn't go upwards
-run-back : (first last : ℕ) → last < first → channel_range first last ≡ reverse (range_with_len last (first - last + 1))
-run-back first last lt = rw (lt-leb first last lt) refl
+run_back : (first last : ℕ) → last < first → channel_range first last ≡ reverse (range_with_len last (first - last + 1))
+run_back first last lt = rw (lt-leb first last lt) refl
 
 -- one that is left, in the same words
-run-rest : (first last : ℕ) → last < first → channel_range (first - 1) last ≡ reverse (range_with_len last (first - last))
-run-rest first last lt =
+run_rest : (first last : ℕ) → last < first → channel_range (first - 1) last ≡ reverse (range_with_len last (first - last))
+run_rest first last lt =
     elim (cases_lt last (first - 1)) [
       | inl more ↦
           let size : first - 1 - last + 1 ≡ first - last = omega (arith, more, lt) in
-          run-back (first - 1) last more ∙ ap (λ n. reverse (range_with_len last n)) size
+          run_back (first - 1) last more ∙ ap (λ n. reverse (range_with_len last n)) size
       | inr none ↦
           let one : first - 1 ≡ last = omega (arith, none, lt) in
           let size : first - last ≡ 1 = omega (arith, none, lt) in
-          rw (one, size) (run-one last)
+          rw (one, size) (run_one last)
     ]
 
 -- a run downwards begins with its first channel too
-pub run-down : (first last : ℕ) → last < first → channel_range first last ≡ first ∷ channel_range (first - 1) last
-run-down first last lt =
+pub run_down : (first last : ℕ) → last < first → channel_range first last ≡ first ∷ channel_range (first - 1) last
+run_down first last lt =
     let size : first - last + 1 ≡ suc (first - last) = omega (arith, lt) in
     let end : last + (first - last) ≡ first = omega (arith, lt) in
-    run-back first last lt
+    run_back first last lt
     ∙ ap (λ n. reverse (range_with_len last n)) size
-    ∙ ap reverse (range-push last (first - last))
+    ∙ ap reverse (range_push last (first - last))
     ∙ reverse-append (range_with_len last (first - last)) ((last + (first - last)) ∷ [])
     ∙ ap (λ c. c ∷ reverse (range_with_len last (first - last))) end
-    ∙ ap (λ cs. first ∷ cs) (sym (run-rest first last lt))
+    ∙ ap (λ cs. first ∷ cs) (sym (run_rest first last lt))
 
-length-range : (first n : ℕ) → length (range_with_len first n) ≡ n
-length-range first zero = refl
-length-range first (suc n) = ap suc (length-range (first + 1) n)
+length_range : (first n : ℕ) → length (range_with_len first n) ≡ n
+length_range first zero = refl
+length_range first (suc n) = ap suc (length_range (first + 1) n)
 
-pub length-run : (first last : ℕ) → length (channel_range first last) ≡ (first - last) + (last - first) + 1
-length-run first last =
+pub length_run : (first last : ℕ) → length (channel_range first last) ≡ (first - last) + (last - first) + 1
+length_run first last =
     elim (cases_lt last first) [
-      | inl lt ↦ ap length (run-back first last lt) ∙ length-reverse (range_with_len last (first - last + 1))
-          ∙ length-range last (first - last + 1) ∙ omega (arith, lt)
+      | inl lt ↦ ap length (run_back first last lt) ∙ length-reverse (range_with_len last (first - last + 1))
+          ∙ length_range last (first - last + 1) ∙ omega (arith, lt)
       | inr ge ↦ let up : length (range_with_len first (last - first + 1)) ≡ (first - last) + (last - first) + 1 =
-          length-range first (last - first + 1) ∙ omega (arith, ge) in
+          length_range first (last - first + 1) ∙ omega (arith, ge) in
           rw (le-leb first last ge) up
     ]
 
 -- what is pushed of a run
-pub push-up : (before items list : List ℕ) (first last channel : ℕ) → channel < last → list ≡ items ++ channel ∷ []
+pub push_up : (before items list : List ℕ) (first last channel : ℕ) → channel < last → list ≡ items ++ channel ∷ []
     → items ++ channel_range channel last ≡ before ++ channel_range first last
     → list ++ channel_range (channel + 1) last ≡ before ++ channel_range first last
-push-up before items list first last channel lt e h = rw e (simp append_assoc (ap (λ cs. items ++ cs) (sym (run-up channel last lt)) ∙ h))
+push_up before items list first last channel lt e h = rw e (simp append_assoc (ap (λ cs. items ++ cs) (sym (run_up channel last lt)) ∙ h))
 
-pub push-down : (before items list : List ℕ) (first last channel : ℕ) → last < channel → list ≡ items ++ channel ∷ []
+pub push_down : (before items list : List ℕ) (first last channel : ℕ) → last < channel → list ≡ items ++ channel ∷ []
     → items ++ channel_range channel last ≡ before ++ channel_range first last
     → list ++ channel_range (channel - 1) last ≡ before ++ channel_range first last
-push-down before items list first last channel lt e h =
-    rw e (simp append_assoc (ap (λ cs. items ++ cs) (sym (run-down channel last lt)) ∙ h))
+push_down before items list first last channel lt e h =
+    rw e (simp append_assoc (ap (λ cs. items ++ cs) (sym (run_down channel last lt)) ∙ h))
 
 -- a whole run behind others
-pub run-fits : (before : List ℕ) (first last : ℕ)
+pub run_fits : (before : List ℕ) (first last : ℕ)
     → length (before ++ channel_range first last) ≡ length before + (first - last) + (last - first) + 1
-run-fits before first last = let run_size = length-run first last in length-append before (channel_range first last)
+run_fits before first last = let run_size = length_run first last in length-append before (channel_range first last)
     ∙ omega (arith, run_size)
 
 -- ends that were counted to the bound are ends
-capped-some : (o : Option Ends) (span : Span) → ends_up_to o ≡ Some span
+capped_some : (o : Option Ends) (span : Span) → ends_up_to o ≡ Some span
     → (e : Ends) × (o ≡ Some e) × (min e.first 1000000000000000000 ≡ span.first) × (min e.last 1000000000000000000 ≡ span.last)
-capped-some None span h = absurd cc
-capped-some (Some e) span h = (e, refl, cc, cc)
+capped_some None span h = absurd cc
+capped_some (Some e) span h = (e, refl, cc, cc)
 
 -- a channel's number is far from the bound
-channel-same : (n m : ℕ) → min n 1000000000000000000 ≡ m → is_channel m ≡ true → n ≡ m
-channel-same n m e c =
+channel_same : (n m : ℕ) → min n 1000000000000000000 ≡ m → is_channel m ≡ true → n ≡ m
+channel_same n m e c =
     let most = leb-true m channel_count (second (nat_le 1 m) (nat_le m channel_count) c) in
     omega (arith, e, most)
   where
@@ -114,14 +114,14 @@ pub add_is : (o : Option Ends) (span : Span) (before : List ℕ) (full : Bool) �
     → (others : List ℕ → Result (List ℕ) Code)
     → next o before others ≡ (if full then Err TooMuchData else others (before ++ channel_range span.first span.last))
 add_is o span before full h first last room others =
-    let some = capped-some o span h in
-    let f = channel-same some.0.first span.first some.2 first in
-    let l = channel-same some.0.last span.last some.3 last in
+    let some = capped_some o span h in
+    let f = channel_same some.0.first span.first some.2 first in
+    let l = channel_same some.0.last span.last some.3 last in
     let size : length (before ++ channel_range span.first span.last) ≡ length before + abs_diff span.first span.last + 1 =
-    run-fits before span.first span.last ∙ omega arith in
+    run_fits before span.first span.last ∙ omega arith in
     rw (some.1, f, l, first, last, size, room) refl
 
 -- an item of three parts or more is none
-pub span-more : (a b : List ℕ) (others : List (List ℕ)) → 1 ≤ length others → span_of (a ∷ b ∷ others) ≡ None
-span-more a b [] some = absurd (omega (arith, some))
-span-more a b (c ∷ others) some = refl
+pub span_more : (a b : List ℕ) (others : List (List ℕ)) → 1 ≤ length others → span_of (a ∷ b ∷ others) ≡ None
+span_more a b [] some = absurd (omega (arith, some))
+span_more a b (c ∷ others) some = refl

@@ -9,68 +9,68 @@ use Rattle.std.proofs.lemmas.List.{append_assoc, append-nil}
 use Rattle.sv_text.specs.White.{is_white, trim_start}
 use Rattle.sv_value.specs.Decimal.{Parts, number_parts, is_spelled, begins_well, digits_in, behind_digits, behind_sign, fraction_in, behind_fraction, behind_letter, behind_mark, exponent_in, is_down, behind_exponent, behind_whole, behind_mantissa}
 use Rattle.sv_value.specs.Spelling.{AreDigits, IsSpace, IsSign, IsFraction, IsExponent, NoExponent, IsSuffix, IsTail, Spells, ReadAsSpelled}
-use Rattle.sv_value.proofs.Pieces.{begins, is_sign, is_point, digits-joined, behind-joined, digits-none, behind-none, trim-joined, trim-none, digits-apart, digits-all, trim-apart, sign-joined, sign-apart, fraction-joined, fraction-apart}
+use Rattle.sv_value.proofs.Pieces.{begins, is_sign, is_point, digits_joined, behind_joined, digits_none, behind_none, trim_joined, trim_none, digits_apart, digits_all, trim_apart, sign_joined, sign_apart, fraction_joined, fraction_apart}
 
 -- what letters, digits and white space are not
-letter-plain : (b : ℕ) → is_ascii_alphabetic b ≡ true → (is_white b ≡ false) × (is_ascii_digit b ≡ false) × (is_point b ≡ false)
-letter-plain b h = (grind (arith, nat_tests, h), grind (arith, nat_tests, h), grind (arith, nat_tests, h))
+letter_plain : (b : ℕ) → is_ascii_alphabetic b ≡ true → (is_white b ≡ false) × (is_ascii_digit b ≡ false) × (is_point b ≡ false)
+letter_plain b h = (grind (arith, nat_tests, h), grind (arith, nat_tests, h), grind (arith, nat_tests, h))
 
-digit-plain : (b : ℕ) → is_ascii_digit b ≡ true → (is_white b ≡ false) × (is_sign b ≡ false)
-digit-plain b h = (grind (arith, nat_tests, h), grind (arith, nat_tests, h))
+digit_plain : (b : ℕ) → is_ascii_digit b ≡ true → (is_white b ≡ false) × (is_sign b ≡ false)
+digit_plain b h = (grind (arith, nat_tests, h), grind (arith, nat_tests, h))
 
-white-plain : (b : ℕ) → is_white b ≡ true → (is_ascii_digit b ≡ false) × (is_point b ≡ false)
-white-plain b h = (grind (arith, nat_tests, h), grind (arith, nat_tests, h))
+white_plain : (b : ℕ) → is_white b ≡ true → (is_ascii_digit b ≡ false) × (is_point b ≡ false)
+white_plain b h = (grind (arith, nat_tests, h), grind (arith, nat_tests, h))
 
 -- digits, of which there are some, begin with a digit
-some-digits : (digits text : List ℕ) → AreDigits digits → digits ≢ []
+some_digits : (digits text : List ℕ) → AreDigits digits → digits ≢ []
     → (begins is_white (digits ++ text) ≡ false) × (begins is_sign (digits ++ text) ≡ false)
-some-digits [] text all some = absurd (some refl)
-some-digits (b ∷ digits) text all some = at (is_ascii_digit b) refl all
+some_digits [] text all some = absurd (some refl)
+some_digits (b ∷ digits) text all some = at (is_ascii_digit b) refl all
   where
     at : (t : Bool) → is_ascii_digit b ≡ t → (t && list_all is_ascii_digit digits) ≡ true → (is_white b ≡ false) × (is_sign b ≡ false)
-    at true is all = digit-plain b is
+    at true is all = digit_plain b is
     at false is all = absurd cc
 
 -- a sign in front of these is no white space either
-sign-plain : (sign text : List ℕ) (minus : Bool) → IsSign sign minus → begins is_white text ≡ false → begins is_white (sign ++ text) ≡ false
-sign-plain sign text minus (inl s) h = rw s.0 h
-sign-plain sign text minus (inr (inl s)) h = rw s.0 refl
-sign-plain sign text minus (inr (inr s)) h = rw s.0 refl
+sign_plain : (sign text : List ℕ) (minus : Bool) → IsSign sign minus → begins is_white text ≡ false → begins is_white (sign ++ text) ≡ false
+sign_plain sign text minus (inl s) h = rw s.0 h
+sign_plain sign text minus (inr (inl s)) h = rw s.0 refl
+sign_plain sign text minus (inr (inr s)) h = rw s.0 refl
 
 -- neither a digit nor a point begins it
 abbrev IsPlain : List ℕ → Type 0
 IsPlain text = (begins is_ascii_digit text ≡ false) × (begins is_point text ≡ false)
 
 -- white space in front of plain text
-space-plain : (space text : List ℕ) → IsSpace space → IsPlain text → IsPlain (space ++ text)
-space-plain [] text all h = h
-space-plain (b ∷ space) text all h = at (is_white b) refl all
+space_plain : (space text : List ℕ) → IsSpace space → IsPlain text → IsPlain (space ++ text)
+space_plain [] text all h = h
+space_plain (b ∷ space) text all h = at (is_white b) refl all
   where
     at : (t : Bool) → is_white b ≡ t → (t && list_all is_white space) ≡ true → (is_ascii_digit b ≡ false) × (is_point b ≡ false)
-    at true is all = white-plain b is
+    at true is all = white_plain b is
     at false is all = absurd cc
 
-suffix-plain : (suffix : List ℕ) → begins_well suffix ≡ true → IsPlain suffix × (begins is_white suffix ≡ false)
-suffix-plain [] h = ((refl, refl), refl)
-suffix-plain (b ∷ suffix) h = let p = letter-plain b h in ((p.1, p.2), p.0)
+suffix_plain : (suffix : List ℕ) → begins_well suffix ≡ true → IsPlain suffix × (begins is_white suffix ≡ false)
+suffix_plain [] h = ((refl, refl), refl)
+suffix_plain (b ∷ suffix) h = let p = letter_plain b h in ((p.1, p.2), p.0)
 
 -- a suffix is what stands behind the white space
-suffix-read : (text suffix : List ℕ) → IsSuffix text suffix → (trim_start text ≡ suffix) × IsPlain text
-suffix-read text suffix s =
-    let p = suffix-plain suffix s.3 in
-    rw s.1 (trim-joined s.0 suffix s.2 ∙ trim-none suffix p.1, space-plain s.0 suffix s.2 p.0)
+suffix_read : (text suffix : List ℕ) → IsSuffix text suffix → (trim_start text ≡ suffix) × IsPlain text
+suffix_read text suffix s =
+    let p = suffix_plain suffix s.3 in
+    rw s.1 (trim_joined s.0 suffix s.2 ∙ trim_none suffix p.1, space_plain s.0 suffix s.2 p.0)
 
-suffix-spelled : (text : List ℕ) → begins_well (trim_start text) ≡ true → IsSuffix text (trim_start text)
-suffix-spelled text h = let a = trim-apart text in (a.0, a.1, a.2, h)
+suffix_spelled : (text : List ℕ) → begins_well (trim_start text) ≡ true → IsSuffix text (trim_start text)
+suffix_spelled text h = let a = trim_apart text in (a.0, a.1, a.2, h)
 
 -- behind the white space and the letter of an exponent
-mark-joined : (before behind text : List ℕ) (letter : ℕ) → IsSpace before → (letter ≡ 69) ⊎ (letter ≡ 101) → IsSpace behind
+mark_joined : (before behind text : List ℕ) (letter : ℕ) → IsSpace before → (letter ≡ 69) ⊎ (letter ≡ 101) → IsSpace behind
     → begins is_white text ≡ false
     → behind_mark (before ++ letter ∷ (behind ++ text)) ≡ text
-mark-joined before behind text letter b (inl l) h plain =
-    rw l (ap behind_letter (trim-joined before (69 ∷ (behind ++ text)) b) ∙ trim-joined behind text h ∙ trim-none text plain)
-mark-joined before behind text letter b (inr l) h plain =
-    rw l (ap behind_letter (trim-joined before (101 ∷ (behind ++ text)) b) ∙ trim-joined behind text h ∙ trim-none text plain)
+mark_joined before behind text letter b (inl l) h plain =
+    rw l (ap behind_letter (trim_joined before (69 ∷ (behind ++ text)) b) ∙ trim_joined behind text h ∙ trim_none text plain)
+mark_joined before behind text letter b (inr l) h plain =
+    rw l (ap behind_letter (trim_joined before (101 ∷ (behind ++ text)) b) ∙ trim_joined behind text h ∙ trim_none text plain)
 
 -- the pieces of an exponent in front of text
 joined : (before behind sign digits text : List ℕ) (letter : ℕ)
@@ -80,27 +80,27 @@ joined before behind sign digits text letter =
     ∙ ap (λ xs. before ++ letter ∷ xs) (append_assoc behind (sign ++ digits) text ∙ ap (λ xs. behind ++ xs) (append_assoc sign digits text))
 
 -- an exponent in front of text
-exponent-joined : (piece digits text : List ℕ) (minus : Bool) → IsExponent piece minus digits
+exponent_joined : (piece digits text : List ℕ) (minus : Bool) → IsExponent piece minus digits
     → (exponent_in (piece ++ text) ≡ digits ++ digits_in text) × (has_minus (behind_mark (piece ++ text)) ≡ minus)
     × (behind_digits (behind_sign (behind_mark (piece ++ text))) ≡ behind_digits text)
-exponent-joined piece digits text minus e =
-    let some = some-digits digits text e.9 e.10 in
+exponent_joined piece digits text minus e =
+    let some = some_digits digits text e.9 e.10 in
     let whole : piece ++ text ≡ e.0 ++ e.3 ∷ (e.1 ++ (e.2 ++ (digits ++ text))) =
     ap (λ xs. xs ++ text) e.4 ∙ joined e.0 e.1 e.2 digits text e.3 in
     let mark : behind_mark (piece ++ text) ≡ e.2 ++ (digits ++ text) =
-    ap behind_mark whole ∙ mark-joined e.0 e.1 (e.2 ++ (digits ++ text)) e.3 e.5 e.6 e.7
-    (sign-plain e.2 (digits ++ text) minus e.8 some.0) in
-    let signed = sign-joined e.2 (digits ++ text) minus e.8 some.1 in (
-      ap (λ xs. digits_in (behind_sign xs)) mark ∙ ap digits_in signed.1 ∙ digits-joined digits text e.9,
+    ap behind_mark whole ∙ mark_joined e.0 e.1 (e.2 ++ (digits ++ text)) e.3 e.5 e.6 e.7
+    (sign_plain e.2 (digits ++ text) minus e.8 some.0) in
+    let signed = sign_joined e.2 (digits ++ text) minus e.8 some.1 in (
+      ap (λ xs. digits_in (behind_sign xs)) mark ∙ ap digits_in signed.1 ∙ digits_joined digits text e.9,
       ap has_minus mark ∙ signed.0,
-      ap (λ xs. behind_digits (behind_sign xs)) mark ∙ ap behind_digits signed.1 ∙ behind-joined digits text e.9,
+      ap (λ xs. behind_digits (behind_sign xs)) mark ∙ ap behind_digits signed.1 ∙ behind_joined digits text e.9,
     )
 
 -- the letter of an exponent that has digits, and the white space behind it
 marked : (text : List ℕ) → is_empty (digits_in (behind_sign (behind_letter text))) ≡ false
     → (letter : ℕ) × (space : List ℕ) × (text ≡ letter ∷ (space ++ behind_letter text)) × ((letter ≡ 69) ⊎ (letter ≡ 101)) × IsSpace space
 marked [] h = absurd cc
-marked (b ∷ text) h = at (b == 69) (b == 101) refl refl h (trim-apart text)
+marked (b ∷ text) h = at (b == 69) (b == 101) refl refl h (trim_apart text)
   where
     at : (e f : Bool) → (b == 69) ≡ e → (b == 101) ≡ f → is_empty (digits_in (behind_sign (cond (e || f) (trim_start text) []))) ≡ false
         → ((space : List ℕ) × (text ≡ space ++ trim_start text) × IsSpace space)
@@ -111,30 +111,30 @@ marked (b ∷ text) h = at (b == 69) (b == 101) refl refl h (trim-apart text)
     at false false p q h a = absurd cc
 
 -- text is an exponent, where there is one, and what stands behind it
-exponent-apart : (text : List ℕ) → is_empty (exponent_in text) ≡ false
+exponent_apart : (text : List ℕ) → is_empty (exponent_in text) ≡ false
     → (piece : List ℕ) × (text ≡ piece ++ behind_exponent text) × IsExponent piece (is_down text) (exponent_in text)
-exponent-apart text some =
-    let a = trim-apart text in
+exponent_apart text some =
+    let a = trim_apart text in
     let m = marked (trim_start text) some in
-    let s = sign-apart (behind_mark text) in
-    let d = digits-apart (behind_sign (behind_mark text)) in
+    let s = sign_apart (behind_mark text) in
+    let d = digits_apart (behind_sign (behind_mark text)) in
     let rest = behind_digits (behind_sign (behind_mark text)) in
     let whole : text ≡ a.0 ++ m.0 ∷ (m.1 ++ (s.0 ++ (exponent_in text ++ rest))) =
     a.1 ∙ ap (λ xs. a.0 ++ xs) (m.2 ∙ ap (λ xs. m.0 ∷ (m.1 ++ xs)) (s.1 ∙ ap (λ xs. s.0 ++ xs) d)) in
     let there : exponent_in text ≢ [] = λ e. absurd (let x : is_empty (exponent_in text) ≡ true = ap is_empty e in cc) in (
       a.0 ++ m.0 ∷ (m.1 ++ (s.0 ++ exponent_in text)),
       rw some (whole ∙ sym (joined a.0 m.1 s.0 (exponent_in text) rest m.0)),
-      (a.0, m.1, s.0, m.0, refl, a.2, m.3, m.4, rw some s.2, digits-all (behind_sign (behind_mark text)), there),
+      (a.0, m.1, s.0, m.0, refl, a.2, m.3, m.4, rw some s.2, digits_all (behind_sign (behind_mark text)), there),
     )
 
 -- a list of which some is there, and one that is empty
-some-there : (xs : List ℕ) → xs ≢ [] → is_empty xs ≡ false
-some-there [] h = absurd (h refl)
-some-there (x ∷ xs) h = refl
+some_there : (xs : List ℕ) → xs ≢ [] → is_empty xs ≡ false
+some_there [] h = absurd (h refl)
+some_there (x ∷ xs) h = refl
 
-none-there : (xs : List ℕ) → is_empty xs ≡ true → xs ≡ []
-none-there [] h = refl
-none-there (x ∷ xs) h = absurd cc
+none_there : (xs : List ℕ) → is_empty xs ≡ true → xs ≡ []
+none_there [] h = refl
+none_there (x ∷ xs) h = absurd cc
 
 -- what is read behind the mantissa
 abbrev IsRead : List ℕ → Parts → Type 0
@@ -142,130 +142,130 @@ IsRead tail number = (is_down tail ≡ number.down) × (exponent_in tail ≡ num
     × (trim_start (behind_exponent tail) ≡ number.suffix) × (begins_well number.suffix ≡ true) × IsPlain tail
 
 -- the first byte of an exponent
-exponent-plain : (piece digits text : List ℕ) (minus : Bool) → IsExponent piece minus digits → IsPlain (piece ++ text)
-exponent-plain piece digits text minus e =
-    rw (e.4, joined e.0 e.1 e.2 digits text e.3) (space-plain e.0 (e.3 ∷ (e.1 ++ (e.2 ++ (digits ++ text)))) e.5 (letter e.6))
+exponent_plain : (piece digits text : List ℕ) (minus : Bool) → IsExponent piece minus digits → IsPlain (piece ++ text)
+exponent_plain piece digits text minus e =
+    rw (e.4, joined e.0 e.1 e.2 digits text e.3) (space_plain e.0 (e.3 ∷ (e.1 ++ (e.2 ++ (digits ++ text)))) e.5 (letter e.6))
   where
     letter : {b : ℕ} → (b ≡ 69) ⊎ (b ≡ 101) → (is_ascii_digit b ≡ false) × (is_point b ≡ false)
     letter (inl l) = rw l (refl, refl)
     letter (inr l) = rw l (refl, refl)
 
-tail-read : (tail : List ℕ) (number : Parts) → IsTail tail number → IsRead tail number
-tail-read tail number (inl h) =
-    let r = suffix-read h.1 number.suffix h.4 in
-    let j = exponent-joined h.0 number.exponent h.1 number.down h.3 in
+tail_read : (tail : List ℕ) (number : Parts) → IsTail tail number → IsRead tail number
+tail_read tail number (inl h) =
+    let r = suffix_read h.1 number.suffix h.4 in
+    let j = exponent_joined h.0 number.exponent h.1 number.down h.3 in
     let digits : exponent_in (h.0 ++ h.1) ≡ number.exponent =
-    j.0 ∙ ap (λ xs. number.exponent ++ xs) (digits-none h.1 r.1.0) ∙ append-nil number.exponent in
-    let some : is_empty (exponent_in (h.0 ++ h.1)) ≡ false = ap is_empty digits ∙ some-there number.exponent h.3.10 in
+    j.0 ∙ ap (λ xs. number.exponent ++ xs) (digits_none h.1 r.1.0) ∙ append-nil number.exponent in
+    let some : is_empty (exponent_in (h.0 ++ h.1)) ≡ false = ap is_empty digits ∙ some_there number.exponent h.3.10 in
     rw h.2 (
       rw some j.1,
       digits,
-      rw some (ap trim_start (j.2 ∙ behind-none h.1 r.1.0) ∙ r.0),
+      rw some (ap trim_start (j.2 ∙ behind_none h.1 r.1.0) ∙ r.0),
       h.4.3,
-      exponent-plain h.0 number.exponent h.1 number.down h.3,
+      exponent_plain h.0 number.exponent h.1 number.down h.3,
     )
-tail-read tail number (inr h) = at (is_empty (exponent_in tail)) refl
+tail_read tail number (inr h) = at (is_empty (exponent_in tail)) refl
   where
     at : (t : Bool) → is_empty (exponent_in tail) ≡ t → IsRead tail number
-    at true is = let r = suffix-read tail number.suffix h.3 in
-        (rw (is, h.1) refl, none-there (exponent_in tail) is ∙ sym h.2, rw is r.0, h.3.3, r.1)
-    at false is = let a = exponent-apart tail is in absurd (h.0 a.0 (behind_exponent tail) (exponent_in tail) (is_down tail) a.1 a.2)
+    at true is = let r = suffix_read tail number.suffix h.3 in
+        (rw (is, h.1) refl, none_there (exponent_in tail) is ∙ sym h.2, rw is r.0, h.3.3, r.1)
+    at false is = let a = exponent_apart tail is in absurd (h.0 a.0 (behind_exponent tail) (exponent_in tail) (is_down tail) a.1 a.2)
 
-front-empty : (front behind : List ℕ) → front ≢ [] → front ++ behind ≡ [] → ⊥
-front-empty [] behind some e = some refl
-front-empty (b ∷ front) behind some e = absurd cc
+front_empty : (front behind : List ℕ) → front ≢ [] → front ++ behind ≡ [] → ⊥
+front_empty [] behind some e = some refl
+front_empty (b ∷ front) behind some e = absurd cc
 
 -- what is read behind the mantissa is spelled there
-tail-spelled : (tail : List ℕ) (number : Parts) → is_down tail ≡ number.down → exponent_in tail ≡ number.exponent
+tail_spelled : (tail : List ℕ) (number : Parts) → is_down tail ≡ number.down → exponent_in tail ≡ number.exponent
     → trim_start (behind_exponent tail) ≡ number.suffix → begins_well number.suffix ≡ true
     → IsTail tail number
-tail-spelled tail number d x s w = at (is_empty (exponent_in tail)) refl
+tail_spelled tail number d x s w = at (is_empty (exponent_in tail)) refl
   where
     at : (t : Bool) → is_empty (exponent_in tail) ≡ t → IsTail tail number
     at false is =
-        let a = exponent-apart tail is in
-        inl (a.0, behind_exponent tail, a.1, rw (← d, ← x) a.2, rw (← s) (suffix-spelled (behind_exponent tail) (ap begins_well s ∙ w)))
+        let a = exponent_apart tail is in
+        inl (a.0, behind_exponent tail, a.1, rw (← d, ← x) a.2, rw (← s) (suffix_spelled (behind_exponent tail) (ap begins_well s ∙ w)))
     at true is =
         let same : behind_exponent tail ≡ tail = rw is refl in
         let all : trim_start tail ≡ number.suffix = ap trim_start (sym same) ∙ s in
         let none : NoExponent tail = λ exponent behind digits minus e isE.
-        front-empty digits (digits_in behind) isE.10
-        (sym (exponent-joined exponent digits behind minus isE).0 ∙ ap exponent_in (sym e) ∙ none-there (exponent_in tail) is) in
-        inr (none, sym d ∙ rw is refl, sym x ∙ none-there (exponent_in tail) is, rw (← all) (suffix-spelled tail (ap begins_well all ∙ w)))
+        front_empty digits (digits_in behind) isE.10
+        (sym (exponent_joined exponent digits behind minus isE).0 ∙ ap exponent_in (sym e) ∙ none_there (exponent_in tail) is) in
+        inr (none, sym d ∙ rw is refl, sym x ∙ none_there (exponent_in tail) is, rw (← all) (suffix_spelled tail (ap begins_well all ∙ w)))
 
 -- no second sign begins what stands behind the sign
-mantissa-plain : (whole fraction digits tail : List ℕ) → AreDigits whole → IsFraction fraction digits → (whole ≢ []) ⊎ (digits ≢ [])
+mantissa_plain : (whole fraction digits tail : List ℕ) → AreDigits whole → IsFraction fraction digits → (whole ≢ []) ⊎ (digits ≢ [])
     → begins is_sign (whole ++ (fraction ++ tail)) ≡ false
-mantissa-plain (b ∷ whole) fraction digits tail w f some = (some-digits (b ∷ whole) (fraction ++ tail) w (λ e. absurd cc)).1
-mantissa-plain [] fraction digits tail w f (inl some) = absurd (some refl)
-mantissa-plain [] fraction digits tail w (inl f) (inr some) = absurd (some f.1)
-mantissa-plain [] fraction digits tail w (inr f) (inr some) = rw f.0 refl
+mantissa_plain (b ∷ whole) fraction digits tail w f some = (some_digits (b ∷ whole) (fraction ++ tail) w (λ e. absurd cc)).1
+mantissa_plain [] fraction digits tail w f (inl some) = absurd (some refl)
+mantissa_plain [] fraction digits tail w (inl f) (inr some) = absurd (some f.1)
+mantissa_plain [] fraction digits tail w (inr f) (inr some) = rw f.0 refl
 
 -- nor a digit what stands behind the digits
-fraction-plain : (fraction digits tail : List ℕ) → IsFraction fraction digits → begins is_ascii_digit tail ≡ false
+fraction_plain : (fraction digits tail : List ℕ) → IsFraction fraction digits → begins is_ascii_digit tail ≡ false
     → begins is_ascii_digit (fraction ++ tail) ≡ false
-fraction-plain fraction digits tail (inl f) h = rw f.0 h
-fraction-plain fraction digits tail (inr f) h = rw f.0 refl
+fraction_plain fraction digits tail (inl f) h = rw f.0 h
+fraction_plain fraction digits tail (inr f) h = rw f.0 refl
 
 -- whether digits are there
-digits-there : (whole fraction : List ℕ) → (whole ≢ []) ⊎ (fraction ≢ []) → not (is_empty whole && is_empty fraction) ≡ true
-digits-there (b ∷ whole) fraction some = refl
-digits-there [] (b ∷ fraction) some = refl
-digits-there [] [] (inl some) = absurd (some refl)
-digits-there [] [] (inr some) = absurd (some refl)
+digits_there : (whole fraction : List ℕ) → (whole ≢ []) ⊎ (fraction ≢ []) → not (is_empty whole && is_empty fraction) ≡ true
+digits_there (b ∷ whole) fraction some = refl
+digits_there [] (b ∷ fraction) some = refl
+digits_there [] [] (inl some) = absurd (some refl)
+digits_there [] [] (inr some) = absurd (some refl)
 
-there-digits : (whole fraction : List ℕ) → not (is_empty whole && is_empty fraction) ≡ true → (whole ≢ []) ⊎ (fraction ≢ [])
-there-digits (b ∷ whole) fraction h = inl (λ e. absurd cc)
-there-digits [] (b ∷ fraction) h = inr (λ e. absurd cc)
-there-digits [] [] h = absurd cc
+there_digits : (whole fraction : List ℕ) → not (is_empty whole && is_empty fraction) ≡ true → (whole ≢ []) ⊎ (fraction ≢ [])
+there_digits (b ∷ whole) fraction h = inl (λ e. absurd cc)
+there_digits [] (b ∷ fraction) h = inr (λ e. absurd cc)
+there_digits [] [] h = absurd cc
 
 -- the parts of a number, one by one
-same-parts : (number : Parts) (negative down : Bool) (whole fraction exponent suffix : List ℕ) → negative ≡ number.negative
+same_parts : (number : Parts) (negative down : Bool) (whole fraction exponent suffix : List ℕ) → negative ≡ number.negative
     → whole ≡ number.whole → fraction ≡ number.fraction → down ≡ number.down
     → exponent ≡ number.exponent → suffix ≡ number.suffix
     → record { negative = negative; whole = whole; fraction = fraction; down = down; exponent = exponent; suffix = suffix } ≡ number
-same-parts number negative down whole fraction exponent suffix n w f d x s = rw (n, w, f, d, x, s) refl
+same_parts number negative down whole fraction exponent suffix n w f d x s = rw (n, w, f, d, x, s) refl
 
 -- what is spelled is read
-spelled-read : (text : List ℕ) (number : Parts) → Spells text number → (is_spelled (number_parts text) ≡ true)
+spelled_read : (text : List ℕ) (number : Parts) → Spells text number → (is_spelled (number_parts text) ≡ true)
     × (number_parts text ≡ number)
-spelled-read text number s =
+spelled_read text number s =
     let (sign, fraction, tail, e, isSign, isWhole, isFraction, some, isTail) = s in
-    let t = tail-read tail number isTail in
-    let signed = sign-joined sign (number.whole ++ (fraction ++ tail)) number.negative isSign
-    (mantissa-plain number.whole fraction number.fraction tail isWhole isFraction some) in
-    let plain = fraction-plain fraction number.fraction tail isFraction t.4.0 in
+    let t = tail_read tail number isTail in
+    let signed = sign_joined sign (number.whole ++ (fraction ++ tail)) number.negative isSign
+    (mantissa_plain number.whole fraction number.fraction tail isWhole isFraction some) in
+    let plain = fraction_plain fraction number.fraction tail isFraction t.4.0 in
     let behind : behind_sign text ≡ number.whole ++ (fraction ++ tail) = ap behind_sign e ∙ signed.1 in
     let whole : digits_in (behind_sign text) ≡ number.whole =
-    ap digits_in behind ∙ digits-joined number.whole (fraction ++ tail) isWhole
-    ∙ ap (λ xs. number.whole ++ xs) (digits-none (fraction ++ tail) plain) ∙ append-nil number.whole in
+    ap digits_in behind ∙ digits_joined number.whole (fraction ++ tail) isWhole
+    ∙ ap (λ xs. number.whole ++ xs) (digits_none (fraction ++ tail) plain) ∙ append-nil number.whole in
     let mantissa : behind_whole text ≡ fraction ++ tail =
-    ap behind_digits behind ∙ behind-joined number.whole (fraction ++ tail) isWhole ∙ behind-none (fraction ++ tail) plain in
-    let f = fraction-joined fraction number.fraction tail isFraction t.4.0 t.4.1 in
+    ap behind_digits behind ∙ behind_joined number.whole (fraction ++ tail) isWhole ∙ behind_none (fraction ++ tail) plain in
+    let f = fraction_joined fraction number.fraction tail isFraction t.4.0 t.4.1 in
     let rest : behind_mantissa text ≡ tail = ap behind_fraction mantissa ∙ f.1 in
-    let same : number_parts text ≡ number = same-parts number _ _ _ _ _ _ (ap has_minus e ∙ signed.0) whole (ap fraction_in mantissa ∙ f.0)
+    let same : number_parts text ≡ number = same_parts number _ _ _ _ _ _ (ap has_minus e ∙ signed.0) whole (ap fraction_in mantissa ∙ f.0)
     (ap is_down rest ∙ t.0) (ap exponent_in rest ∙ t.1)
     (ap (λ xs. trim_start (behind_exponent xs)) rest ∙ t.2) in
-    let found : is_spelled number ≡ true = rw (digits-there number.whole number.fraction some) t.3 in
+    let found : is_spelled number ≡ true = rw (digits_there number.whole number.fraction some) t.3 in
     (subst (λ n. is_spelled n ≡ true) (sym same) found, same)
 
 -- what is read is spelled
-read-spelled : (text : List ℕ) → is_spelled (number_parts text) ≡ true → Spells text (number_parts text)
-read-spelled text h =
+read_spelled : (text : List ℕ) → is_spelled (number_parts text) ≡ true → Spells text (number_parts text)
+read_spelled text h =
     let b = and_parts _ _ h in
-    let s = sign-apart text in
-    let d = digits-apart (behind_sign text) in
-    let f = fraction-apart (behind_whole text) in (
+    let s = sign_apart text in
+    let d = digits_apart (behind_sign text) in
+    let f = fraction_apart (behind_whole text) in (
       s.0,
       f.0,
       behind_mantissa text,
       s.1 ∙ ap (λ xs. s.0 ++ xs) (d ∙ ap (λ xs. digits_in (behind_sign text) ++ xs) f.1),
       s.2,
-      digits-all (behind_sign text),
+      digits_all (behind_sign text),
       f.2,
-      there-digits (number_parts text).whole (number_parts text).fraction b.0,
-      tail-spelled (behind_mantissa text) (number_parts text) refl refl refl b.1,
+      there_digits (number_parts text).whole (number_parts text).fraction b.0,
+      tail_spelled (behind_mantissa text) (number_parts text) refl refl refl b.1,
     )
 
 pub spelled : ReadAsSpelled
-spelled text number = (spelled-read text number, λ r. subst (Spells text) r.1 (read-spelled text r.0))
+spelled text number = (spelled_read text number, λ r. subst (Spells text) r.1 (read_spelled text r.0))

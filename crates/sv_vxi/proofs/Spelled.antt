@@ -6,7 +6,7 @@ use Rattle.sv_xdr.specs.declared.garbage.Garbage.{Garbage}
 use Rattle.sv_xdr.specs.Garbage.{◌>>=◌}
 use Rattle.sv_xdr.specs.Spelling.{Field, Unsigned, Signed, Boolean, Opaque, Begins, BeginsAll}
 use Rattle.sv_xdr.specs.Reader.{unsigned_at, signed_at, boolean_at, opaque_at}
-use Rattle.sv_xdr.proofs.Fields.{IsBytes, bytes_after, unsigned_begins, signed_begins, boolean_begins, opaque_again, word_fits, unsigned_takes, signed_takes, boolean_takes, opaque_at-takes}
+use Rattle.sv_xdr.proofs.Fields.{IsBytes, bytes_after, unsigned_begins, signed_begins, boolean_begins, opaque_again, word_fits, unsigned_takes, signed_takes, boolean_takes, opaque_at_takes}
 use Rattle.std.specs.Result.{result_map_both}
 use Rattle.sv_vxi.specs.Arguments.{LinkCall, Arguments, OnLink}
 use Rattle.sv_vxi.specs.Reading.{Kind, signed, unsigned, boolean, opaque, Makes, read, read_on_link}
@@ -89,7 +89,7 @@ read_takes (boolean ∷ kinds) makes bytes a fits e =
     ((s.0.0, r.0), r.1, r.2, r.3, (s.0.1, b, r.4))
 read_takes (opaque most ∷ kinds) makes bytes a fits e =
     let s = bind_ok (opaque_at most bytes) (λ x. read kinds (makes x.0) x.1) a e in
-    let b = opaque_at-takes most bytes s.0.0 s.0.1 fits s.1 in
+    let b = opaque_at_takes most bytes s.0.0 s.0.1 fits s.1 in
     let r = read_takes kinds (makes s.0.0) s.0.1 a (bytes_after (Opaque s.0.0) bytes s.0.1 fits b.0) s.2 in
     ((s.0.0, r.0), r.1, (b.1, r.2), r.3, (s.0.1, b.0, r.4))
 

@@ -10,8 +10,8 @@ use Rattle.sv_xdr.specs.Writer.{text_of, rest_of, Appends, Writes, WritesEach}
 use Rattle.sv_xdr.proofs.Spelled.{take_zeros}
 
 -- two writes are one of both
-pub Appends-then : (a b : List ℕ) (old mid new : Writer) → Appends a old mid → Appends b mid new → Appends (a ++ b) old new
-Appends-then a b old mid new first second =
+pub appends_then : (a b : List ℕ) (old mid new : Writer) → Appends a old mid → Appends b mid new → Appends (a ++ b) old new
+appends_then a b old mid new first second =
     let front = take (length a) (rest_of old) in
     let back = take (length b) (rest_of mid) in
     let size : length front ≡ length a = omega (arith, length-take (length a) (rest_of old), first.fits) in
@@ -35,8 +35,8 @@ pub opaque_appended : (size text : List ℕ) (n : ℕ) (old one two new : Writer
     → Appends size old one → Appends text one two → Appends (take n (0 ∷ 0 ∷ 0 ∷ [])) two new → Appends (spelling (Opaque text)) old new
 opaque_appended size text n old one two new size_is n_is first second third =
     let pad_is = ap (λ (k : ℕ). take {A = ℕ} k (0 ∷ 0 ∷ 0 ∷ [])) n_is ∙ take_zeros (pad_len (length text)) (omega arith) in
-    let both = Appends-then text _ one two new second third in
-    let all = Appends-then size _ old one new first both in
+    let both = appends_then text _ one two new second third in
+    let all = appends_then size _ old one new first both in
     rw (size_is, pad_is) at all
 
 -- a piece that has no room ends the pieces
@@ -55,9 +55,9 @@ each_ends piece pieces fault r old new e h =
 -- a piece that was written and the pieces behind it
 pub each_first : (piece : List ℕ) (pieces : List (List ℕ)) (r : Result Unit XdrFault) (old mid new : Writer) → Appends piece old mid
     → WritesEach pieces r mid new → WritesEach (piece ∷ pieces) r old new
-each_first piece pieces (Ok done) old mid new first h = Appends-then piece (concat pieces) old mid new first h
+each_first piece pieces (Ok done) old mid new first h = appends_then piece (concat pieces) old mid new first h
 each_first piece pieces (Err fault) old mid new first h =
-    (h.0, piece ∷ h.1, h.2, h.3, ap (λ (l : List (List ℕ)). piece ∷ l) h.4, Appends-then piece (concat h.1) old mid new first h.5, h.6)
+    (h.0, piece ∷ h.1, h.2, h.3, ap (λ (l : List (List ℕ)). piece ∷ l) h.4, appends_then piece (concat h.1) old mid new first h.5, h.6)
 
 -- the last piece
 pub each_last : (piece : List ℕ) (r : Result Unit XdrFault) (old new : Writer) → Writes piece r old new → WritesEach (piece ∷ []) r old new

@@ -38,18 +38,18 @@ pad_fills : (n : ℕ) → (n + pad_len n) % 4 ≡ 0
 pad_fills n = omega arith
 
 -- there is one length of the pad
-pub pad_len-unique : (n k : ℕ) → k < 4 → (n + k) % 4 ≡ 0 → k ≡ pad_len n
-pad_len-unique n k short fills = omega arith
+pub pad_len_unique : (n k : ℕ) → k < 4 → (n + k) % 4 ≡ 0 → k ≡ pad_len n
+pad_len_unique n k short fills = omega arith
 
-zeros-all : (bytes : List ℕ) → list_all (λ byte. eqb byte 0) bytes ≡ true → AllByRecursion (λ byte. byte ≡ 0) bytes
-zeros-all [] e = tt
-zeros-all (b ∷ bytes) e =
+zeros_all : (bytes : List ℕ) → list_all (λ byte. eqb byte 0) bytes ≡ true → AllByRecursion (λ byte. byte ≡ 0) bytes
+zeros_all [] e = tt
+zeros_all (b ∷ bytes) e =
     let both = and_parts (eqb b 0) (list_all (λ byte. eqb byte 0) bytes) e in
-    (eqb-true b 0 both.0, zeros-all bytes both.1)
+    (eqb-true b 0 both.0, zeros_all bytes both.1)
 
-all-zeros : (bytes : List ℕ) → AllByRecursion (λ byte. byte ≡ 0) bytes → list_all (λ byte. eqb byte 0) bytes ≡ true
-all-zeros [] h = refl
-all-zeros (b ∷ bytes) h = and_from (eqb b 0) (list_all (λ byte. eqb byte 0) bytes) (eq-eqb b 0 h.0) (all-zeros bytes h.1)
+all_zeros : (bytes : List ℕ) → AllByRecursion (λ byte. byte ≡ 0) bytes → list_all (λ byte. eqb byte 0) bytes ≡ true
+all_zeros [] h = refl
+all_zeros (b ∷ bytes) h = and_from (eqb b 0) (list_all (λ byte. eqb byte 0) bytes) (eq-eqb b 0 h.0) (all_zeros bytes h.1)
 
 ok_pair : {A : Type 0} (x y : A) → (let r : Result A XdrFault = Ok x in r) ≡ Ok y → x ≡ y
 ok_pair x y e = cc
@@ -73,7 +73,7 @@ padded_takes n bytes text after e =
     ∙ ap (λ (rest : List ℕ). take n bytes ++ rest)
     (sym (take-append-drop (pad_len n) (drop n bytes)) ∙ ap (λ (rest : List ℕ). pad ++ rest) (drop-drop (pad_len n) n bytes)) in (
       pad,
-      (rw pad_length (pad_is_short n), rw pad_length (pad_fills n), zeros-all pad zero.0),
+      (rw pad_length (pad_is_short n), rw pad_length (pad_fills n), zeros_all pad zero.0),
       text_length,
       parts ∙ ap (λ (x : List ℕ). x ++ (pad ++ drop (n + pad_len n) bytes)) text_is ∙ ap (λ (x : List ℕ). text ++ (pad ++ x)) after_is,
     )
@@ -82,13 +82,13 @@ padded_takes n bytes text after e =
 pub padded_again : (text pad after : List ℕ) → IsPad (length text) pad → padded_at (length text) (text ++ (pad ++ after)) ≡ Ok (text, after)
 unfolding padded_at
 padded_again text pad after h =
-    let size : length pad ≡ pad_len (length text) = pad_len-unique (length text) (length pad) h.0 h.1 in
+    let size : length pad ≡ pad_len (length text) = pad_len_unique (length text) (length pad) h.0 h.1 in
     let long : length text + pad_len (length text) ≤ length (text ++ (pad ++ after)) =
     omega (arith, length-append text (pad ++ after), length-append pad after) in
     let pad_is : take (pad_len (length text)) (drop (length text) (text ++ (pad ++ after))) ≡ pad =
     ap (take (pad_len (length text))) (drop_at text (pad ++ after) (length text) refl) ∙ take_at pad after (pad_len (length text)) size in
     let zero : list_all (λ byte. eqb byte 0) (take (pad_len (length text)) (drop (length text) (text ++ (pad ++ after)))) ≡ true =
-    rw pad_is (all-zeros pad h.2) in
+    rw pad_is (all_zeros pad h.2) in
     let after_is : drop (length text + pad_len (length text)) (text ++ (pad ++ after)) ≡ after =
     sym (drop-drop (pad_len (length text)) (length text) (text ++ (pad ++ after)))
     ∙ ap (drop (pad_len (length text))) (drop_at text (pad ++ after) (length text) refl)
@@ -172,10 +172,10 @@ unsigned_takes (a ∷ b ∷ c ∷ d ∷ rest) after n fits e =
 unsigned_takes _ after n fits e = absurd cc
 
 -- opaque data that are read are spelled so, their length before them
-pub opaque_at-takes : (max : ℕ) (bytes text after : List ℕ) → IsBytes bytes → opaque_at max bytes ≡ Ok (text, after)
+pub opaque_at_takes : (max : ℕ) (bytes text after : List ℕ) → IsBytes bytes → opaque_at max bytes ≡ Ok (text, after)
     → Begins bytes (Opaque text) after × (length text ≤ max)
 unfolding opaque_at
-opaque_at-takes max bytes text after fits e =
+opaque_at_takes max bytes text after fits e =
     let size = bind_ok (unsigned_at bytes) (λ n. cond (ltb max n.0) (Err TooLong) (padded_at n.0 n.1)) (text, after) e in
     let n = size.0.0 in
     let front = unsigned_takes bytes size.0.1 n fits size.1 in

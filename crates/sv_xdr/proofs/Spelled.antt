@@ -6,7 +6,7 @@ use Rattle.std.specs.Int.{w32, to_be_bytes, cast_unsigned, from_bool}
 use Rattle.std.proofs.lemmas.List.{length-replicate}
 use Rattle.sv_xdr.specs.Spelling.{Unsigned, Signed, Boolean, Opaque, IsWord, IsTwosComplement, IsPad, Spells, spelling, pad_len}
 use Rattle.sv_xdr.specs.Laws.{OneSpelling}
-use Rattle.sv_xdr.proofs.Fields.{pad_len-unique}
+use Rattle.sv_xdr.proofs.Fields.{pad_len_unique}
 
 pub word_spelled : (n : ℕ) → n < 2 ^ 32 → IsWord (to_be_bytes w32 n) n
 word_spelled n h = (omega arith, omega arith, omega arith, omega arith, omega arith)
@@ -47,7 +47,7 @@ zeros_are [] h = refl
 zeros_are (b ∷ bytes) h = let first = h.0 in let others = zeros_are bytes h.1 in cc
 
 pad_is : (n : ℕ) (pad : List ℕ) → IsPad n pad → pad ≡ replicate (pad_len n) 0
-pad_is n pad h = zeros_are pad h.2 ∙ ap (λ (k : ℕ). replicate {A = ℕ} k 0) (pad_len-unique n (length pad) h.0 h.1)
+pad_is n pad h = zeros_are pad h.2 ∙ ap (λ (k : ℕ). replicate {A = ℕ} k 0) (pad_len_unique n (length pad) h.0 h.1)
 
 unsigned_of : (n : ℕ) (z : ℤ) → IsTwosComplement n z → n ≡ cast_unsigned w32 z
 unsigned_of n (pos k) h = h.1

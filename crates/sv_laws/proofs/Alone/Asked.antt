@@ -4,7 +4,7 @@ use Rattle.std.specs.Prelude.{◌||◌, drop}
 use Rattle.std.proofs.lemmas.List.{drop_all}
 use Rattle.sv_header.specs.declared.command.Question.{Question}
 use Rattle.sv_exchange.specs.Exchange.{ExchangeAct, Accepted, ResponseRead, has_ended, response, is_something, due, NothingDue}
-use Rattle.sv_exchange.proofs.Responses.{response-read}
+use Rattle.sv_exchange.proofs.Responses.{response_read}
 use Rattle.sv_layers.specs.Act.{Act as InstrumentAct, Exchanged, exchange_acts}
 use Rattle.sv_instrument.specs.HeldUnit.{held_unit}
 use Rattle.sv_instrument.specs.Step.{is_answerable}
@@ -227,7 +227,7 @@ module _ (c lid : ℕ) (asked : Question) (sent answer : List ℕ) (most : ℕ) 
   rest_again : IsAtRest (exchange_acts last)
   rest_again = record {
     text_left = left_now.left;
-    none_left = response-read (exchange_acts now) (length bytes) ∙ ap (drop (length bytes)) over.shows
+    none_left = response_read (exchange_acts now) (length bytes) ∙ ap (drop (length bytes)) over.shows
         ∙ drop_all (length bytes) bytes (omega arith);
   }
 

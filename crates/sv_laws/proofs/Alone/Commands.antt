@@ -33,7 +33,7 @@ use Rattle.sv_history.specs.Resuming.{failure_effect, late}
 use Rattle.sv_history.specs.Settling.{InstrumentDoes, IsNext, SettlesIn, Settles}
 use Rattle.sv_history.specs.History.{IsLogOf}
 use Rattle.sv_history.proofs.OneStep.{next_once}
-use Rattle.sv_history.proofs.Projections.{device_shared, link_acts-happened, wait_acts-happened, instrument_acts-happened}
+use Rattle.sv_history.proofs.Projections.{device_shared, link_acts_happened, wait_acts_happened, instrument_acts_happened}
 use Rattle.sv_laws.specs.QueryAlone.{IsAtRest, Writes, write_reply, is_command, is_query_error, query_errors}
 use Rattle.sv_laws.proofs.NoneLate.{none_late}
 use Rattle.sv_laws.proofs.EveryLog.Steps.{Rested, log_settled, rested}
@@ -282,15 +282,15 @@ module _ (c lid : ℕ) (command : Order) (sent : List ℕ) (config : Config) (pa
       (not (has_ended (exchange_acts base))) (is_answerable base) (resting.none d).0 (resting.none d).1) ∙ able)
 
   inside_is : inside did_now ≡ adds ++ now
-  inside_is = ap instrument_acts (device_shared (map Applied adds) wrote_now) ∙ instrument_acts-happened adds (device_acts wrote_now)
+  inside_is = ap instrument_acts (device_shared (map Applied adds) wrote_now) ∙ instrument_acts_happened adds (device_acts wrote_now)
 
   phase_did : IsPhase did_now
   phase_did = record {
     state = Did (exchange_acts now) (ap exchange_acts inside_is ∙ does.2.0) left_now rest.none_left;
     held = ap held_unit inside_is ∙ does.2.1;
-    linked = ap link_acts (device_shared (map Applied adds) wrote_now) ∙ link_acts-happened adds (device_acts wrote_now);
+    linked = ap link_acts (device_shared (map Applied adds) wrote_now) ∙ link_acts_happened adds (device_acts wrote_now);
     nobody = subst (Nobody (link_acts (device_acts start)))
-        (sym (ap wait_acts (device_shared (map Applied adds) wrote_now) ∙ wait_acts-happened adds (device_acts wrote_now))) nobody_start;
+        (sym (ap wait_acts (device_shared (map Applied adds) wrote_now) ∙ wait_acts_happened adds (device_acts wrote_now))) nobody_start;
     codes = ap query_errors inside_is ∙ does.2.2;
   }
 

@@ -24,7 +24,7 @@ use Rattle.sv_history.specs.Effect.{acts_of}
 use Rattle.sv_history.specs.Resuming.{failure_effect, late}
 use Rattle.sv_history.specs.Settling.{IsNext}
 use Rattle.sv_history.specs.History.{own_acts, IsLogOf}
-use Rattle.sv_history.proofs.Projections.{of_shared, device_shared, others_effect, wait_acts-happened}
+use Rattle.sv_history.proofs.Projections.{of_shared, device_shared, others_effect, wait_acts_happened}
 use Rattle.sv_laws.specs.Adding.{all_replies}
 use Rattle.sv_laws.specs.QueryAlone.{IsQuiet}
 use Rattle.sv_laws.proofs.OneLog.{one_log}
@@ -53,7 +53,7 @@ happened_heard : (c : ℕ) (adds : List InstrumentAct) (replies : List ℕ) (log
     → Heard c replies (map OnDevice (map Applied adds) ++ log)
 happened_heard c adds replies log h = (
   ap (λ (l : List DeviceAct). waits c (wait_acts l)) (device_shared (map Applied adds) log)
-      ∙ ap (waits c) (wait_acts-happened adds (device_acts log)) ∙ h.0,
+      ∙ ap (waits c) (wait_acts_happened adds (device_acts log)) ∙ h.0,
   ap all_replies (of_shared c (map Applied adds) log) ∙ h.1,
 )
 

@@ -14,7 +14,7 @@ use Rattle.sv_scan.specs.declared.setting.Setting.TheVariants as setting
 use Rattle.sv_errors.specs.declared.source.Source.TheVariants.{Immediate}
 use Rattle.sv_exchange.specs.Exchange.{Accepted, ResponseRead, has_ended, response, UnitDue}
 use Rattle.sv_exchange.specs.Limits.{max_message}
-use Rattle.sv_exchange.proofs.Responses.{response-read}
+use Rattle.sv_exchange.proofs.Responses.{response_read}
 use Rattle.sv_header.specs.declared.command.Action.TheVariants as action
 use Rattle.sv_layers.specs.declared.change.Awaited.{Awaited}
 use Rattle.sv_layers.specs.declared.change.Awaited.TheVariants as awaited
@@ -38,7 +38,7 @@ use Rattle.sv_history.specs.Admission.{stop_of, admission}
 use Rattle.sv_history.specs.Settling.{CanResume, IsNext, SettlesIn, Settles}
 use Rattle.sv_history.specs.History.{own_acts, IsLogOf}
 use Rattle.sv_history.proofs.OneStep.{next_once}
-use Rattle.sv_history.proofs.Projections.{of_mine, of_shared, device_shared, link_acts-happened, wait_acts-happened, instrument_acts-happened}
+use Rattle.sv_history.proofs.Projections.{of_mine, of_shared, device_shared, link_acts_happened, wait_acts_happened, instrument_acts_happened}
 use Rattle.sv_laws.specs.Adding.{all_replies}
 use Rattle.sv_laws.specs.QueryAlone.{OneRead, UnitEnd, IsAtRest, reported, write_reply, read_reply, holds, hold_fault, held_answer, AsksHeld, IsHeldAnswered, HeldAlone}
 use Rattle.sv_laws.proofs.NoneLate.{none_late}
@@ -242,13 +242,13 @@ module _ (c lid : ℕ) (query : Order) (what : Awaited) (sent : List ℕ) (most 
       (resting.none d).0 (resting.none d).1) ∙ able)
 
   inside_is : inside held_now ≡ adds ++ now
-  inside_is = ap instrument_acts (device_shared (map Applied adds) wrote_now) ∙ instrument_acts-happened adds (device_acts wrote_now)
+  inside_is = ap instrument_acts (device_shared (map Applied adds) wrote_now) ∙ instrument_acts_happened adds (device_acts wrote_now)
 
   exchange_is : exchange_acts (inside held_now) ≡ exchange_acts now
   exchange_is = ap exchange_acts inside_is ∙ scanned_exchange begun.0 now
 
   calls_are : wait_acts (device_acts held_now) ≡ wait_acts (device_acts start)
-  calls_are = ap wait_acts (device_shared (map Applied adds) wrote_now) ∙ wait_acts-happened adds (device_acts wrote_now)
+  calls_are = ap wait_acts (device_shared (map Applied adds) wrote_now) ∙ wait_acts_happened adds (device_acts wrote_now)
 
   phase_held : IsPhase false held_now
   phase_held = inl (record {
@@ -263,7 +263,7 @@ module _ (c lid : ℕ) (query : Order) (what : Awaited) (sent : List ℕ) (most 
           ap all_replies (of_shared c (map Applied adds) wrote_now
               ∙ told c (Exchanged (Accepted sent true)) asks.writes.call.bytes (write_reply asks.writes.call.xid sent) start),
         );
-    linked = ap link_acts (device_shared (map Applied adds) wrote_now) ∙ link_acts-happened adds (device_acts wrote_now);
+    linked = ap link_acts (device_shared (map Applied adds) wrote_now) ∙ link_acts_happened adds (device_acts wrote_now);
     others = subst (Others c links) (sym calls_are) others_start;
     codes = ap reported inside_is ∙ scanned_codes begun.0 now;
   })
@@ -366,7 +366,7 @@ module _ (c lid : ℕ) (query : Order) (what : Awaited) (sent : List ℕ) (most 
       subst (IsPhase true) (sym own) (inl (record {
         state = Gone refl 0 (ending_more what base read (inside before) (read ++ inside before) refl e) fits
             (record { left = l.left; done = l.done; overrun = l.overrun; dropped = l.dropped; given = l.given })
-            (response-read (exchange_acts (inside before)) (length bytes) ∙ ap (drop (length bytes)) over.shows
+            (response_read (exchange_acts (inside before)) (length bytes) ∙ ap (drop (length bytes)) over.shows
             ∙ drop_all (length bytes) bytes (omega arith)) held
             (mine.0, ap all_replies told_now ∙ ap (λ (l : List ℕ). l ++ read_reply asks.reads.call.xid answer most term) mine.1);
         linked = v.linked;

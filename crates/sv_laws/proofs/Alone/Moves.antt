@@ -13,7 +13,7 @@ use Rattle.sv_links.specs.Waiting.{WaitAct, Left as LeftCall, waits, IsAble, IsE
 use Rattle.sv_scan.specs.declared.acts.ScanAct.TheVariants.{Trigger}
 use Rattle.sv_exchange.specs.Exchange.{ExchangeAct, UnitDone, Answered, Finished, ResponseRead, units, answers, fits_response, has_ended, response, due, Due, FinishDue, NothingDue}
 use Rattle.sv_exchange.specs.Limits.{max_message}
-use Rattle.sv_exchange.proofs.Responses.{response-read}
+use Rattle.sv_exchange.proofs.Responses.{response_read}
 use Rattle.sv_layers.specs.declared.change.Awaited.{Awaited}
 use Rattle.sv_layers.specs.Act.{Act as InstrumentAct, Exchanged, Scanned, exchange_acts}
 use Rattle.sv_instrument.specs.HeldUnit.{held_unit}
@@ -43,7 +43,7 @@ use Rattle.sv_history.specs.Request.{core_call_in}
 use Rattle.sv_history.specs.Effect.{acts_of, result_reply, call_effect}
 use Rattle.sv_history.specs.Resuming.{leaving, resume_effect, failure_effect, late}
 use Rattle.sv_history.specs.Settling.{InstrumentDoes, CanResume, IsNext}
-use Rattle.sv_history.proofs.Projections.{of_mine, device_shared, instrument_acts-happened}
+use Rattle.sv_history.proofs.Projections.{of_mine, device_shared, instrument_acts_happened}
 use Rattle.sv_laws.specs.Adding.{all_replies}
 use Rattle.sv_laws.specs.QueryAlone.{OneRead, UnitEnd, reported, held_answer, IsQuiet}
 use Rattle.sv_laws.proofs.EveryLog.Steps.{Rested, next_extends}
@@ -226,7 +226,7 @@ module _ (config : Config) (c lid xid most io_timeout lock_timeout flags term_ch
             }))
         | inr long ↦
             let now : inside new ≡ adds ++ inside log = ap inside is ∙ ap instrument_acts (device_shared (map Applied adds) log)
-            ∙ instrument_acts-happened adds (device_acts log) in
+            ∙ instrument_acts_happened adds (device_acts log) in
             inr (inr (
               record {
                 done = inside log;
@@ -342,7 +342,7 @@ module _ (config : Config) (c lid xid most io_timeout lock_timeout flags term_ch
       (OnDevice (Applied (Exchanged (ResponseRead (length bytes)))) ∷ OnDevice (Waited (LeftCall c)) ∷ log) in
       Gone refl k (ending_more what base read (inside log) (read ++ inside log) refl e) fits
       (record { left = l.left; done = l.done; overrun = l.overrun; dropped = l.dropped; given = l.given })
-      (response-read (exchange_acts (inside log)) (length bytes) ∙ ap (drop (length bytes)) over.shows
+      (response_read (exchange_acts (inside log)) (length bytes) ∙ ap (drop (length bytes)) over.shows
       ∙ drop_all (length bytes) bytes (omega arith)) held
       (rw (eq-eqb c c refl) refl, ap all_replies mine ∙ ap (λ (l : List ℕ). l ++ reply_of answer) told)
 

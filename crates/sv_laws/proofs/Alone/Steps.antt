@@ -14,7 +14,7 @@ use Rattle.sv_instrument.proofs.NextStep.{nothing_due as none_due}
 use Rattle.sv_history.specs.declared.event.Config.{Config}
 use Rattle.sv_history.specs.Act.{Act, Applied, OnDevice, of, device_acts, link_acts, wait_acts, instrument_acts, ticks}
 use Rattle.sv_history.specs.Settling.{IsNext, IsSettled, SettlesIn}
-use Rattle.sv_history.proofs.Projections.{device_shared, link_acts-happened, wait_acts-happened, ticks-happened, instrument_acts-happened}
+use Rattle.sv_history.proofs.Projections.{device_shared, link_acts_happened, wait_acts_happened, ticks_happened, instrument_acts_happened}
 use Rattle.sv_laws.specs.QueryAlone.{reported}
 use Rattle.sv_laws.proofs.Cuts.FirstPart.{Calm, Resting, calm_step, calm_next}
 use Rattle.sv_laws.proofs.Alone.Texts.{Over, empty_due, finished_empty, over_rests, nothing_due}
@@ -82,12 +82,12 @@ pub stage_next : (base log : List Act) (adds acts : List InstrumentAct) → Stag
 stage_next base log adds acts s scans =
     let there : device_acts (happened adds log) ≡ map Applied adds ++ device_acts log = device_shared (map Applied adds) log in
     let now : instrument_acts (device_acts (happened adds log)) ≡ adds ++ acts =
-    ap instrument_acts there ∙ instrument_acts-happened adds (device_acts log) ∙ ap (λ (l : List InstrumentAct). adds ++ l) s.is in
+    ap instrument_acts there ∙ instrument_acts_happened adds (device_acts log) ∙ ap (λ (l : List InstrumentAct). adds ++ l) s.is in
     record {
       calm = record {
-        links = ap link_acts there ∙ link_acts-happened adds (device_acts log) ∙ s.calm.links;
-        calls = ap wait_acts there ∙ wait_acts-happened adds (device_acts log) ∙ s.calm.calls;
-        clock = ap ticks there ∙ ticks-happened adds (device_acts log) ∙ s.calm.clock;
+        links = ap link_acts there ∙ link_acts_happened adds (device_acts log) ∙ s.calm.links;
+        calls = ap wait_acts there ∙ wait_acts_happened adds (device_acts log) ∙ s.calm.calls;
+        clock = ap ticks there ∙ ticks_happened adds (device_acts log) ∙ s.calm.clock;
         scans = ap scan_acts now ∙ scans ∙ ap scan_acts (sym s.is) ∙ s.calm.scans;
       };
       is = now;

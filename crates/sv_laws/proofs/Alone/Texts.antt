@@ -6,8 +6,8 @@ use Rattle.std.proofs.lemmas.List.{length-drop}
 use Rattle.sv_exchange.specs.Exchange.{ExchangeAct, Accepted, UnitDone, Answered, Finished, Byte, End, text, messages, messages_finished, current, units_done, has_overrun, has_dropped, all_answers, answers, message, has_ended, is_long, is_something, units, response, due, due_unit, NothingDue, UnitDue, FinishDue, fits_response}
 use Rattle.sv_exchange.specs.Limits.{max_message, max_response}
 use Rattle.std.specs.List.{onto_first as onto}
-use Rattle.sv_exchange.proofs.Cuts.{messages_some, messages-append}
-use Rattle.sv_exchange.proofs.Responses.{response-finished}
+use Rattle.sv_exchange.proofs.Cuts.{messages_some, messages_append}
+use Rattle.sv_exchange.proofs.Responses.{response_finished}
 
 -- ---- parts of a list
 
@@ -99,7 +99,7 @@ nothing_due acts l = rw (short_is [] [] acts l (omega arith), unended_is [] acts
 pub text_comes : (bytes : List ℕ) (parts : List (List ℕ)) (part : List ℕ) (acts : List ExchangeAct) → Left ([] ∷ []) acts
     → messages (map Byte bytes ++ End ∷ []) ≡ part ∷ parts → Left (part ∷ parts) (Accepted bytes true ∷ acts)
 text_comes bytes parts part acts l cut = record {
-  left = messages-append (text acts) (map Byte bytes ++ End ∷ []) (messages_finished acts) [] part parts l.left cut;
+  left = messages_append (text acts) (map Byte bytes ++ End ∷ []) (messages_finished acts) [] part parts l.left cut;
   done = l.done;
   overrun = l.overrun;
   dropped = l.dropped;
@@ -150,7 +150,7 @@ pub finished_one : (lines : ℕ) (part answer : List ℕ) (acts : List ExchangeA
 finished_one lines part answer acts l = record {
   left = drop_next (messages_finished acts) (messages (text acts)) part ([] ∷ replicate lines []) l.left;
   fresh = refl;
-  shows = response-finished (answered answer acts) ∙ rw (l.dropped, l.given) refl;
+  shows = response_finished (answered answer acts) ∙ rw (l.dropped, l.given) refl;
 }
 
 over_left : (lines : ℕ) (bytes : List ℕ) (acts : List ExchangeAct) → Over lines bytes acts → Left ([] ∷ replicate lines []) acts
@@ -173,7 +173,7 @@ pub finished_empty : (lines : ℕ) (bytes : List ℕ) (acts : List ExchangeAct) 
 finished_empty lines bytes acts o = record {
   left = drop_next (messages_finished acts) (messages (text acts)) [] ([] ∷ replicate lines []) o.left;
   fresh = refl;
-  shows = response-finished acts ∙ (rw o.fresh o.shows);
+  shows = response_finished acts ∙ (rw o.fresh o.shows);
 }
 
 pub over_rests : (bytes : List ℕ) (acts : List ExchangeAct) → Over 0 bytes acts → Left ([] ∷ []) acts
@@ -196,7 +196,7 @@ left_finished lines acts l = record {
 
 pub none_finished : (parts : List (List ℕ)) (acts : List ExchangeAct) → Left parts acts → response acts ≡ []
     → response (Finished ∷ acts) ≡ []
-none_finished parts acts l none = response-finished acts ∙ rw (l.dropped, l.given) none
+none_finished parts acts l none = response_finished acts ∙ rw (l.dropped, l.given) none
 
 -- ---- after a unit without an answer
 
@@ -217,4 +217,4 @@ done_left lines part acts l = record {
 
 pub done_none : (parts : List (List ℕ)) (acts : List ExchangeAct) → Left parts acts → response acts ≡ []
     → response (Finished ∷ UnitDone ∷ acts) ≡ []
-done_none parts acts l none = response-finished (UnitDone ∷ acts) ∙ rw (l.dropped, l.given) none
+done_none parts acts l none = response_finished (UnitDone ∷ acts) ∙ rw (l.dropped, l.given) none

@@ -39,7 +39,7 @@ use Rattle.sv_history.specs.Execution.{request_effect, aborts}
 use Rattle.sv_history.specs.Resuming.{leaving, resume_outcome, next_wait, effect_of, failure_effect, late}
 use Rattle.sv_history.specs.Settling.{IsNext}
 use Rattle.sv_history.specs.History.{abort_acts, turn_acts, own_acts, IsLogOf}
-use Rattle.sv_history.proofs.Projections.{device_shared, device_effect, instrument_acts-happened, instrument_acts-links}
+use Rattle.sv_history.proofs.Projections.{device_shared, device_effect, instrument_acts_happened, instrument_acts_links}
 use Rattle.sv_laws.proofs.Facts.{all_join}
 use Rattle.sv_laws.proofs.EveryLog.EachEvent.{each_log, turn_parts, refuse_keeps, close_adds, device_closed}
 use Rattle.sv_instrument.specs.HeldUnit.{held_unit}
@@ -171,7 +171,7 @@ turn_so config polled c _ _ log s = s
 happened_so : (adds : List InstrumentAct) (log : List Act) → Sound (adds ++ instrument_acts (device_acts log))
     → IsSo (map OnDevice (map Applied adds) ++ log)
 happened_so adds log s = subst Sound (sym (ap instrument_acts (device_shared (map Applied adds) log)
-    ∙ instrument_acts-happened adds (device_acts log))) s
+    ∙ instrument_acts_happened adds (device_acts log))) s
 
 next_so : (config : Config) (log new : List Act) → IsSo log → IsNext config log new → IsSo new
 next_so config log new s (inl (adds, such, is)) = subst IsSo (sym is) (happened_so adds log (subst Sound (sym such.1)
@@ -200,7 +200,7 @@ triggered_so (Some code) log s = s
 closed_so : (c : ℕ) (log : List Act) → IsSo log → IsSo (map OnDevice (close_adds c (device_acts log)) ++ On c PortClosed ∷ log)
 closed_so c log s =
     subst Sound (sym (ap instrument_acts (device_closed c log)
-    ∙ instrument_acts-links (closing c (link_acts (device_acts log))) (Waited (Left c) ∷ device_acts log))) s
+    ∙ instrument_acts_links (closing c (link_acts (device_acts log))) (Waited (Left c) ∷ device_acts log))) s
 
 event_so : (config : Config) (polled : ℕ) (event : PlainEvent) (log : List Act) → IsSo log → IsSo (own_acts config polled event log ++ log)
 event_so config polled (Open d role) log s = s

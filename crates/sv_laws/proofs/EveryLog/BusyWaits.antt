@@ -31,7 +31,7 @@ use Rattle.sv_history.specs.Execution.{request_effect}
 use Rattle.sv_history.specs.Refusing.{refusable, refused_reply}
 use Rattle.sv_history.specs.Resuming.{effect_of, leaving, next_wait, resume_outcome, failure_effect}
 use Rattle.sv_history.specs.History.{turn_acts, own_acts, refusal, IsLogOf}
-use Rattle.sv_history.proofs.Projections.{of_mine, of_other, of_shared, device_shared, device_effect, wait_acts-links, wait_acts-happened}
+use Rattle.sv_history.proofs.Projections.{of_mine, of_other, of_shared, device_shared, device_effect, wait_acts_links, wait_acts_happened}
 use Rattle.sv_laws.proofs.EveryLog.Done.{each_done, own_told}
 use Rattle.sv_laws.proofs.EveryLog.Taken.{within}
 use Rattle.sv_laws.proofs.EveryLog.Fit.{Fit, of_each}
@@ -75,7 +75,7 @@ all_shared adds log all same d none = ap pending_call (of_shared d adds log)
     ∙ all d (ap (waits d) (sym same ∙ ap wait_acts (sym (device_shared adds log))) ∙ none)
 
 all_happened : (adds : List InstrumentAct) (log : List Act) → AllWait log → AllWait (map OnDevice (map Applied adds) ++ log)
-all_happened adds log all = all_shared (map Applied adds) log all (wait_acts-happened adds (device_acts log))
+all_happened adds log all = all_shared (map Applied adds) log all (wait_acts_happened adds (device_acts log))
 
 -- ---- a suspended call ends, or waits anew
 
@@ -204,7 +204,7 @@ all_close c log all d none =
     let acts = device_acts log in
     let links = closing c (link_acts acts) in
     let calls : wait_acts (device_acts (map OnDevice (close_adds c acts) ++ On c PortClosed ∷ log)) ≡ Left c ∷ wait_acts acts =
-    ap wait_acts (device_closed c log) ∙ wait_acts-links links (Waited (Left c) ∷ acts) in
+    ap wait_acts (device_closed c log) ∙ wait_acts_links links (Waited (Left c) ∷ acts) in
     elim (cases_eq d c) [
       | inl e ↦ subst (λ (n : ℕ). pending_call (of n (map OnDevice (close_adds c acts) ++ On c PortClosed ∷ log)) ≡ None) (sym e)
           (ap pending_call (of_shared c (close_adds c acts) (On c PortClosed ∷ log) ∙ of_mine c PortClosed log))

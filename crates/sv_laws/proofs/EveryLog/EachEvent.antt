@@ -39,7 +39,7 @@ use Rattle.sv_history.specs.Resuming.{effect_of, leaving, next_wait, resume_outc
 use Rattle.sv_history.specs.Refusing.{refusable, refused_reply}
 use Rattle.sv_history.specs.Settling.{IsNext, SettlesIn}
 use Rattle.sv_history.specs.History.{abort_acts, taken_acts, turn_acts, refuse_acts, own_acts, refusal, IsLogOf}
-use Rattle.sv_history.proofs.Projections.{of_mine, of_other, of_shared, device_shared, link_acts-links, wait_acts-links, link_acts-happened, wait_acts-happened}
+use Rattle.sv_history.proofs.Projections.{of_mine, of_other, of_shared, device_shared, link_acts_links, wait_acts_links, link_acts_happened, wait_acts_happened}
 use Rattle.sv_laws.proofs.EveryLog.Done.{IsDone, each_done, waits_own, creating_waits}
 use Rattle.sv_laws.proofs.EveryLog.Taken.{free_call, core_taken, within}
 use Rattle.sv_laws.proofs.EveryLog.Fit.{AllSuit, IsHeld, Fit, IsBy, IsCore, held_none, held_same, fit_effect, fit_free, fit_on, fit_on_free, fit_shared}
@@ -233,7 +233,7 @@ suits_happened (act ∷ adds) acts all = (tt, suits_happened adds acts all)
 
 fit_happened : (adds : List InstrumentAct) (log : List Act) → Fit log → Fit (map OnDevice (map Applied adds) ++ log)
 fit_happened adds log fit = fit_shared (map Applied adds) log fit (suits_happened adds (device_acts log) fit.suits)
-    (link_acts-happened adds (device_acts log)) (wait_acts-happened adds (device_acts log))
+    (link_acts_happened adds (device_acts log)) (wait_acts_happened adds (device_acts log))
 
 -- ---- a step
 
@@ -384,9 +384,9 @@ fit_close c log fit =
     let new = map OnDevice (close_adds c acts) ++ On c PortClosed ∷ log in
     let links = map Linked (closing c (link_acts acts)) in
     let calls : wait_acts (device_acts new) ≡ Left c ∷ wait_acts acts =
-    ap wait_acts (device_closed c log) ∙ wait_acts-links (closing c (link_acts acts)) (Waited (Left c) ∷ acts) in
+    ap wait_acts (device_closed c log) ∙ wait_acts_links (closing c (link_acts acts)) (Waited (Left c) ∷ acts) in
     let left : link_acts (device_acts new) ≡ closing c (link_acts acts) ++ link_acts acts =
-    ap link_acts (device_closed c log) ∙ link_acts-links (closing c (link_acts acts)) (Waited (Left c) ∷ acts) in
+    ap link_acts (device_closed c log) ∙ link_acts_links (closing c (link_acts acts)) (Waited (Left c) ∷ acts) in
     record {
       suits = subst AllSuit (sym (device_closed c log)) (
         tt,

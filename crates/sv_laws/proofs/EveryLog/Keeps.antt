@@ -10,7 +10,7 @@ use Rattle.sv_links.specs.declared.waiting.Wait.TheVariants.{Lock}
 use Rattle.sv_links.specs.Links.{LinkAct, Made, Destroyed, Locked, Unlocked, links_made, live, owner, is_locked, holder, is_this, is_locked_out}
 use Rattle.sv_links.specs.Table.{IsKept}
 use Rattle.sv_links.specs.Waiting.{Entered, Again, Left, waits, link, IsOldest}
-use Rattle.sv_links.proofs.Locks.{holder_is, lock-free, lock-again, freed, lock-destroyed}
+use Rattle.sv_links.proofs.Locks.{holder_is, lock_free, lock_again, freed, lock_destroyed}
 use Rattle.sv_history.specs.Act.{DeviceAct, Linked, Waited, link_acts, wait_acts}
 use Rattle.sv_laws.specs.LockFair.{WaitsForLock}
 use Rattle.sv_laws.proofs.Facts.{some_same, some_none, not_both}
@@ -80,8 +80,8 @@ holder_by acts all o held = holder_is
 locked_by : (lid : ℕ) (acts : List LinkAct) (o : Option ℕ) → HeldBy acts o → (o ≡ Some lid) ⊎ (o ≡ None)
     → HeldBy (Locked lid ∷ acts) (Some lid)
 locked_by lid acts o held (inl same) =
-    lock-again lid acts (λ n. held n ∙ ap (is_this n) same)
-locked_by lid acts o held (inr none) = lock-free lid acts (λ n. held n ∙ ap (is_this n) none)
+    lock_again lid acts (λ n. held n ∙ ap (is_this n) same)
+locked_by lid acts o held (inr none) = lock_free lid acts (λ n. held n ∙ ap (is_this n) none)
 
 may_by : (lid : ℕ) (acts : List DeviceAct) (o : Option ℕ) → holder (link_acts acts) ≡ o → MayTake lid acts → (o ≡ Some lid) ⊎ (o ≡ None)
 may_by lid acts o is (inl same) = inl (sym is ∙ same)
@@ -91,9 +91,9 @@ held_by : (acts : List DeviceAct) → AllSuit acts → AllKeep acts → (o : Opt
 held_by [] all keep = (None, λ n. refl)
 held_by (Linked (Made lid conn) ∷ acts) all keep = held_by acts all.1 keep.1
 held_by (Linked (Destroyed lid) ∷ acts) all keep =
-    let was = held_by acts all.1 keep.1 in (freed lid was.0, lock-destroyed lid was.0 (link_acts acts) was.1)
+    let was = held_by acts all.1 keep.1 in (freed lid was.0, lock_destroyed lid was.0 (link_acts acts) was.1)
 held_by (Linked (Unlocked lid) ∷ acts) all keep =
-    let was = held_by acts all.1 keep.1 in (freed lid was.0, lock-destroyed lid was.0 (link_acts acts) was.1)
+    let was = held_by acts all.1 keep.1 in (freed lid was.0, lock_destroyed lid was.0 (link_acts acts) was.1)
 held_by (Linked (Locked lid) ∷ acts) all keep =
     let was = held_by acts all.1 keep.1 in
     (Some lid, locked_by lid (link_acts acts) was.0 was.1 (may_by lid acts was.0 (holder_by acts all.1 was.0 was.1) keep.0.1))

@@ -10,7 +10,7 @@ use Rattle.sv_links.specs.Links.{LinkAct, Made, Destroyed, links_made, live, own
 use Rattle.sv_links.specs.Table.{IsRising}
 use Rattle.sv_links.specs.Waiting.{Entered, Again, Left, waits, link, is_there}
 use Rattle.sv_links.specs.Channels.{ChannelAct, SrqEnabled, SrqDisabled, srq_enabled}
-use Rattle.sv_links.proofs.Tables.{rising-push, rising-filter, other_than}
+use Rattle.sv_links.proofs.Tables.{rising_push, rising_filter, other_than}
 use Rattle.sv_laws.proofs.Facts.{some_same}
 use Rattle.sv_laws.proofs.LinksAlike.{owner_made, owner_made_other, owner_destroyed_other, owner_before, is_of_owner}
 use Rattle.sv_laws.proofs.ChannelsAlike.{AsksElsewhere}
@@ -25,9 +25,9 @@ use Rattle.sv_laws.proofs.EveryLog.Fit.{AllSuit}
 pub rises : (acts : List DeviceAct) → AllSuit acts → IsRising (live (link_acts acts)) (links_made (link_acts acts))
 rises [] all = tt
 rises (Linked (Made lid conn) ∷ acts) all =
-    rw all.0 (rising-push (live (link_acts acts)) (links_made (link_acts acts)) conn (rises acts all.1))
+    rw all.0 (rising_push (live (link_acts acts)) (links_made (link_acts acts)) conn (rises acts all.1))
 rises (Linked (Destroyed lid) ∷ acts) all =
-    rising-filter (other_than lid) (live (link_acts acts)) (links_made (link_acts acts)) (rises acts all.1)
+    rising_filter (other_than lid) (live (link_acts acts)) (links_made (link_acts acts)) (rises acts all.1)
 rises (_ ∷ acts) all = rises acts all.1
 
 rising_owner : (n c last : ℕ) (xs : List Link) → IsRising xs last

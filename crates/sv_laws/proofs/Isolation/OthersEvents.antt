@@ -21,7 +21,7 @@ use Rattle.sv_history.specs.Execution.{request_effect, aborts}
 use Rattle.sv_history.specs.Refusing.{refusable}
 use Rattle.sv_history.specs.History.{abort_acts, turn_acts, own_acts}
 use Rattle.sv_laws.specs.Isolation.{is_foreign, aborted_link, LeavesLinksAlone}
-use Rattle.sv_history.proofs.Projections.{link_acts-links}
+use Rattle.sv_history.proofs.Projections.{link_acts_links}
 use Rattle.sv_laws.proofs.EveryLog.Fit.{Fit}
 use Rattle.sv_laws.proofs.EveryLog.EachEvent.{close_adds}
 use Rattle.sv_laws.proofs.EveryLog.Known.{rises}
@@ -80,7 +80,7 @@ foreign_links : (c : ℕ) (links : List LinkAct) (acts : List DeviceAct)
     → Each (λ before act. IsForeignLink c act before) links (link_acts acts) → Each (IsForeign c) (map Linked links) acts
 foreign_links c [] acts h = tt
 foreign_links c (act ∷ links) acts h = (
-  subst (λ (before : List LinkAct). IsForeignLink c act before) (sym (link_acts-links links acts)) h.0,
+  subst (λ (before : List LinkAct). IsForeignLink c act before) (sym (link_acts_links links acts)) h.0,
   foreign_links c links acts h.1,
 )
 

@@ -30,7 +30,7 @@ use Rattle.sv_history.specs.Refusing.{refusable, refused_reply}
 use Rattle.sv_history.specs.Resuming.{leaving, failure_effect, connect_effect}
 use Rattle.sv_history.specs.History.{turn_acts, refuse_acts, own_acts, refusal, taken_acts}
 use Rattle.sv_laws.specs.Isolation.{is_foreign, makes_link, LeavesLinksAlone}
-use Rattle.sv_history.proofs.Projections.{device_shared, link_acts-links}
+use Rattle.sv_history.proofs.Projections.{device_shared, link_acts_links}
 use Rattle.sv_laws.proofs.EveryLog.Fit.{Fit}
 use Rattle.sv_laws.proofs.EveryLog.EachEvent.{close_adds, device_closed}
 use Rattle.sv_laws.proofs.EveryLog.Taken.{no_abort}
@@ -203,7 +203,7 @@ no_close c lid log mine locks =
     let now : holder (link_acts (device_acts ((map OnDevice (close_adds c acts) ++ On c PortClosed ∷ []) ++ log))) ≡ Some lid = locks.0 in
     let there = append_assoc (map OnDevice (close_adds c acts)) (On c PortClosed ∷ []) log in
     let links = ap (λ (l : List Act). link_acts (device_acts l)) there ∙ ap link_acts (device_closed c log)
-    ∙ link_acts-links (closing c (link_acts acts)) (Waited (Left c) ∷ acts) in
+    ∙ link_acts_links (closing c (link_acts acts)) (Waited (Left c) ∷ acts) in
     closed_frees c lid (link_acts acts) mine (ap holder (sym links) ∙ now)
 
 -- ---- an event

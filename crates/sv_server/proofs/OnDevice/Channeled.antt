@@ -10,12 +10,12 @@ use Rattle.sv_links.specs.Waiting.{WaitAct, Entered, Left}
 use Rattle.sv_links.specs.Queue.{IsQueue}
 use Rattle.sv_links.specs.Channels.{ChannelAct, SrqEnabled, SrqDisabled}
 use Rattle.sv_links.specs.ChannelRepresentation.{Channels, AreChannels, IsReady, HasRoomFor}
-use Rattle.sv_links.proofs.Rising.{with_link, enabled-enabled, enabled-disabled, enabled-sorted}
+use Rattle.sv_links.proofs.Rising.{with_link, enabled_enabled, enabled_disabled, enabled_sorted}
 use Rattle.sv_history.specs.declared.event.Config.{Config}
 use Rattle.sv_history.specs.Act.{DeviceAct, Linked, Waited, Channel, link_acts, wait_acts}
 use Rattle.sv_history.specs.Requests.{HearsOf}
 use Rattle.sv_server.specs.Device.Representation.{Device, IsDevice, IsReserved, AreOwned, AreReady}
-use Rattle.sv_history.proofs.Projections.{wait_acts-links}
+use Rattle.sv_history.proofs.Projections.{wait_acts_links}
 use Rattle.sv_server.proofs.OnDevice.Parts.{dials_left}
 use Rattle.sv_server.proofs.OnDevice.Owned.{room_for, owned_enabled}
 
@@ -68,7 +68,7 @@ pub device_cancelled : (kept : Device) (intr : Channels) (config : Config) (acts
     → ((d : ℕ) → (d ≡ c → ⊥) → IsReady kept.intr d → IsReady intr d)
     → IsDevice (record kept { intr = intr }) config (map Linked links ++ Waited (Left c) ∷ acts)
 device_cancelled kept intr config acts links c is stands same others =
-    let waits = wait_acts-links links (Waited (Left c) ∷ acts) in
+    let waits = wait_acts_links links (Waited (Left c) ∷ acts) in
     device_same kept intr config (map Linked links ++ Waited (Left c) ∷ acts) is stands same
     (subst (λ (w : List WaitAct). AreReady intr w) (sym waits)
     (ready_left kept.intr intr c (wait_acts acts) (subst (λ (w : List WaitAct). AreReady kept.intr w) waits is.7) others))
@@ -105,7 +105,7 @@ pub room_there : (kept : Device) (config : Config) (acts : List DeviceAct) (lid 
     → owner lid (link_acts acts) ≡ Some conn → HasRoomFor lid kept.intr
 room_there kept config acts lid conn is owns =
     let (channel_log, tells, are, owned) = is.6 in
-    room_for kept.intr.enabled (link_acts acts) lid conn (rw are.enabled (enabled-sorted channel_log)) owned owns (omega (arith, is.5.0))
+    room_for kept.intr.enabled (link_acts acts) lid conn (rw are.enabled (enabled_sorted channel_log)) owned owns (omega (arith, is.5.0))
 
 pub device_enabled : (kept : Device) (intr : Channels) (config : Config) (acts : List DeviceAct) (lid conn : ℕ) (handle : List ℕ)
     → IsDevice kept config acts → owner lid (link_acts acts) ≡ Some conn
@@ -119,7 +119,7 @@ device_enabled kept intr config acts lid conn handle is owns stands still =
     let now = stands room channel_log are in
     let link : Enabled = record { lid = lid; conn = conn; handle = handle } in
     let more : intr.enabled ≡ with_link link kept.intr.enabled =
-    now.enabled ∙ enabled-enabled link channel_log ∙ ap (with_link link) (sym are.enabled) in
+    now.enabled ∙ enabled_enabled link channel_log ∙ ap (with_link link) (sym are.enabled) in
     device_channel kept intr config acts (SrqEnabled lid conn handle) is (λ t tells are. stands room t are)
     (rw more (owned_enabled kept.intr.enabled (link_acts acts) lid conn handle owned owns)) (λ c dials. still c (is.7 c dials))
 
@@ -140,7 +140,7 @@ device_disabled kept intr config acts lid is stands still =
     let (channel_log, tells, are, owned) = is.6 in
     let now = stands channel_log are in
     let less : intr.enabled ≡ filter (λ other. not (other.lid == lid)) kept.intr.enabled =
-    now.enabled ∙ enabled-disabled lid channel_log ∙ ap (λ (links : List Enabled). filter (λ other. not (other.lid == lid)) links)
+    now.enabled ∙ enabled_disabled lid channel_log ∙ ap (λ (links : List Enabled). filter (λ other. not (other.lid == lid)) links)
     (sym are.enabled) in
     device_channel kept intr config acts (SrqDisabled lid) is (λ t tells are. stands t are)
     (rw less (owned_less (λ other. not (other.lid == lid)) kept.intr.enabled (link_acts acts) owned)) (λ c dials. still c (is.7 c dials))

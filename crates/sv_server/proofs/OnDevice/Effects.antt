@@ -11,7 +11,7 @@ use Rattle.sv_instrument.specs.Representation.{Kept, StandsFor}
 use Rattle.sv_history.specs.declared.event.Config.{Config}
 use Rattle.sv_history.specs.Act.{Act, ConnAct, DeviceAct, CallTaken, Linked, On, of, device_acts, link_acts, instrument_acts}
 use Rattle.sv_history.specs.Effect.{Effect, acts_of}
-use Rattle.sv_history.proofs.Projections.{of_mine, of_other, of_shared, of_effect, others_effect, device_effect, link_acts-links, instrument_acts-links, ticks-links, wait_acts-links}
+use Rattle.sv_history.proofs.Projections.{of_mine, of_other, of_shared, of_effect, others_effect, device_effect, link_acts_links, instrument_acts_links, ticks_links, wait_acts_links}
 use Rattle.sv_server.specs.Device.Representation.{IsDevice, HasDone, AreTold, Device as KeptDevice}
 
 -- what happens to the instrument happens to nothing else
@@ -28,14 +28,14 @@ pub device_linked : (kept : KeptDevice) (links : Table) (intr : Channels) (confi
     → AreTold intr (map Linked adds ++ acts) → ((c : ℕ) → IsReady kept.intr c → IsReady intr c)
     → IsDevice (record kept { links = links; intr = intr }) config (map Linked adds ++ acts)
 device_linked kept links intr config acts adds is stands few spare told still = (
-  rw (link_acts-links adds acts) stands,
-  rw (instrument_acts-links adds acts) is.1,
+  rw (link_acts_links adds acts) stands,
+  rw (instrument_acts_links adds acts) is.1,
   is.2,
-  rw (ticks-links adds acts) is.3,
-  rw (wait_acts-links adds acts) is.4,
-  (rw (link_acts-links adds acts) few, spare),
+  rw (ticks_links adds acts) is.3,
+  rw (wait_acts_links adds acts) is.4,
+  (rw (link_acts_links adds acts) few, spare),
   told,
-  rw (wait_acts-links adds acts) (λ c dials. still c (is.7 c dials)),
+  rw (wait_acts_links adds acts) (λ c dials. still c (is.7 c dials)),
 )
 
 -- ---- the acts of a record that was taken

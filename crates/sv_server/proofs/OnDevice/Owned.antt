@@ -10,8 +10,8 @@ use Rattle.sv_links.specs.Links.{LinkAct, Made, Destroyed, live, owner, is_of, l
 use Rattle.sv_links.specs.Table.{IsRising}
 use Rattle.sv_links.specs.Channels.{ChannelAct, SrqDisabled}
 use Rattle.sv_links.specs.ChannelRepresentation.{IsSorted, without_links, of_others}
-use Rattle.sv_links.proofs.Asking.{below, above, sorted-filter}
-use Rattle.sv_links.proofs.Tables.{Below, above-filter, other_than}
+use Rattle.sv_links.proofs.Asking.{below, above, sorted_filter}
+use Rattle.sv_links.proofs.Tables.{Below, above_filter, other_than}
 use Rattle.sv_links.specs.Limits.{max_links}
 use Rattle.sv_history.specs.Act.{DeviceAct, Linked, link_acts}
 use Rattle.sv_server.specs.Device.Representation.{AreOwned}
@@ -111,7 +111,7 @@ named_owner c lid (x ∷ xs) last r = elim (cases_Bool (eqb x.lid lid)) [
   | inl e ↦ elim (cases_Bool (eqb x.conn c)) [
     | inl k ↦ rw (e, k, e) refl
     | inr k ↦ rw (e, k) (rw (← eqb-true x.lid lid e)
-        (none_named x (filter (λ link. eqb link.conn c) xs) (above-filter (λ link. eqb link.conn c) x xs r.1)))
+        (none_named x (filter (λ link. eqb link.conn c) xs) (above_filter (λ link. eqb link.conn c) x xs r.1)))
   ]
   | inr e ↦ elim (cases_Bool (eqb x.conn c)) [
     | inl k ↦ rw (e, k, e) (named_owner c lid xs last r.2)
@@ -235,5 +235,5 @@ pub room_for : (links : List Enabled) (acts : List LinkAct) (lid conn : ℕ) →
 room_for links acts lid conn sorted owned own within =
     let left : length (filter (λ (other : Enabled). not (eqb other.lid lid)) links) ≤ length (filter (other_than lid) (live acts))
     = no_more_than (filter (λ other. not (eqb other.lid lid)) links) (filter (other_than lid) (live acts))
-    (sorted-filter (λ other. not (eqb other.lid lid)) links sorted) (owned_destroyed links acts lid owned) in
+    (sorted_filter (λ other. not (eqb other.lid lid)) links sorted) (owned_destroyed links acts lid owned) in
     omega (arith, left, fewer lid conn (live acts) own, within)

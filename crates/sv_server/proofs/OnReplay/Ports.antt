@@ -29,17 +29,17 @@ line_is port (byte ∷ bytes) h = refl
 abbrev pub first_ports : ℕ → List Port
 first_ports n = map port_of (below n)
 
-lines-append : (channel_log : List ChannelAct) (a b : List Port) (log : List Act)
+lines_append : (channel_log : List ChannelAct) (a b : List Port) (log : List Act)
     → lines_of channel_log (a ++ b) log ≡ lines_of channel_log a log ++ lines_of channel_log b log
-lines-append channel_log [] b log = refl
-lines-append channel_log (port ∷ a) b log =
-    ap (λ (l : List ℕ). port_line port (waiting_on channel_log port log) ++ l) (lines-append channel_log a b log)
+lines_append channel_log [] b log = refl
+lines_append channel_log (port ∷ a) b log =
+    ap (λ (l : List ℕ). port_line port (waiting_on channel_log port log) ++ l) (lines_append channel_log a b log)
     ∙ sym (append_assoc (port_line port (waiting_on channel_log port log)) (lines_of channel_log a log) (lines_of channel_log b log))
 
-tooks-append : (channel_log : List ChannelAct) (a b : List Port) (log : List Act) (history : List PlainEvent)
+tooks_append : (channel_log : List ChannelAct) (a b : List Port) (log : List Act) (history : List PlainEvent)
     → with_tooks channel_log (a ++ b) log history ≡ with_tooks channel_log b log (with_tooks channel_log a log history)
-tooks-append channel_log [] b log history = refl
-tooks-append channel_log (port ∷ a) b log history = tooks-append channel_log a b log
+tooks_append channel_log [] b log history = refl
+tooks_append channel_log (port ∷ a) b log history = tooks_append channel_log a b log
     (with_took port (waiting_on channel_log port log) history)
 
 first_more : (n : ℕ) → first_ports (suc n) ≡ first_ports n ++ port_of n ∷ []
@@ -49,7 +49,7 @@ lines_more : (channel_log : List ChannelAct) (n : ℕ) (log : List Act)
     → lines_of channel_log (first_ports (suc n)) log ≡ lines_of channel_log (first_ports n) log
     ++ port_line (port_of n) (waiting_on channel_log (port_of n) log)
 lines_more channel_log n log =
-    ap (λ (ps : List Port). lines_of channel_log ps log) (first_more n) ∙ lines-append channel_log (first_ports n) (port_of n ∷ []) log
+    ap (λ (ps : List Port). lines_of channel_log ps log) (first_more n) ∙ lines_append channel_log (first_ports n) (port_of n ∷ []) log
     ∙ ap (λ (l : List ℕ). lines_of channel_log (first_ports n) log ++ l)
     (append-nil (port_line (port_of n) (waiting_on channel_log (port_of n) log)))
 
@@ -57,7 +57,7 @@ tooks_more : (channel_log : List ChannelAct) (n : ℕ) (log : List Act) (history
     → with_tooks channel_log (first_ports (suc n)) log history
     ≡ with_took (port_of n) (waiting_on channel_log (port_of n) log) (with_tooks channel_log (first_ports n) log history)
 tooks_more channel_log n log history = ap (λ (ps : List Port). with_tooks channel_log ps log history) (first_more n)
-    ∙ tooks-append channel_log (first_ports n) (port_of n ∷ []) log history
+    ∙ tooks_append channel_log (first_ports n) (port_of n ∷ []) log history
 
 -- the numbers up to another, around one of them
 below_split : (k n : ℕ) → n < k → (others : List ℕ) × (below k ≡ below n ++ n ∷ others)

@@ -1,28 +1,28 @@
 use Rattle.std.proofs.Common.{sym, ◌∙◌}
 use Rattle.sv_header.specs.Plain.{left_of}
-use Rattle.sv_header.proofs.Walking.{found-there, found-absent, found-behind, found-below}
+use Rattle.sv_header.proofs.Walking.{found_there, found_absent, found_behind, found_below}
 use Rattle.sv_header.proofs.walk.+walk.Goals as goal
 
 pub below-returns-in-None : goal.below-returns-in-None
 below-returns-in-None t c =
-    found-below c.args.query c.args.branch.now c.args.children.now c.args.left c.in_ok-left.left c.walk.result c.in_ok-left.was
+    found_below c.args.query c.args.branch.now c.args.children.now c.args.left c.in_ok-left.left c.walk.result c.in_ok-left.was
     c.in-None.ensures c.walk.ensures
 
 pub walk-returns-then-is_some : goal.walk-returns-then-is_some
 walk-returns-then-is_some t c =
-    found-there c.args.query c.args.branches.now c.in-Some.branch.now c.in-Some.children.now c.in-Some.siblings.now
+    found_there c.args.query c.args.branches.now c.in-Some.branch.now c.in-Some.children.now c.in-Some.siblings.now
     (left_of c.args.left.now) c.behind.result c.below-there.result c.in-Some.ensures c.behind.ensures c.below-there.ensures
     (sym c.is_some.ensures ∙ c.if-is_some.true)
 
 pub walk-returns-then-is_some-2 : goal.walk-returns-then-is_some-2
 walk-returns-then-is_some-2 t c =
-    found-absent c.args.query c.args.branches.now c.in-Some.branch.now c.in-Some.children.now c.in-Some.siblings.now
+    found_absent c.args.query c.args.branches.now c.in-Some.branch.now c.in-Some.children.now c.in-Some.siblings.now
     (left_of c.args.left.now) c.absent.result c.below-absent.result c.in-Some.ensures c.absent.ensures c.below-absent.ensures
     (sym c.is_some-2.ensures ∙ c.if-is_some-2.true)
 
 pub walk-returns : goal.walk-returns
 walk-returns t c =
-    found-behind c.args.query c.args.branches.now c.in-Some.branch.now c.in-Some.children.now c.in-Some.siblings.now
+    found_behind c.args.query c.args.branches.now c.in-Some.branch.now c.in-Some.children.now c.in-Some.siblings.now
     (left_of c.args.left.now) c.behind.result c.absent.result c.below-there.result c.below-absent.result c.walk.result
     c.in-Some.ensures c.behind.ensures c.absent.ensures c.below-there.ensures (sym c.is_some.ensures ∙ c.if-is_some.false)
     c.below-absent.ensures (sym c.is_some-2.ensures ∙ c.if-is_some-2.false) c.walk.ensures

@@ -1,7 +1,7 @@
 use Rattle.std.proofs.Common.{rules, ℕ, map, take, drop, suc, arith, ap, length}
 use Rattle.sv_xdr.specs.Spelling.{spelling, Unsigned}
 use Rattle.std.proofs.lemmas.Result.{err_from_is_err_and}
-use Rattle.sv_rpc.proofs.Written.{one_more, cut_at, Appends-stays}
+use Rattle.sv_rpc.proofs.Written.{one_more, cut_at, appends_stays}
 use Rattle.sv_rpc.proofs.reply.words.Goals as goal
 
 pub returns-in_err-u32-clause-writes : goal.returns-in_err-u32-clause-writes
@@ -11,7 +11,7 @@ returns-in_err-u32-clause-writes c =
     let i = c.loop-word.word-index in
     let words = c.args.words.now in
     let e = c.in_err-u32.ensures.exact in
-    let written = Appends-stays _ c.args.writer.now c.loop-word.writer c.u32.new.self c.loop-word.invariant.written e.2 in
+    let written = appends_stays _ c.args.writer.now c.loop-word.writer c.u32.new.self c.loop-word.invariant.written e.2 in
     rw (p.1, p.2) (
       e.0,
       map f (take i words),

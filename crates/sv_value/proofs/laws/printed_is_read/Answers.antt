@@ -1,5 +1,5 @@
-use Rattle.sv_value.proofs.ReadAgain.{read-again}
+use Rattle.sv_value.proofs.ReadAgain.{read_again}
 use Rattle.sv_value.proofs.laws.printed_is_read.Goals as goal
 
 pub returns : goal.returns
-returns c = read-again
+returns c = read_again

@@ -1,5 +1,5 @@
-use Rattle.sv_value.proofs.Listed.{read-channels}
+use Rattle.sv_value.proofs.Listed.{read_channels}
 use Rattle.sv_value.proofs.laws.read_is_channel_list.Goals as goal
 
 pub returns : goal.returns
-returns c = read-channels
+returns c = read_channels

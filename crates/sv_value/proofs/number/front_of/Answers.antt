@@ -1,6 +1,6 @@
 use Rattle.std.proofs.Common.{◌∙◌, ◌-◌, ap, sym, min, take, length}
 use Rattle.std.specs.Str.Parse.{digits_value, digits_value_after}
-use Rattle.sv_value.proofs.Capped.{cap_join, take-join}
+use Rattle.sv_value.proofs.Capped.{cap_join, take_join}
 use Rattle.sv_value.proofs.number.front_of.Goals as goal
 
 pub returns-else-kept-whole-clause-front : goal.returns-else-kept-whole-clause-front
@@ -10,4 +10,4 @@ returns-else-kept-whole-clause-front c =
     c.value_after-else-kept-whole.ensures.value
     ∙ cap_join 1000000000000000000 c.args.whole.now (take (c.args.kept - length c.args.whole.now) c.args.fraction.now)
     ∙ ap (λ ds. min (digits_value 10 ds) 1000000000000000000)
-    (sym (take-join c.args.kept c.args.whole.now c.args.fraction.now c.if-kept-whole.false))
+    (sym (take_join c.args.kept c.args.whole.now c.args.fraction.now c.if-kept-whole.false))

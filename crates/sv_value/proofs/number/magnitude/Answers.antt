@@ -2,8 +2,8 @@ use Rattle.std.proofs.Common.{◌≡◌, ◌∙◌, ℕ, List, ◌+◌, ◌-◌,
 use Rattle.std.specs.Str.Parse.{digits_value, digits_value_after}
 use Rattle.sv_value.specs.Number.{right, left}
 use Rattle.sv_value.specs.Plain.{plain}
-use Rattle.sv_value.proofs.Rounding.{nearest-right, nearest-left, ten-some}
-use Rattle.sv_value.proofs.Capped.{cap_join, cap_up, same-powers}
+use Rattle.sv_value.proofs.Rounding.{nearest_right, nearest_left, ten_some}
+use Rattle.sv_value.proofs.Capped.{cap_join, cap_up, same_powers}
 use Rattle.sv_value.proofs.number.magnitude.Goals as goal
 
 pub returns-then-up-down : goal.returns-then-up-down
@@ -16,9 +16,9 @@ returns-then-up-down c =
     c.value_after.ensures.value ∙ cap_join 1000000000000000000 c.args.number.now.whole.now c.args.number.now.fraction.now in
     c.shifted.ensures
     ∙ ap (λ n. min (n * 10 ^ (up - down)) 1000000000000000000) value
-    ∙ cap_up 1000000000000000000 (digits_value 10 digits) (10 ^ (up - down)) (ten-some (up - down))
-    ∙ ap (λ n. min n 1000000000000000000) (sym (nearest-right (digits_value 10 digits) up down c.if-up-down.true))
-    ∙ same-powers 1000000000000000000 (digits_value 10 digits) up (c.args.power + right (plain c.args.number.now)) down
+    ∙ cap_up 1000000000000000000 (digits_value 10 digits) (10 ^ (up - down)) (ten_some (up - down))
+    ∙ ap (λ n. min n 1000000000000000000) (sym (nearest_right (digits_value 10 digits) up down c.if-up-down.true))
+    ∙ same_powers 1000000000000000000 (digits_value 10 digits) up (c.args.power + right (plain c.args.number.now)) down
     (length c.args.number.now.fraction.now + left (plain c.args.number.now))
     (ap (λ n. c.args.power + n) c.moved-right.ensures.right)
     (ap (λ n. length c.args.number.now.fraction.now + n) c.moved-right.ensures.left)
@@ -30,8 +30,8 @@ returns-else-up-down c =
     let digits : List ℕ = c.args.number.now.whole.now ++ c.args.number.now.fraction.now in
     let le : up ≤ down = omega (arith, c.if-up-down.false) in
     c.rounded.ensures
-    ∙ ap (λ n. min n 1000000000000000000) (sym (nearest-left (digits_value 10 digits) up down le))
-    ∙ same-powers 1000000000000000000 (digits_value 10 digits) up (c.args.power + right (plain c.args.number.now)) down
+    ∙ ap (λ n. min n 1000000000000000000) (sym (nearest_left (digits_value 10 digits) up down le))
+    ∙ same_powers 1000000000000000000 (digits_value 10 digits) up (c.args.power + right (plain c.args.number.now)) down
     (length c.args.number.now.fraction.now + left (plain c.args.number.now))
     (ap (λ n. c.args.power + n) c.moved-right.ensures.right)
     (ap (λ n. length c.args.number.now.fraction.now + n) c.moved-right.ensures.left)

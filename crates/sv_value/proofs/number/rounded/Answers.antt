@@ -4,7 +4,7 @@ use Rattle.std.specs.List.{list_all}
 use Rattle.std.specs.Prelude.{nat_le, if◌then◌else◌}
 use Rattle.std.proofs.lemmas.List.{length-append}
 use Rattle.std.proofs.lemmas.List.Folds.{list_all-append}
-use Rattle.sv_value.proofs.Rounding.{nearest-none, nearest-digits}
+use Rattle.sv_value.proofs.Rounding.{nearest_none, nearest_digits}
 use Rattle.sv_value.proofs.Capped.{cap_round}
 use Rattle.sv_value.proofs.number.rounded.Goals as goal
 
@@ -16,13 +16,13 @@ pub returns-then-left_out-count : goal.returns-then-left_out-count
 returns-then-left_out-count c =
     let all = digits c.args.whole.now c.args.fraction.now c.requires.whole c.requires.fraction in
     let size = length-append c.args.whole.now c.args.fraction.now in
-    rw (nearest-none (c.args.whole.now ++ c.args.fraction.now) c.args.left_out all (omega (arith, size, c.if-left_out-count.true))) refl
+    rw (nearest_none (c.args.whole.now ++ c.args.fraction.now) c.args.left_out all (omega (arith, size, c.if-left_out-count.true))) refl
 
 pub returns : goal.returns
 returns c =
     let all = digits c.args.whole.now c.args.fraction.now c.requires.whole c.requires.fraction in
     let size = length-append c.args.whole.now c.args.fraction.now in
-    let round = nearest-digits (c.args.whole.now ++ c.args.fraction.now) c.args.left_out
+    let round = nearest_digits (c.args.whole.now ++ c.args.fraction.now) c.args.left_out
     (length c.args.whole.now + length c.args.fraction.now - c.args.left_out) all c.requires.some
     (omega (arith, size, c.if-left_out-count.false)) in
     let up = c.carry.ensures ∙ ap (λ (d : ℕ). if nat_le 5 d then 1 else 0) c.front_of-front.ensures.next in

@@ -9,7 +9,7 @@ use Rattle.sv_errors.specs.declared.code.Code.TheVariants.{QueueOverflow}
 use Rattle.sv_errors.specs.declared.error_queue.QueueAct.{QueueAct}
 use Rattle.sv_errors.specs.declared.error_queue.QueueAct.TheVariants.{Report}
 use Rattle.sv_errors.specs.ErrorQueue.{Queue, StandsFor, entries, entry_code, most, most_lost}
-use Rattle.sv_errors.proofs.Queue.{StandsFor-reported, StandsFor-overflowed}
+use Rattle.sv_errors.proofs.Queue.{stands_for_reported, stands_for_overflowed}
 use Rattle.sv_errors.proofs.error_queue.ErrorQueue.report.Goals as goal
 
 -- few enough codes are kept
@@ -21,7 +21,7 @@ reported : (capacity : ℕ) (queue : Queue) (code : Code) (acts : List QueueAct)
     → StandsFor queue acts → StandsFor (record queue { codes = keep_last capacity (queue.codes ++ code ∷ []) }) (Report code ∷ acts)
 reported capacity queue code acts size room stands =
     rw (keep_all capacity (queue.codes ++ code ∷ []) (omega (arith, length-append queue.codes (code ∷ []))))
-    (StandsFor-reported queue code acts room stands)
+    (stands_for_reported queue code acts room stands)
 
 -- where there is none
 overflowed : (capacity : ℕ) (queue : Queue) (code : Code) (acts : List QueueAct) (count : ℕ) → capacity ≡ most
@@ -41,7 +41,7 @@ overflowed capacity queue code acts count size full counted stands =
       length-append (take (most - 1) queue.codes) (QueueOverflow ∷ []),
       length-take-le (most - 1) queue.codes (omega arith),
     )) in
-    rw (kept, counted) (StandsFor-overflowed queue code acts full stands)
+    rw (kept, counted) (stands_for_overflowed queue code acts full stands)
 
 pub returns-then-full-clause-stands : goal.returns-then-full-clause-stands
 returns-then-full-clause-stands g c =

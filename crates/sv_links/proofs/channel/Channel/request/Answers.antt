@@ -3,9 +3,9 @@ use Rattle.std.proofs.lemmas.List.{length-append}
 use Rattle.sv_links.specs.Limits.{longest_call}
 use Rattle.sv_links.specs.Request.{request}
 use Rattle.sv_links.specs.ChannelRepresentation.{Channel}
-use Rattle.sv_links.proofs.Left.{sum-bounded, sum-push, all-push}
+use Rattle.sv_links.proofs.Left.{sum_bounded, sum_push, all_push}
 use Rattle.sv_links.proofs.Requests.{request_is_short}
-use Rattle.sv_links.proofs.Sent.{IsQueued-sent, open≢closed}
+use Rattle.sv_links.proofs.Sent.{is_queued_sent, open≢closed}
 use Rattle.sv_links.proofs.channel.Channel.request.Goals as goal
 
 pub put_request-requires-clause-room : goal.put_request-requires-clause-room
@@ -15,7 +15,7 @@ put_request-requires-clause-room g c =
     omega (
       arith,
       c.self.invariant.0,
-      sum-bounded inside.sizes.items c.self.invariant.1,
+      sum_bounded inside.sizes.items c.self.invariant.1,
       c.self.invariant.3 (open≢closed inside.stage c.args.peer is_open),
       c.if-len-ge-MAX_CALLS.false,
       c.len.ensures.value,
@@ -42,11 +42,11 @@ invariant_of-self g c =
         arith,
         ap length c.put_request.ensures.sent,
         length-append inside.bytes.items call,
-        sum-push sizes size,
+        sum_push sizes size,
         size_is,
         c.self.invariant.0,
       )),
-      rw c.push.ensures.items (all-push longest_call sizes size c.self.invariant.1 (omega (arith, size_is, short))),
+      rw c.push.ensures.items (all_push longest_call sizes size c.self.invariant.1 (omega (arith, size_is, short))),
       rw c.push.ensures.items (omega (arith, length-append sizes (size ∷ []), c.if-len-ge-MAX_CALLS.false, c.len.ensures.value)),
       λ there. omega (arith, c.put_request.ensures.capacity, c.self.invariant.3 there),
     )
@@ -61,7 +61,7 @@ returns-clause-queued g c count calls is =
       sizes = c.push.new.self.items;
       bytes = c.put_request.new.out.items;
     } in
-    IsQueued-sent old new c.args.peer c.args.handle.now count calls (c.len-2.result - c.len-before.result) refl c.push.ensures.items
+    is_queued_sent old new c.args.peer c.args.handle.now count calls (c.len-2.result - c.len-before.result) refl c.push.ensures.items
     c.put_request.ensures.sent
     (omega (
       arith,

@@ -2,8 +2,8 @@ use Rattle.std.proofs.Common.{length, refl, ap, arith}
 use Rattle.std.proofs.lemmas.List.{length-drop}
 use Rattle.sv_links.specs.Limits.{longest_call}
 use Rattle.sv_links.specs.ChannelRepresentation.{Channel}
-use Rattle.sv_links.proofs.Left.{sum-left, all-left, length-left}
-use Rattle.sv_links.proofs.Sent.{IsQueued-taken}
+use Rattle.sv_links.proofs.Left.{sum_left, all_left, length_left}
+use Rattle.sv_links.proofs.Sent.{is_queued_taken}
 use Rattle.sv_links.proofs.channel.Channel.take.Goals as goal
 
 pub invariant_of-self : goal.invariant_of-self
@@ -12,10 +12,10 @@ invariant_of-self g c =
     let bytes = c.self.inside.bytes.items in
     let items = c.drop_front.ensures.items in
     let within = rw (← c.self.view_is) at c.requires in
-    let rest = sum-left c.args.count sizes (omega (arith, within, c.self.invariant.0)) in (
+    let rest = sum_left c.args.count sizes (omega (arith, within, c.self.invariant.0)) in (
       rw c.let_go.ensures (omega (arith, ap length items, length-drop c.args.count bytes, within, rest, c.self.invariant.0)),
-      rw c.let_go.ensures (all-left longest_call c.args.count sizes c.self.invariant.1),
-      rw c.let_go.ensures (omega (arith, length-left c.args.count sizes, c.self.invariant.2)),
+      rw c.let_go.ensures (all_left longest_call c.args.count sizes c.self.invariant.1),
+      rw c.let_go.ensures (omega (arith, length_left c.args.count sizes, c.self.invariant.2)),
       λ there. rw (c.drop_front.ensures.capacity) (c.self.invariant.3 there),
     )
 
@@ -29,5 +29,5 @@ returns-clause-queued g c before calls is =
       sizes = c.let_go.new.sizes.items;
       bytes = c.drop_front.new.bytes.items;
     } in
-    IsQueued-taken old new before c.args.count calls refl c.let_go.ensures (c.drop_front.ensures.items)
+    is_queued_taken old new before c.args.count calls refl c.let_go.ensures (c.drop_front.ensures.items)
     (rw (← c.self.view_is) at c.requires) (rw (← c.self.view_is) at is)

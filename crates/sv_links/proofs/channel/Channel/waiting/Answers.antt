@@ -1,5 +1,5 @@
 use Rattle.std.proofs.Common.{length, ap, arith}
-use Rattle.sv_links.proofs.Left.{sum-bounded}
+use Rattle.sv_links.proofs.Left.{sum_bounded}
 use Rattle.sv_links.proofs.channel.Channel.waiting.Goals as goal
 
 pub returns-clause-bounded : goal.returns-clause-bounded
@@ -8,6 +8,6 @@ returns-clause-bounded g c =
       arith,
       ap length c.as_slice.ensures.value,
       c.self.invariant.0,
-      sum-bounded c.self.inside.sizes.items c.self.invariant.1,
+      sum_bounded c.self.inside.sizes.items c.self.invariant.1,
       c.self.invariant.2,
     )

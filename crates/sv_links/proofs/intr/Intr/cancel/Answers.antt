@@ -3,7 +3,7 @@ use Rattle.std.specs.Prelude.{slice_index_or, slice_set}
 use Rattle.std.proofs.lemmas.Bool.{false≢true}
 use Rattle.std.proofs.lemmas.List.{get_or-set_same}
 use Rattle.sv_links.specs.ChannelRepresentation.{Channel, Channels, is_prepared}
-use Rattle.sv_links.proofs.Acts.{AreChannels-kept}
+use Rattle.sv_links.proofs.Acts.{are_channels_kept}
 use Rattle.sv_links.proofs.intr.Intr.cancel.Goals as goal
 
 pub returns-clause-unready : goal.returns-clause-unready
@@ -22,7 +22,7 @@ returns-clause-others g c = search rules
 pub returns-clause-stands : goal.returns-clause-stands
 returns-clause-stands g c acts is =
     let kept : Channels = record { enabled = c.self.inside.enabled.items; channels = c.self.inside.channels.items } in
-    AreChannels-kept kept c.from.result c.index_mut.result.now c.cancel.new.self acts (omega (arith, c.requires, c.from.ensures))
+    are_channels_kept kept c.from.result c.index_mut.result.now c.cancel.new.self acts (omega (arith, c.requires, c.from.ensures))
     (omega (arith, c.requires, c.from.ensures, c.self.invariant.0)) c.index_mut.ensures.value c.cancel.ensures.open
     c.cancel.ensures.queued (rw (← c.self.view_is) at is)
 

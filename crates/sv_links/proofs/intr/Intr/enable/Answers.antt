@@ -10,8 +10,8 @@ use Rattle.std.proofs.lemmas.List.Filters.{length-filter_both}
 use Rattle.sv_links.specs.declared.enabled.Enabled.{Enabled}
 use Rattle.sv_links.specs.Limits.{max_enabled}
 use Rattle.sv_links.specs.ChannelRepresentation.{Channel, Channels, AreChannels, IsSorted}
-use Rattle.sv_links.proofs.Asking.{below, above, other_links, sorted-inserted, inserted}
-use Rattle.sv_links.proofs.Acts.{AreChannels-enabled}
+use Rattle.sv_links.proofs.Asking.{below, above, other_links, sorted_inserted, inserted}
+use Rattle.sv_links.proofs.Acts.{are_channels_enabled}
 use Rattle.sv_links.proofs.intr.Intr.enable.Goals as goal
 use Rattle.sv_links.proofs.intr.Intr.enable.Given as given
 
@@ -50,7 +50,7 @@ invariant_of-self g c =
       c.self.invariant.0,
       omega (arith, few, ap length (items_are g c), length-insert others (length (below lid others)) c.new.result within),
       omega (arith, c.insert.ensures.capacity, c.self.invariant.2),
-      rw (items_are g c) (sorted-inserted lid c.args.self.now.enabled c.new.result c.new.ensures.link.0
+      rw (items_are g c) (sorted_inserted lid c.args.self.now.enabled c.new.result c.new.ensures.link.0
           (subst IsSorted (others_are g c) c.self.invariant.3)),
     )
 
@@ -64,5 +64,5 @@ returns-clause-stands g c short room acts is =
     let sorted = subst IsSorted (others_are g c) c.self.invariant.3 in
     let place = items_are g c ∙ inserted lid old.enabled link sorted
     ∙ ap (λ (lid : ℕ). below lid old.enabled ++ link ∷ above lid old.enabled) (sym c.new.ensures.link.0) in
-    let now = AreChannels-enabled (record old { channels = c.self.inside.channels.items }) c.insert.new.self.items link acts place before in
+    let now = are_channels_enabled (record old { channels = c.self.inside.channels.items }) c.insert.new.self.items link acts place before in
     rw (← c.new.ensures.link.0, ← c.new.ensures.link.1, ← c.new.ensures.handle short) now

@@ -2,7 +2,7 @@ use Rattle.std.proofs.Common.{◌≡◌, Result, Ok, Err, true, arith, ap, subst
 use Rattle.std.specs.Prelude.{slice_index_or, OnOk, OnErr}
 use Rattle.std.proofs.lemmas.Result.{on_ok_weaker}
 use Rattle.sv_links.specs.ChannelRepresentation.{Channel, Channels, opened_for, is_prepared}
-use Rattle.sv_links.proofs.Acts.{AreChannels-kept, at_set}
+use Rattle.sv_links.proofs.Acts.{are_channels_kept, at_set}
 use Rattle.std.proofs.lemmas.Grind.{common_steps}
 use Rattle.sv_links.proofs.intr.Intr.prepare.Goals as goal
 
@@ -32,7 +32,7 @@ returns-clause-ready g c = search rules
 pub returns-clause-stands : goal.returns-clause-stands
 returns-clause-stands g c acts is =
     let kept : Channels = record { enabled = c.self.inside.enabled.items; channels = c.self.inside.channels.items } in
-    AreChannels-kept kept c.from.result c.index_mut.result.now c.prepare.new.self acts (omega (arith, c.requires, c.from.ensures))
+    are_channels_kept kept c.from.result c.index_mut.result.now c.prepare.new.self acts (omega (arith, c.requires, c.from.ensures))
     (omega (arith, c.requires, c.from.ensures, c.self.invariant.0)) c.index_mut.ensures.value
     (still_open c.prepare.result c.index_mut.result.now c.prepare.new.self c.prepare.ensures.open c.prepare.ensures.err)
     c.prepare.ensures.queued (rw (← c.self.view_is) at is)

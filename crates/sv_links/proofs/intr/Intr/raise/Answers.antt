@@ -4,7 +4,7 @@ use Rattle.std.proofs.lemmas.List.{length-set}
 use Rattle.sv_links.specs.declared.enabled.Enabled.{Enabled}
 use Rattle.sv_links.specs.Channels.{Requested}
 use Rattle.sv_links.specs.ChannelRepresentation.{Channel, Channels, IsChannel, IsReady, is_prepared}
-use Rattle.sv_links.proofs.Acts.{IsChannel-requested, at_set}
+use Rattle.sv_links.proofs.Acts.{is_channel_requested, at_set}
 use Rattle.sv_links.proofs.intr.Intr.raise.Goals as goal
 
 pub loop-conn-preserved : goal.loop-conn-preserved
@@ -22,7 +22,7 @@ loop-conn-preserved g c =
       sent = λ k other acts lt is.
           at_set (λ kept. IsChannel kept k (Requested ∷ acts)) items i k new other within
           (λ same. subst (λ k. IsChannel new k (Requested ∷ acts)) (sym same)
-          (IsChannel-requested i old new c.as_slice.result.now acts (links ∙ is.enabled) c.request_each.ensures.stage
+          (is_channel_requested i old new c.as_slice.result.now acts (links ∙ is.enabled) c.request_each.ensures.stage
           c.request_each.ensures.queued
           (subst (λ kept. IsChannel kept i acts) (sym (c.index_mut.ensures.value ∙ c.loop-conn.invariant.rest i old (omega arith)))
           (is.each i old c.loop-conn-test.true))))

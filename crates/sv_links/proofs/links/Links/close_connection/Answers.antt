@@ -2,7 +2,7 @@ use Rattle.std.proofs.Common.{rules, tests, arith, eqb, None}
 use Rattle.std.specs.Prelude.{not}
 use Rattle.sv_links.specs.declared.links.Link.{Link}
 use Rattle.sv_links.proofs.Slots.{retained, no_more}
-use Rattle.sv_links.proofs.Closing.{IsTable-closed, left_then, left_else, left_none}
+use Rattle.sv_links.proofs.Closing.{is_table_closed, left_then, left_else, left_none}
 use Rattle.sv_links.proofs.links.Links.close_connection.Goals as goal
 use Rattle.sv_links.proofs.links.Links.close_connection.Goals.{in-Some+then-eq, in-Some+else-eq, in_default}
 
@@ -42,16 +42,16 @@ returns-clause-stands g c acts is =
     elim c.match-self.branch [
       | in-Some+then-eq w ↦
           let slots = rw w.self-inside-is at slots in
-          rw w.self-inside-is (IsTable-closed _ c.args.conn acts c.retain.new.self.slots None slots
+          rw w.self-inside-is (is_table_closed _ c.args.conn acts c.retain.new.self.slots None slots
           (left_then c.args.conn w.in-Some.lid acts c.self.inside.holder w.owner.result w.eq.result w.in-Some.is
           (w.owner.ensures acts is) w.eq.ensures w.if-eq.true) old)
       | in-Some+else-eq w ↦
           let slots = rw w.self-inside-is at slots in
-          rw w.self-inside-is (IsTable-closed _ c.args.conn acts c.retain.new.self.slots c.self.inside.holder slots
+          rw w.self-inside-is (is_table_closed _ c.args.conn acts c.retain.new.self.slots c.self.inside.holder slots
           (left_else c.args.conn w.in-Some.lid acts c.self.inside.holder w.owner.result w.eq.result w.in-Some.is
           (w.owner.ensures acts is) w.eq.ensures w.if-eq.false) old)
       | in_default w ↦
           let slots = rw w.self-inside-is at slots in
-          rw w.self-inside-is (IsTable-closed _ c.args.conn acts c.retain.new.self.slots c.self.inside.holder slots
+          rw w.self-inside-is (is_table_closed _ c.args.conn acts c.retain.new.self.slots c.self.inside.holder slots
           (left_none c.args.conn acts c.self.inside.holder w.in_default.is) old)
     ]

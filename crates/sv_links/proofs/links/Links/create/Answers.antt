@@ -3,7 +3,7 @@ use Rattle.std.specs.Prelude.{slice_index_or}
 use Rattle.slab.specs.Slab.{Slab}
 use Rattle.sv_links.specs.declared.links.Link.{Link}
 use Rattle.std.proofs.lemmas.Bool.{false≢true}
-use Rattle.sv_links.proofs.Tables.{IsTable-made, is_full, is_used, has_place, memory≢resources, made≢resources}
+use Rattle.sv_links.proofs.Tables.{is_table_made, is_full, is_used, has_place, memory≢resources, made≢resources}
 use Rattle.sv_links.proofs.links.Links.create.Goals as goal
 use Rattle.sv_links.proofs.links.Links.create.Goals.{then-len-ge-MAX_LINKS-via-then-len-ge-MAX_LINKS, then-len-ge-MAX_LINKS-via-else-len-ge-MAX_LINKS+then-self-ge-LAST}
 
@@ -31,7 +31,7 @@ returns-clause-ok g c acts is =
     let free = sym (ap (λ (slots : List (Option Link)). slice_index_or slots c.insert_reserved.result None) same)
     ∙ c.insert_reserved.ensures.was_vacant in (
       ap (λ (n : ℕ). n + 1) old.made,
-      IsTable-made _ c.args.conn acts c.insert_reserved.new.self.slots c.insert_reserved.result
+      is_table_made _ c.args.conn acts c.insert_reserved.new.self.slots c.insert_reserved.result
           c.saturating_sub-self-inside.result free put.changed
           (λ other apart. put.others other apart ∙ ap (λ (slots : List (Option Link)). slice_index_or slots other None) same) old,
     )

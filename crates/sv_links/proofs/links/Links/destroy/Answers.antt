@@ -1,6 +1,6 @@
 use Rattle.std.proofs.Common.{rules, tests, arith}
 use Rattle.sv_links.proofs.Slots.{retained, no_more}
-use Rattle.sv_links.proofs.Tables.{other_than, IsTable-destroyed, freed-held, freed-other}
+use Rattle.sv_links.proofs.Tables.{other_than, is_table_destroyed, freed_held, freed_other}
 use Rattle.sv_links.proofs.links.Links.destroy.Goals as goal
 
 pub invariant_of-self : goal.invariant_of-self
@@ -27,12 +27,12 @@ pub returns-then-eq-clause-stands : goal.returns-then-eq-clause-stands
 returns-then-eq-clause-stands g c acts is =
     let slots = retained _ _ (other_than c.args.lid) (λ key shown b left next k. search (rules, tests)) 0
     c.self.inside.links.slots c.retain.new.self.slots c.retain.ensures.retained in
-    IsTable-destroyed _ c.args.lid acts _ _ slots (freed-held c.args.lid c.self.inside.holder c.eq.result c.eq.ensures c.if-eq.true)
+    is_table_destroyed _ c.args.lid acts _ _ slots (freed_held c.args.lid c.self.inside.holder c.eq.result c.eq.ensures c.if-eq.true)
     (rw c.self.view_is is)
 
 pub returns-else-eq-clause-stands : goal.returns-else-eq-clause-stands
 returns-else-eq-clause-stands g c acts is =
     let slots = retained _ _ (other_than c.args.lid) (λ key shown b left next k. search (rules, tests)) 0
     c.self.inside.links.slots c.retain.new.self.slots c.retain.ensures.retained in
-    IsTable-destroyed _ c.args.lid acts _ _ slots (freed-other c.args.lid c.self.inside.holder c.eq.result c.eq.ensures c.if-eq.false)
+    is_table_destroyed _ c.args.lid acts _ _ slots (freed_other c.args.lid c.self.inside.holder c.eq.result c.eq.ensures c.if-eq.false)
     (rw c.self.view_is is)

@@ -1,7 +1,7 @@
 use Rattle.std.proofs.Common.{◌∙◌, sym, ap}
 use Rattle.sv_links.specs.Links.{is_this}
 use Rattle.sv_links.specs.Table.{Table}
-use Rattle.sv_links.proofs.Locks.{holder_is, other_holds, this_holds, IsTable-unlocked}
+use Rattle.sv_links.proofs.Locks.{holder_is, other_holds, this_holds, is_table_unlocked}
 use Rattle.sv_links.proofs.links.Links.unlock.Goals as goal
 
 pub returns-then-ne-clause-answer : goal.returns-then-ne-clause-answer
@@ -16,5 +16,5 @@ returns-clause-answer g c acts is =
 
 pub returns-clause-stands : goal.returns-clause-stands
 returns-clause-stands g c e acts is =
-    IsTable-unlocked _ c.args.lid acts (this_holds c.args.lid c.self.inside.holder c.ne.result c.ne.ensures c.if-ne.false)
+    is_table_unlocked _ c.args.lid acts (this_holds c.args.lid c.self.inside.holder c.ne.result c.ne.ensures c.if-ne.false)
     (rw c.self.view_is is)

@@ -2,8 +2,8 @@ use Rattle.std.proofs.Common.{rules, arith}
 use Rattle.std.proofs.lemmas.List.Edits.{map_over_more}
 use Rattle.sv_links.specs.Limits.{max_connections}
 use Rattle.sv_links.specs.Queue.{anew}
-use Rattle.sv_links.proofs.Queues.{IsQueue-anew, once-anew, below-anew, written}
-use Rattle.sv_links.proofs.Anew.{rank-anew, creations-anew}
+use Rattle.sv_links.proofs.Queues.{is_queue_anew, once_anew, below_anew, written}
+use Rattle.sv_links.proofs.Anew.{rank_anew, creations_anew}
 use Rattle.sv_links.proofs.waiting.Waiting.again.Goals as goal
 
 pub loop-entry-preserved : goal.loop-entry-preserved
@@ -18,8 +18,8 @@ invariant_of-self g c =
     let f = anew c.args.conn c.args.wait c.args.deadline in
     let items = written f vec.len c.loop-entry.entry-index vec.items c.deref_mut-entry-items.result.now c.loop-entry.entry-items
     lent.value lent.len c.loop-entry.auto.entry-items c.loop-entry-test.false c.loop-entry.invariant in (
-      rw items (once-anew c.args.conn c.args.wait c.args.deadline vec.items c.self.invariant.0),
-      rw items (below-anew c.args.conn c.args.wait c.args.deadline max_connections vec.items c.self.invariant.1),
+      rw items (once_anew c.args.conn c.args.wait c.args.deadline vec.items c.self.invariant.0),
+      rw items (below_anew c.args.conn c.args.wait c.args.deadline max_connections vec.items c.self.invariant.1),
       c.self.invariant.2,
     )
 
@@ -38,7 +38,7 @@ returns-clause-stands g c acts is =
     let f = anew c.args.conn c.args.wait c.args.deadline in
     let items = written f vec.len c.loop-entry.entry-index vec.items c.deref_mut-entry-items.result.now c.loop-entry.entry-items
     lent.value lent.len c.loop-entry.auto.entry-items c.loop-entry-test.false c.loop-entry.invariant in
-    rw items (IsQueue-anew c.args.conn c.args.wait c.args.deadline acts vec.items (rw (← c.self.view_is) at is))
+    rw items (is_queue_anew c.args.conn c.args.wait c.args.deadline acts vec.items (rw (← c.self.view_is) at is))
 
 pub returns-clause-measure : goal.returns-clause-measure
 returns-clause-measure g c =
@@ -47,7 +47,7 @@ returns-clause-measure g c =
     let f = anew c.args.conn c.args.wait c.args.deadline in
     let items = written f vec.len c.loop-entry.entry-index vec.items c.deref_mut-entry-items.result.now c.loop-entry.entry-items
     lent.value lent.len c.loop-entry.auto.entry-items c.loop-entry-test.false c.loop-entry.invariant in
-    rw (items, ← c.self.view_is) (rank-anew c.args.conn c.args.wait c.args.deadline vec.items c.self.invariant.0)
+    rw (items, ← c.self.view_is) (rank_anew c.args.conn c.args.wait c.args.deadline vec.items c.self.invariant.0)
 
 pub returns-clause-fewer : goal.returns-clause-fewer
 returns-clause-fewer g c other =
@@ -56,4 +56,4 @@ returns-clause-fewer g c other =
     let f = anew c.args.conn c.args.wait c.args.deadline in
     let items = written f vec.len c.loop-entry.entry-index vec.items c.deref_mut-entry-items.result.now c.loop-entry.entry-items
     lent.value lent.len c.loop-entry.auto.entry-items c.loop-entry-test.false c.loop-entry.invariant in
-    rw (items, ← c.self.view_is) (creations-anew c.args.conn c.args.wait c.args.deadline vec.items other)
+    rw (items, ← c.self.view_is) (creations_anew c.args.conn c.args.wait c.args.deadline vec.items other)

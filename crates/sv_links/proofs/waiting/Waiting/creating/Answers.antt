@@ -3,9 +3,9 @@ use Rattle.std.proofs.lemmas.Iterator.{YieldsList-from_slice}
 use Rattle.std.proofs.lemmas.Iterator.Consumers.{count_from_yields_List, YieldsList-from_filter, YieldsList-at}
 use Rattle.sv_links.specs.Limits.{max_connections, max_waiting}
 use Rattle.sv_links.specs.Queue.{creates, creations}
-use Rattle.sv_links.proofs.Counted.{length-filter_le}
+use Rattle.sv_links.proofs.Counted.{length_filter_le}
 use Rattle.sv_links.proofs.Queues.{at_most}
-use Rattle.sv_links.proofs.Creating.{creations-all}
+use Rattle.sv_links.proofs.Creating.{creations_all}
 use Rattle.sv_links.proofs.waiting.Waiting.creating.Goals as goal
 use Rattle.sv_links.proofs.waiting.Waiting.creating.Given as given
 
@@ -22,7 +22,7 @@ few g c =
     omega (
       arith,
       counted g c,
-      length-filter_le creates items,
+      length_filter_le creates items,
       at_most max_connections items c.self.invariant.0 c.self.invariant.1,
     )
 
@@ -37,4 +37,4 @@ returns-clause-bounded g c = few g c
 
 pub returns-clause-answer : goal.returns-clause-answer
 returns-clause-answer g c acts is =
-    counted g c ∙ creations-all acts c.self.inside.entries.items c.self.invariant.0 c.self.invariant.1 (rw (← c.self.view_is) at is)
+    counted g c ∙ creations_all acts c.self.inside.entries.items c.self.invariant.0 c.self.invariant.1 (rw (← c.self.view_is) at is)

@@ -2,13 +2,13 @@ use Rattle.std.proofs.Common.{rules, arith, ap, ◌∙◌, List, ◌++◌, ◌�
 use Rattle.sv_links.specs.Limits.{max_connections}
 use Rattle.sv_links.specs.Queue.{IsFree}
 use Rattle.sv_links.specs.declared.waiting.Entry.{Entry}
-use Rattle.sv_links.proofs.Queues.{IsQueue-entered, free-without, once-push, below-push, has_room}
+use Rattle.sv_links.proofs.Queues.{is_queue_entered, free_without, once_push, below_push, has_room}
 use Rattle.sv_links.proofs.waiting.Waiting.enter.Goals as goal
 
 pub push_reserved-requires : goal.push_reserved-requires
 push_reserved-requires g c =
     let items = c.self.view_is ∙ c.leave.ensures.value in
-    let free : IsFree c.args.entry.conn c.self.inside.entries.items = rw items (free-without c.args.entry.conn c.args.self.now) in
+    let free : IsFree c.args.entry.conn c.self.inside.entries.items = rw items (free_without c.args.entry.conn c.args.self.now) in
     let room = has_room c.args.entry max_connections c.self.inside.entries.items free c.requires c.self.invariant.0
     c.self.invariant.1 in
     search (rules, room, arith)
@@ -16,10 +16,10 @@ push_reserved-requires g c =
 pub invariant_of-self : goal.invariant_of-self
 invariant_of-self g c =
     let items = c.self.view_is ∙ c.leave.ensures.value in
-    let free : IsFree c.args.entry.conn c.self.inside.entries.items = rw items (free-without c.args.entry.conn c.args.self.now) in
+    let free : IsFree c.args.entry.conn c.self.inside.entries.items = rw items (free_without c.args.entry.conn c.args.self.now) in
     let items = c.self.inside.entries.items in (
-      rw c.push_reserved.ensures.items (once-push c.args.entry items free c.self.invariant.0),
-      rw c.push_reserved.ensures.items (below-push c.args.entry max_connections items c.requires c.self.invariant.1),
+      rw c.push_reserved.ensures.items (once_push c.args.entry items free c.self.invariant.0),
+      rw c.push_reserved.ensures.items (below_push c.args.entry max_connections items c.requires c.self.invariant.1),
       search rules,
     )
 
@@ -30,4 +30,4 @@ returns-clause-value g c =
 pub returns-clause-stands : goal.returns-clause-stands
 returns-clause-stands g c acts is =
     rw (c.push_reserved.ensures.items ∙ ap (λ (xs : List Entry). xs ++ c.args.entry ∷ []) (c.self.view_is ∙ c.leave.ensures.value))
-    (IsQueue-entered c.args.entry acts c.args.self.now is)
+    (is_queue_entered c.args.entry acts c.args.self.now is)

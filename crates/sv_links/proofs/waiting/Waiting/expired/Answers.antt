@@ -6,7 +6,7 @@ use Rattle.sv_links.specs.declared.waiting.Entry.{Entry}
 use Rattle.sv_links.specs.Limits.{max_connections}
 use Rattle.sv_links.specs.Queue.{IsEntry, is_past}
 use Rattle.sv_links.proofs.Queues.{oldest_expired}
-use Rattle.sv_links.proofs.Found.{found-each, found-within, found-rank}
+use Rattle.sv_links.proofs.Found.{found_each, found_within, found_rank}
 use Rattle.sv_links.proofs.waiting.Waiting.expired.Goals as goal
 use Rattle.sv_links.proofs.waiting.Waiting.expired.Given as given
 
@@ -29,12 +29,12 @@ returns-clause-answer g c acts is =
 pub returns-clause-entry : goal.returns-clause-entry
 returns-clause-entry g c acts is =
     let old = rw (← c.self.view_is) at is in
-    rw (result_is g c) (found-each (IsEntry acts) (passes c.args.clock) c.self.inside.entries.items old.each)
+    rw (result_is g c) (found_each (IsEntry acts) (passes c.args.clock) c.self.inside.entries.items old.each)
 
 pub returns-clause-within : goal.returns-clause-within
 returns-clause-within g c =
-    rw (result_is g c, ← c.self.view_is) (found-within (passes c.args.clock) max_connections c.self.inside.entries.items
+    rw (result_is g c, ← c.self.view_is) (found_within (passes c.args.clock) max_connections c.self.inside.entries.items
     c.self.invariant.1 c.self.invariant.0)
 
 pub returns-clause-measure : goal.returns-clause-measure
-returns-clause-measure g c = rw (result_is g c, ← c.self.view_is) (found-rank (passes c.args.clock) c.self.inside.entries.items)
+returns-clause-measure g c = rw (result_is g c, ← c.self.view_is) (found_rank (passes c.args.clock) c.self.inside.entries.items)

@@ -7,7 +7,7 @@ use Rattle.sv_links.specs.Waiting.{is_there}
 use Rattle.sv_links.specs.Limits.{max_connections}
 use Rattle.sv_links.specs.Queue.{IsEntry}
 use Rattle.sv_links.proofs.Queues.{oldest_able}
-use Rattle.sv_links.proofs.Found.{found-each, found-within, found-rank, found-creations}
+use Rattle.sv_links.proofs.Found.{found_each, found_within, found_rank, found_creations}
 use Rattle.sv_links.proofs.waiting.Waiting.oldest_able.Goals as goal
 use Rattle.sv_links.proofs.waiting.Waiting.oldest_able.Given as given
 
@@ -33,20 +33,20 @@ pub returns-clause-entry : goal.returns-clause-entry
 returns-clause-entry g c acts is =
     let old = rw (← c.self.view_is) at is in
     rw (result_is g c)
-    (found-each (IsEntry acts) (passes c.args.holder c.args.can_write c.args.can_read) c.self.inside.entries.items old.each)
+    (found_each (IsEntry acts) (passes c.args.holder c.args.can_write c.args.can_read) c.self.inside.entries.items old.each)
 
 pub returns-clause-within : goal.returns-clause-within
 returns-clause-within g c =
     rw (result_is g c, ← c.self.view_is)
-    (found-within (passes c.args.holder c.args.can_write c.args.can_read) max_connections c.self.inside.entries.items
+    (found_within (passes c.args.holder c.args.can_write c.args.can_read) max_connections c.self.inside.entries.items
     c.self.invariant.1 c.self.invariant.0)
 
 pub returns-clause-measure : goal.returns-clause-measure
 returns-clause-measure g c =
     rw (result_is g c, ← c.self.view_is)
-    (found-rank (passes c.args.holder c.args.can_write c.args.can_read) c.self.inside.entries.items)
+    (found_rank (passes c.args.holder c.args.can_write c.args.can_read) c.self.inside.entries.items)
 
 pub returns-clause-fewer : goal.returns-clause-fewer
 returns-clause-fewer g c =
     rw (result_is g c, ← c.self.view_is)
-    (found-creations (passes c.args.holder c.args.can_write c.args.can_read) c.self.inside.entries.items)
+    (found_creations (passes c.args.holder c.args.can_write c.args.can_read) c.self.inside.entries.items)

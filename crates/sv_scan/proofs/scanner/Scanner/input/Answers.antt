@@ -5,7 +5,7 @@ use Rattle.sv_scan.specs.declared.touched.Touched.{Touched}
 use Rattle.sv_scan.specs.declared.acts.ScanAct.TheVariants.{Input}
 use Rattle.sv_scan.specs.Counted.{effective}
 use Rattle.sv_errors.specs.Limits.{is_channel}
-use Rattle.sv_scan.proofs.Stands.{StandsFor-counted, Holds-input}
+use Rattle.sv_scan.proofs.Stands.{stands_for_counted, holds_input}
 use Rattle.sv_scan.proofs.scanner.Scanner.input.Goals as goal
 
 pub returns-then-is_channel-clause-stands : goal.returns-then-is_channel-clause-stands
@@ -13,8 +13,8 @@ returns-then-is_channel-clause-stands g c acts is =
     let same : to_z w64 (of_z w64 c.args.microvolts) ≡ c.args.microvolts = to_z-of_z w64 c.args.microvolts c.ranges.microvolts in
     let legal : is_channel c.args.channel ≡ true =
     ap is_channel (sym c.from.ensures) ∙ (sym c.is_channel.ensures ∙ c.if-is_channel.true) in
-    rw (c.from-then-is_channel.ensures, same) (StandsFor-counted _ (Input c.args.channel c.args.microvolts) acts legal
-    (Holds-input _ (effective acts) c.args.channel c.args.microvolts c.self.invariant.inputs legal (rw (← c.self.view_is) at is)))
+    rw (c.from-then-is_channel.ensures, same) (stands_for_counted _ (Input c.args.channel c.args.microvolts) acts legal
+    (holds_input _ (effective acts) c.args.channel c.args.microvolts c.self.invariant.inputs legal (rw (← c.self.view_is) at is)))
 
 pub returns-then-is_channel-clause-untouched : goal.returns-then-is_channel-clause-untouched
 returns-then-is_channel-clause-untouched g c differs =

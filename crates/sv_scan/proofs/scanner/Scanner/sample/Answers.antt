@@ -4,8 +4,8 @@ use mir.Val.{SFits}
 use Rattle.sv_scan.specs.declared.acts.ScanAct.TheVariants.{Sample}
 use Rattle.sv_scan.specs.Scan.{channel_at, reading_in}
 use Rattle.sv_scan.specs.Counted.{effective, is_scanning}
-use Rattle.sv_scan.proofs.Runs.{size_in, channel_in, run_in, has_room, turn_is, IsValid-sample}
-use Rattle.sv_scan.proofs.Stands.{StandsFor-counted, StandsFor-dropped, Holds-sample}
+use Rattle.sv_scan.proofs.Runs.{size_in, channel_in, run_in, has_room, turn_is, is_valid_sample}
+use Rattle.sv_scan.proofs.Stands.{stands_for_counted, stands_for_dropped, holds_sample}
 use Rattle.sv_scan.proofs.scanner.Scanner.sample.Goals as goal
 
 pub returns-then-not-is_scanning-clause-answer : goal.returns-then-not-is_scanning-clause-answer
@@ -14,7 +14,7 @@ returns-then-not-is_scanning-clause-answer g c acts is =
 
 pub returns-then-not-is_scanning-clause-stands : goal.returns-then-not-is_scanning-clause-stands
 returns-then-not-is_scanning-clause-stands g c acts is =
-    StandsFor-dropped _ Sample acts (sym (returns-then-not-is_scanning-clause-answer g c acts is)) is
+    stands_for_dropped _ Sample acts (sym (returns-then-not-is_scanning-clause-answer g c acts is)) is
 
 pub returns-in_default-clause-answer : goal.returns-in_default-clause-answer
 returns-in_default-clause-answer g c acts is =
@@ -25,7 +25,7 @@ returns-in_default-clause-answer g c acts is =
 
 pub returns-in_default-clause-stands : goal.returns-in_default-clause-stands
 returns-in_default-clause-stands g c acts is =
-    StandsFor-dropped _ Sample acts (sym (returns-in_default-clause-answer g c acts is)) is
+    stands_for_dropped _ Sample acts (sym (returns-in_default-clause-answer g c acts is)) is
 
 pub channel-channel-requires : goal.channel-channel-requires
 channel-channel-requires g c =
@@ -54,7 +54,7 @@ invariant_of-self g c =
     let scanning = rw (← c.self.view_is) at (ap is_scanning (sym c.state.ensures.value) ∙ sym c.is_scanning.ensures
     ∙ c.if-not-is_scanning.false) in
     let bounded = c.reading_in-reading.ensures.bounded (search rules) in
-    rw (c.push_reserved.ensures.items, c.push_reserved.ensures.capacity) (IsValid-sample _ _ c.in-Some.run' _ _ c.in-Some.is
+    rw (c.push_reserved.ensures.items, c.push_reserved.ensures.capacity) (is_valid_sample _ _ c.in-Some.run' _ _ c.in-Some.is
     c.self.invariant scanning bounded)
 
 pub returns-clause-answer : goal.returns-clause-answer
@@ -74,5 +74,5 @@ returns-clause-stands g c acts is =
     let reading = c.reading_in-reading.ensures.value ∙ ap (λ (z : ℤ). reading_in z (to_z w64 (of_z w64 c.voltage.result)))
     (to_z-of_z w64 c.self.inside.settings.range fits)
     ∙ ap (reading_in c.self.inside.settings.range) (to_z-of_z w64 c.voltage.result heard ∙ voltage) in
-    rw (c.push_reserved.ensures.items, reading) (StandsFor-counted _ Sample acts counted
-    (Holds-sample _ (effective acts) c.in-Some.run' c.in-Some.is known h))
+    rw (c.push_reserved.ensures.items, reading) (stands_for_counted _ Sample acts counted
+    (holds_sample _ (effective acts) c.in-Some.run' c.in-Some.is known h))

@@ -4,7 +4,7 @@ use Rattle.sv_links.specs.ChannelRepresentation.{AreChannels}
 use Rattle.sv_links.specs.Limits.{max_links}
 use Rattle.sv_history.specs.Act.{link_acts}
 use Rattle.sv_history.proofs.Telling.{tells_once}
-use Rattle.sv_links.proofs.Rising.{enabled-sorted}
+use Rattle.sv_links.proofs.Rising.{enabled_sorted}
 use Rattle.sv_server.specs.Device.Representation.{AreOwned}
 use Rattle.sv_server.proofs.OnShown.Lists.{all_found}
 use Rattle.sv_server.proofs.OnShown.Links.{listed_enabled, asking_more, asking_end, asking_few}
@@ -37,6 +37,6 @@ returns g c = λ config acts channel_log old heard.
     subst (λ (l : List ChannelAct). AreChannels c.self.inside.intr l) (tells_once acts is.6.0 channel_log is.6.1 heard) is.6.2 in
     let owned : AreOwned (enabled_links channel_log) (link_acts acts) = rw (← are.enabled) is.6.3 in
     let few : length (enabled_links channel_log) ≤ max_links =
-    asking_few (enabled_links channel_log) (link_acts acts) (enabled-sorted channel_log) owned (omega (arith, is.5.0)) in
+    asking_few (enabled_links channel_log) (link_acts acts) (enabled_sorted channel_log) owned (omega (arith, is.5.0)) in
     all_found listed_enabled (enabled_links channel_log) c.loop-index.index c.loop-index.found.items
     (omega (arith, few, c.loop-index-test.false)) (c.loop-index.invariant.are config acts channel_log old heard)
