@@ -1,4 +1,5 @@
--- Why connections are closed: a failure of the wire is followed by closing at once, and nothing else is closed but what is at fault.
+-- Why connections are closed: a failure of the wire is followed by closing at once, and nothing
+-- else is closed but what is at fault.
 use Rattle.std.proofs.Common.{◌≡◌, ℕ, Bool, true, false, List, [], ◌∷◌, ◌++◌, filter, flat_map, Option, Some, None, sym, ap, subst, ◌∙◌, inl, inr, append_assoc, append-nil}
 use Rattle.std.specs.Prelude.{⊤, ◌⊎◌}
 use Rattle.std.proofs.lemmas.List.Elements.{filter-append}

@@ -71,7 +71,8 @@ is_asked c dial piece (answer, inr (newer, older, is)) = (answer, newer, older, 
 abbrev pub IsBetween : PlainEvent → Type 0
 IsBetween event = (is_taking event ≡ false) × (is_timed event ≡ false)
 
--- one moment in these steps at which the channel of the connection is asked for, if it is to be connected
+-- one moment in these steps at which the channel of the connection is asked for, if it is to be
+-- connected
 abbrev pub AsksFor : {W : Type 0} → Config → ℕ → DriverView W → DriverView W → List Heard → Type 0
 AsksFor config c a b piece = (m : DriverView _) × Grows IsBetween a m × Grows IsBetween m b × (log : List Act)
     × IsLogOf config m.history log × ((dial_of c log ≡ None) ⊎ ((dial : Dial) × (dial_of c log ≡ Some dial) × Asked c dial piece))

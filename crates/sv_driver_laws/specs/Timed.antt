@@ -1,4 +1,5 @@
--- The events that happen as time passes: ticks, the entries of a scenario, and the stimuli that are handed in.
+-- The events that happen as time passes: ticks, the entries of a scenario, and the stimuli that are
+-- handed in.
 use Rattle.std.specs.Prelude.{ℕ, zero, suc, ◌+◌, min, nat_lt, ◌==◌, Bool, true, false, List, [], ◌∷◌, ◌++◌, if◌then◌else◌}
 use Rattle.sv_history.specs.Event.{PlainEvent, Input, External, Tick}
 use Rattle.sv_replay.specs.Entry.{stimulus_event}
@@ -14,7 +15,8 @@ abbrev pub entry_events : ℕ → List Entry → List PlainEvent
 entry_events tick [] = []
 entry_events tick (entry ∷ entries) = entry_events tick entries ++ (if entry.tick == tick then stimulus_event entry.stimulus ∷ [] else [])
 
--- the events of this many milliseconds, the newest first; the scenario's entries that are due come before each Tick, and after the last one
+-- the events of this many milliseconds, the newest first; the scenario's entries that are due come
+-- before each Tick, and after the last one
 abbrev pub time_events : ℕ → List Entry → List PlainEvent
 time_events zero entries = entry_events 0 entries
 time_events (suc n) entries = entry_events (suc n) entries ++ Tick ∷ time_events n entries
@@ -31,8 +33,8 @@ with_entry entry [] = entry ∷ []
 with_entry entry (other ∷ entries) =
     if nat_lt entry.tick other.tick then entry ∷ other ∷ entries else other ∷ with_entry entry entries
 
--- a scenario with one more entry for each stimulus that was handed in. The entry's millisecond is the one at which the stimulus was handed
--- in, but at most `most`.
+-- a scenario with one more entry for each stimulus that was handed in. The entry's millisecond is
+-- the one at which the stimulus was handed in, but at most `most`.
 abbrev pub with_handed : ℕ → List Handed → List Entry → List Entry
 with_handed most [] entries = entries
 with_handed most (Passing ticks ∷ handed) entries = with_handed most handed entries

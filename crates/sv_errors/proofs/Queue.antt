@@ -136,7 +136,8 @@ map_same P f g (x ∷ xs) h all = ap (λ (c : Code). c ∷ map f xs) (h x all.0)
 
 -- ---- what the entries are like
 
--- The newest entry of a full queue is the newest act, or shows the overflow, and the others are older.
+-- The newest entry of a full queue is the newest act, or shows the overflow, and the others are
+-- older.
 record IsFull (acts : List QueueAct) : Type 0 where
   front : List ℕ
   last : ℕ

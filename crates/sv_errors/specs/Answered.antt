@@ -6,8 +6,8 @@ use Rattle.sv_errors.specs.declared.error_queue.QueueAnswer.{QueueAnswer}
 use Rattle.sv_errors.specs.declared.error_queue.QueueAnswer.TheVariants.{Reported, Taken, Cleared}
 use Rattle.sv_errors.specs.ErrorQueue.{is_full, oldest}
 
--- the answer to `act` after `acts`: for a report, whether the queue was full before the report; for a take, the entry that was the oldest,
--- or `None` if the queue was empty
+-- the answer to `act` after `acts`: for a report, whether the queue was full before the report; for
+-- a take, the entry that was the oldest, or `None` if the queue was empty
 abbrev pub answer_to : List QueueAct → QueueAct → QueueAnswer
 answer_to acts (Report code) = Reported (is_full acts)
 answer_to acts Take = Taken (oldest acts)

@@ -42,9 +42,9 @@ number_of code = neg_ℤ (pos (entry code).0)
 abbrev pub text_of : Code → List ℕ
 text_of code = (entry code).1
 
--- The bit that an error of this class sets in the standard event status register (IEEE 488.2, 11.5.1; SCPI-1999, volume 2, 21.8). The class
--- is the hundreds digit of the error's number: 1 for a command error, 2 for an execution error, 3 for a device-specific error, 4 for a
--- query error.
+-- The bit that an error of this class sets in the standard event status register (IEEE 488.2,
+-- 11.5.1; SCPI-1999, volume 2, 21.8). The class is the hundreds digit of the error's number: 1 for
+-- a command error, 2 for an execution error, 3 for a device-specific error, 4 for a query error.
 abbrev pub class_event : ℕ → ℕ
 class_event class =
     if class == 1 then 2 ^ 5

@@ -108,7 +108,8 @@ due_is contents acts s =
     ∙ ap (λ (b : Bool). due_by contents.overlong contents.overrun_reported (unit_of contents) (is_something (shown_by contents)) b)
     (ended_is contents acts s))
 
--- The message at which a unit is due has ended, is not too long, lost no answers, and nothing can be read.
+-- The message at which a unit is due has ended, is not too long, lost no answers, and nothing can
+-- be read.
 pub record IsAtUnit (contents : Contents) : Type 0 where
   pub ended : contents.ended ≡ true
   pub short : contents.overlong ≡ false

@@ -141,7 +141,8 @@ read_closed : (answering : Bool) (response closed : List ℕ) (read : ℕ) → c
 read_closed true response closed read is out = rw (out.1, is) refl
 read_closed false response closed read is out = ap (drop read) is
 
--- the next message becomes the current one, field by field, where it is looked for behind these bytes
+-- the next message becomes the current one, field by field, where it is looked for behind these
+-- bytes
 pub finish_fields : (text given : List ℕ) (cursor end next_start size behind : ℕ) (ended pending long told lost answering : Bool)
     (response closed : List ℕ) (read executed : ℕ) (new_ended new_pending : Bool) → given ≡ text
     → (let later = take (length given - next_start) (drop next_start given) in (size ≡ first_size later) × (behind ≡ second_at later)

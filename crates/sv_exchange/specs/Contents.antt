@@ -5,10 +5,11 @@ use Rattle.sv_exchange.specs.declared.exchange.Next.TheVariants as next
 use Rattle.sv_exchange.specs.Exchange.{ExchangeAct, Symbol, Byte, end_mark, text, messages, messages_finished, current, units_done, has_overrun, has_dropped, answers, units, is_something, joined_answers, response, Due, NothingDue, OverrunDue, InterruptDue, UnitDue, FinishDue, due_unit}
 use Rattle.sv_exchange.specs.Limits.{max_message}
 
--- the state. First: the part of the current message that wasn't executed yet; how many bytes of the message come before this part; and
--- whether the message has ended. The text after the message, and whether END follows this text. Then: whether the current message is
--- too long, whether it was reported as too long, and whether its answers were dropped. Last: the output, which is the answers of the
--- current message if `answering` is true, else the response.
+-- the state. First: the part of the current message that wasn't executed yet; how many bytes of the
+-- message come before this part; and whether the message has ended. The text after the message, and
+-- whether END follows this text. Then: whether the current message is too long, whether it was
+-- reported as too long, and whether its answers were dropped. Last: the output, which is the
+-- answers of the current message if `answering` is true, else the response.
 pub record Contents : Type 0 where
   pub rest : List ℕ
   pub place : ℕ
@@ -46,14 +47,16 @@ abbrev pub following : Bool → List ℕ → Bool → List (List ℕ)
 following true later end_pending = messages (symbols later end_pending)
 following false later end_pending = []
 
--- Either the current message has answers: the stored output is these answers, joined, and nothing can be read. Or this message has no
--- answers: the stored output is the response, which can be read.
+-- Either the current message has answers: the stored output is these answers, joined, and nothing
+-- can be read. Or this message has no answers: the stored output is the response, which can be
+-- read.
 abbrev pub IsShown : Bool → List ℕ → List (List ℕ) → List ℕ → Type 0
 IsShown true output given readable = (given ≢ []) × (output ≡ joined_answers given) × (readable ≡ [])
 IsShown false output given readable = (given ≡ []) × (readable ≡ output)
 
--- After its first `place` bytes (`consumed`), the message goes on with `rest`. The message has the units that were executed, and then
--- those of `rest`. If there is a rest, then `consumed` has exactly the units that were executed, whatever follows it (`behind`).
+-- After its first `place` bytes (`consumed`), the message goes on with `rest`. The message has the
+-- units that were executed, and then those of `rest`. If there is a rest, then `consumed` has
+-- exactly the units that were executed, whatever follows it (`behind`).
 pub record IsPlaced (place : ℕ) (rest message : List ℕ) (executed : List (List ℕ)) : Type 0 where
   pub consumed : List ℕ
   pub joined : message ≡ consumed ++ rest
@@ -61,8 +64,8 @@ pub record IsPlaced (place : ℕ) (rest message : List ℕ) (executed : List (Li
   pub units_left : units message ≡ executed ++ units rest
   pub behind : rest ≢ [] → (more : List ℕ) → units (consumed ++ more) ≡ executed ++ units more
 
--- The state stands for the acts. `message` is the current message, and `executed` lists the units of this message that were
--- executed.
+-- The state stands for the acts. `message` is the current message, and `executed` lists the units
+-- of this message that were executed.
 pub record StandsFor (contents : Contents) (acts : List ExchangeAct) : Type 0 where
   pub message : List ℕ
   pub executed : List (List ℕ)
@@ -83,8 +86,8 @@ pub record StandsFor (contents : Contents) (acts : List ExchangeAct) : Type 0 wh
 abbrev pub is_open : Contents → Bool
 is_open contents = not contents.ended
 
--- what a read can return of the stored output. If the flag is true, the output is the answers of the current message so far, and nothing
--- can be read; else all bytes can be read.
+-- what a read can return of the stored output. If the flag is true, the output is the answers of
+-- the current message so far, and nothing can be read; else all bytes can be read.
 abbrev pub readable_of : Bool → List ℕ → List ℕ
 readable_of true output = []
 readable_of false output = output
@@ -93,7 +96,8 @@ readable_of false output = output
 abbrev pub shown_by : Contents → List ℕ
 shown_by contents = readable_of contents.answering contents.output
 
--- the next unit of the current message; `None` if no unit remains, the message hasn't ended, it is too long, or its answers were dropped
+-- the next unit of the current message; `None` if no unit remains, the message hasn't ended, it is
+-- too long, or its answers were dropped
 abbrev pub unit_of : Contents → Option (List ℕ)
 unit_of contents = if contents.ended && (not contents.overlong && not contents.answers_dropped) then slice_get (units contents.rest) 0
     else None
@@ -107,7 +111,8 @@ next_of contents = if contents.overlong && not contents.overrun_reported then Ov
 abbrev pub IsUnitDue : Due → Type 0
 IsUnitDue due = (unit : List ℕ) × (due ≡ UnitDue unit)
 
--- whether a unit is allowed to give an answer: the current message has ended, its answers weren't dropped, and there is no response to read
+-- whether a unit is allowed to give an answer: the current message has ended, its answers weren't
+-- dropped, and there is no response to read
 abbrev pub may_respond : Contents → Bool
 may_respond contents = contents.ended && (not contents.answers_dropped && not (is_something (shown_by contents)))
 
@@ -116,13 +121,15 @@ abbrev pub bit : Bool → ℕ
 bit true = 1
 bit false = 0
 
--- how much text is left: the number of bytes of the current message that weren't executed yet. If this message has ended (`true`), add 1
--- for its end, the number of bytes after it, and 1 if END follows these bytes.
+-- how much text is left: the number of bytes of the current message that weren't executed yet. If
+-- this message has ended (`true`), add 1 for its end, the number of bytes after it, and 1 if END
+-- follows these bytes.
 abbrev pub text_size : Bool → ℕ → ℕ → Bool → ℕ
 text_size true rest later end_pending = rest + (1 + (later + bit end_pending))
 text_size false rest later end_pending = rest
 
--- a measure of the work that remains: each step that is due lowers the measure, so repeated stepping terminates
+-- a measure of the work that remains: each step that is due lowers the measure, so repeated
+-- stepping terminates
 abbrev pub exchange_measure : Contents → ℕ
 exchange_measure contents = 3 * text_size contents.ended (length contents.rest) (length contents.later) contents.end_pending +
     (bit (contents.overlong && not contents.overrun_reported) + bit (is_something (shown_by contents)))

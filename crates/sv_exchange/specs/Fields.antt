@@ -4,7 +4,8 @@ use Rattle.std.specs.List.{position_or_len}
 use Rattle.sv_exchange.specs.Contents.{Contents}
 use Rattle.sv_exchange.specs.Limits.{max_message, max_text, max_response}
 
--- how many bytes the first message of a text has: those before the first new line, or all if there is no new line
+-- how many bytes the first message of a text has: those before the first new line, or all if there
+-- is no new line
 abbrev pub first_size : List ℕ → ℕ
 first_size bytes = position_or_len (λ b. b == 10) bytes
 
@@ -12,7 +13,8 @@ first_size bytes = position_or_len (λ b. b == 10) bytes
 abbrev pub has_line : List ℕ → Bool
 has_line bytes = nat_lt (first_size bytes) (length bytes)
 
--- where the second message of a text begins: after the first new line; at the end of the text if there is no new line
+-- where the second message of a text begins: after the first new line; at the end of the text if
+-- there is no new line
 abbrev pub second_at : List ℕ → ℕ
 second_at bytes = if has_line bytes then first_size bytes + 1 else length bytes
 
@@ -44,12 +46,14 @@ after_finish contents = record {
   output = if contents.answering then contents.output ++ 10 ∷ [] else contents.output;
 }
 
--- the joined answers (`output`) with a semicolon and `answer` after them; only `answer` if the message has no answers yet (`false`)
+-- the joined answers (`output`) with a semicolon and `answer` after them; only `answer` if the
+-- message has no answers yet (`false`)
 abbrev pub with_answer : Bool → List ℕ → List ℕ → List ℕ
 with_answer true output answer = output ++ 59 ∷ answer
 with_answer false output answer = answer
 
--- the contents after a unit gave an answer. The flag says whether the answer fits. If it doesn't, all answers of the message are dropped.
+-- the contents after a unit gave an answer. The flag says whether the answer fits. If it doesn't,
+-- all answers of the message are dropped.
 abbrev pub after_answer : Contents → List ℕ → Bool → Contents
 after_answer contents answer true = record contents { answering = true; output = with_answer contents.answering contents.output answer }
 after_answer contents answer false = record contents { answers_dropped = true; answering = false; output = [] }
@@ -69,14 +73,15 @@ contents_of text cursor end next_start ended end_pending overlong reported answe
   output = drop read response;
 }
 
--- While answers are collected (`true`), none of their bytes were read, and the new line still fits after them. Otherwise the output is a
--- response that isn't too long, of which `read` bytes were read.
+-- While answers are collected (`true`), none of their bytes were read, and the new line still fits
+-- after them. Otherwise the output is a response that isn't too long, of which `read` bytes were
+-- read.
 abbrev pub IsOut : Bool → ℕ → ℕ → Type 0
 IsOut true size read = (size < max_response) × (read ≡ 0)
 IsOut false size read = (size ≤ max_response) × (read ≤ size)
 
--- If the current message hasn't ended, at most 4,096 of its bytes are stored. If it has ended, at most 4,096 bytes are stored after it, and
--- at most 8,192 bytes in all.
+-- If the current message hasn't ended, at most 4,096 of its bytes are stored. If it has ended, at
+-- most 4,096 bytes are stored after it, and at most 8,192 bytes in all.
 abbrev pub IsText : Bool → ℕ → ℕ → ℕ → ℕ → Type 0
 IsText true size cursor end next_start = (size ≤ max_text) × (size ≤ next_start + max_message)
 IsText false size cursor end next_start = (end ≡ size) × (next_start ≡ size) × (end ≤ cursor + max_message)

@@ -5,7 +5,8 @@ use Rattle.std.specs.Prelude.{ℕ}
 abbrev pub max_message : ℕ
 max_message = 4096
 
--- how many bytes of text can be stored: a message that hasn't ended (4,096), and one more write (4,096)
+-- how many bytes of text can be stored: a message that hasn't ended (4,096), and one more write
+-- (4,096)
 abbrev pub max_text : ℕ
 max_text = 8192
 

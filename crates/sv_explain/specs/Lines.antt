@@ -12,7 +12,8 @@ use Rattle.sv_explain.specs.Value.{value_text, same_value}
 abbrev pub value_line : List ℕ → List ℕ → List ℕ
 value_line name text = codes "= " ++ (name ++ 32 ∷ (text ++ 10 ∷ []))
 
--- the lines of those values of a list that changed; each name is that of the value in its place, with `owner` before it
+-- the lines of those values of a list that changed; each name is that of the value in its place,
+-- with `owner` before it
 abbrev pub lines_of : List ℕ → List (List ℕ) → List Value → List Value → List ℕ
 lines_of owner (name ∷ names) (old ∷ olds) (new ∷ news) =
     (if same_value old new then [] else value_line (owner ++ name) (value_text new)) ++ lines_of owner names olds news
@@ -35,7 +36,8 @@ has_link links lid = list_any (λ link. link.lid == lid) links
 abbrev pub links_without : List Listed → List Listed → List Listed
 links_without links other = filter (λ link. not (has_link other link.lid)) links
 
--- the lines of the links that left a list, with the text `off`, and then of those that came, with the text that `on` gives
+-- the lines of the links that left a list, with the text `off`, and then of those that came, with
+-- the text that `on` gives
 abbrev pub links_lines : List ℕ → List ℕ → (Listed → List ℕ) → List Listed → List Listed → List ℕ
 links_lines name off on old new = concat (map (λ link. value_line (name ++ decimal link.lid) off) (links_without old new))
     ++ concat (map (λ link. value_line (name ++ decimal link.lid) (on link)) (links_without new old))

@@ -56,8 +56,9 @@ use Rattle.sv_explain.specs.declared.shown.Shown.{Shown}
 
 -- ---- the status
 
--- The standard events, the status byte, and what belongs to them: whether an `*OPC` is pending, the enable and the events, the enable of
--- service requests, the status byte with MSS in bit 6, and whether service is requested.
+-- The standard events, the status byte, and what belongs to them: whether an `*OPC` is pending, the
+-- enable and the events, the enable of service requests, the status byte with MSS in bit 6, and
+-- whether service is requested.
 pub record IsStatus (shown : StatusShown) (log : List InstrumentAct) : Type 0 where
   pub opc_is : (shown.opc ≡ true) ↔ Waits log
   pub enable_is : shown.enable ≡ standard_enable log
@@ -66,7 +67,8 @@ pub record IsStatus (shown : StatusShown) (log : List InstrumentAct) : Type 0 wh
   pub byte_is : (k : ℕ) → (bit_at shown.byte k ≡ 1) ↔ MasterBit k log
   pub request_is : (shown.request ≡ true) ↔ Request log
 
--- A status register: its enable, its filters for rising and falling bits, its condition and its events.
+-- A status register: its enable, its filters for rising and falling bits, its condition and its
+-- events.
 pub record IsRegister (name : RegisterName) (shown : RegisterShown) (log : List InstrumentAct) : Type 0 where
   pub enable_is : shown.enable ≡ enable name log
   pub rise_is : shown.rise ≡ rise name log
@@ -122,7 +124,8 @@ measurement_of log = record {
 
 -- ---- message exchange
 
--- how many bytes came of the current message, which hasn't ended; `None` if it has ended, or is too long
+-- how many bytes came of the current message, which hasn't ended; `None` if it has ended, or is too
+-- long
 abbrev pub unended : List ExchangeAct → Option ℕ
 unended acts = if has_ended acts || is_long acts then None else Some (length (message acts))
 
@@ -133,7 +136,8 @@ held_word (Some awaited.Nothing) = word.Nothing
 held_word (Some awaited.One) = word.One
 held_word (Some awaited.Readings) = word.Readings
 
--- message exchange, and how many errors were lost because the queue was full (4,294,967,295 also stands for more)
+-- message exchange, and how many errors were lost because the queue was full (4,294,967,295 also
+-- stands for more)
 abbrev pub message_of : List InstrumentAct → MessageShown
 message_of log = record {
   text = unended (exchange_acts log);
@@ -164,8 +168,8 @@ role_word (Some role.Core) = word.Core
 role_word (Some role.Abort) = word.Abort
 role_word (Some role.Portmap) = word.Portmap
 
--- a connection: its role, whether it is at fault, its suspended call, and how many bytes wait to be sent; and of its interrupt channel,
--- whether it is open, and how many bytes wait to be sent
+-- a connection: its role, whether it is at fault, its suspended call, and how many bytes wait to be
+-- sent; and of its interrupt channel, whether it is open, and how many bytes wait to be sent
 pub record IsConn (c : ℕ) (shown : ConnShown) (log : List Act) : Type 0 where
   pub role_is : shown.role ≡ role_word (open_role (of c log))
   pub faulted_is : shown.faulted ≡ is_faulted (of c log)

@@ -47,7 +47,8 @@ abbrev pub settings_values : SettingsShown → List Value
 settings_values shown = Said shown.source ∷ Number shown.count ∷ Voltage shown.range ∷ Number shown.monitor ∷ Voltage shown.upper
     ∷ Voltage shown.lower ∷ flag shown.limits ∷ []
 
--- the measurement: its state, how many of its scans were triggered, how many channels of the scan under way were read, and the readings
+-- the measurement: its state, how many of its scans were triggered, how many channels of the scan
+-- under way were read, and the readings
 abbrev pub measurement_values : MeasurementShown → List Value
 measurement_values shown = Said shown.state ∷ share_value (option_map (λ so_far. (so_far.scan, so_far.scans)) shown.progress)
     ∷ share_value (option_map (λ so_far. (so_far.place, so_far.places)) shown.progress) ∷ Number shown.readings ∷ shown.newest ∷ []

@@ -50,7 +50,8 @@ all_absent : List Part → Bool
 all_absent [] = true
 all_absent (q ∷ qs) = elim q.optional [ true ↦ all_absent qs | false ↦ false ]
 
--- whether mnemonics may fit both, a first part being given and what the others of its list say of a list
+-- whether mnemonics may fit both, a first part being given and what the others of its list say of a
+-- list
 clash_with : Part → (List Part → Bool) → List Part → Bool
 clash_with p others [] = elim p.optional [ true ↦ others [] | false ↦ false ]
 clash_with p others (q ∷ qs) =

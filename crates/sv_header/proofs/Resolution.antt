@@ -77,7 +77,8 @@ leads_from_names (suc fuel) c q d (branch ∷ behind) left command h =
       | inr siblings ↦ inr (leads_from_names fuel c q d (drop branch.below behind) left command siblings)
     ]
 
--- no row of common commands is named by a header of another form, and none of the others by one of theirs
+-- no row of common commands is named by a header of another form, and none of the others by one of
+-- theirs
 not_common : (q : Bool) (left : List (List ℕ)) (command : CommandId) (rows : List Row) → list_all (λ row. row.common) rows ≡ true
     → SomeNames false q left command rows → ⊥
 not_common q left command [] all h = h

@@ -3,7 +3,8 @@ use Rattle.std.specs.Prelude.{ℕ}
 use Rattle.sv_header.specs.declared.command.CommandId.{CommandId}
 use Rattle.sv_header.specs.declared.command.CommandId.TheVariants.{Do, Ask}
 
--- how many parameters a command takes at most: one if its parameter is a value or a channel list, else none
+-- how many parameters a command takes at most: one if its parameter is a value or a channel list,
+-- else none
 abbrev pub most_parameters : CommandId → ℕ
 most_parameters (Do action) = 0
 most_parameters (Ask question) = 0

@@ -10,8 +10,8 @@ pub record Part : Type 0 where
   pub long : List ℕ
   pub optional : Bool
 
--- a row of the table of commands: whether its header is that of a common command, whether it ends in a question mark, the nodes of its
--- pattern, and the command that it names
+-- a row of the table of commands: whether its header is that of a common command, whether it ends
+-- in a question mark, the nodes of its pattern, and the command that it names
 pub record Row : Type 0 where
   pub common : Bool
   pub query : Bool
@@ -34,7 +34,8 @@ row common query parts command = record { common = common; query = query; parts 
 abbrev pub Same : List ℕ → List ℕ → Type 0
 Same sent form = map to_ascii_lowercase sent ≡ map to_ascii_lowercase form
 
--- The mnemonic is the short or the long form of the node, in upper or lower case. An abbreviation between the two forms doesn't match.
+-- The mnemonic is the short or the long form of the node, in upper or lower case. An abbreviation
+-- between the two forms doesn't match.
 abbrev pub IsForm : List ℕ → Part → Type 0
 IsForm sent part = Same sent part.short ⊎ Same sent part.long
 
@@ -43,7 +44,8 @@ abbrev IsThere : List (List ℕ) → Part → (List (List ℕ) → Type 0) → T
 IsThere [] part Others = ⊥
 IsThere (sent ∷ others) part Others = IsForm sent part × Others others
 
--- The mnemonics fit the nodes in order: each node takes the next mnemonic, or is optional and takes none. No mnemonic remains at the end.
+-- The mnemonics fit the nodes in order: each node takes the next mnemonic, or is optional and takes
+-- none. No mnemonic remains at the end.
 abbrev pub Fits : List (List ℕ) → List Part → Type 0
 Fits sent [] = sent ≡ []
 Fits sent (part ∷ parts) = IsThere sent part (λ others. Fits others parts) ⊎ ((part.optional ≡ true) × Fits sent parts)

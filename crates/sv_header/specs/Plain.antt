@@ -20,7 +20,8 @@ abbrev pub led_by : Option (Bor (List ℕ)) → List (List ℕ) → List (List �
 led_by None others = []
 led_by (Some first) others = first.now ∷ others
 
--- the mnemonics that are still to be looked up, in this order: `first`; the mnemonics of the path; the mnemonics of the header's text
+-- the mnemonics that are still to be looked up, in this order: `first`; the mnemonics of the path;
+-- the mnemonics of the header's text
 abbrev pub left_of : Mnemonics → List (List ℕ)
 left_of left = led_by left.first (left.kept.now ++ sent_of left.sent)
 

@@ -1,4 +1,5 @@
--- The table of commands. Each row has the pattern of a header, and the command that this header names.
+-- The table of commands. Each row has the pattern of a header, and the command that this header
+-- names.
 use Rattle.std.specs.Prelude.{true, false, List, [], ◌∷◌, ◌++◌}
 use Prim.Native.String.{String}
 use Rattle.sv_status.specs.declared.register_name.RegisterName.{RegisterName}
@@ -58,7 +59,8 @@ system_commands =
     ∷ query (node "SYST" "EM" ∷ node "VERS" "ION" ∷ []) (Ask Version)
     ∷ []
 
--- the rows of a status register's commands. The headers of these commands begin with the nodes in `place`.
+-- the rows of a status register's commands. The headers of these commands begin with the nodes in
+-- `place`.
 abbrev register : List Part → RegisterName → List Row
 register place name =
     query (place ++ maybe "EVEN" "T" ∷ []) (Ask (Events name))

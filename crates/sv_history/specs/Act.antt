@@ -1,5 +1,6 @@
--- The acts of a log: what events did. A log is a list of acts, the newest first. Each act is of one connection or of the device. The device
--- is all that connections share: links, suspended calls, interrupt channels, the instrument and the clock.
+-- The acts of a log: what events did. A log is a list of acts, the newest first. Each act is of one
+-- connection or of the device. The device is all that connections share: links, suspended calls,
+-- interrupt channels, the instrument and the clock.
 use Rattle.std.specs.Prelude.{ℕ, ◌+◌, ◌==◌, List, [], ◌∷◌, if◌then◌else◌}
 use Rattle.sv_links.specs.Links.{LinkAct}
 use Rattle.sv_links.specs.Waiting.{WaitAct}
@@ -8,8 +9,9 @@ use Rattle.sv_exchange.specs.Exchange.{ExchangeAct}
 use Rattle.sv_layers.specs.Act.{Act as InstrumentAct, exchange_acts as exchanged}
 use Rattle.sv_history.specs.declared.event.Role.{Role}
 
--- an act of one connection: the connection opened; a piece of bytes came; a call was taken; the record that was taken isn't a call; a reply
--- was sent; the peer took bytes of replies; the connection closed
+-- an act of one connection: the connection opened; a piece of bytes came; a call was taken; the
+-- record that was taken isn't a call; a reply was sent; the peer took bytes of replies; the
+-- connection closed
 pub data ConnAct : Type 0 where
   Opened : (role : Role) → ConnAct
   Piece : (bytes : List ℕ) → ConnAct
@@ -19,8 +21,8 @@ pub data ConnAct : Type 0 where
   BytesTaken : (count : ℕ) → ConnAct
   PortClosed : ConnAct
 
--- an act of the device: an act of a link, of a suspended call, of an interrupt channel, or of the instrument; or a
--- millisecond passed
+-- an act of the device: an act of a link, of a suspended call, of an interrupt channel, or of the
+-- instrument; or a millisecond passed
 pub data DeviceAct : Type 0 where
   Linked : (act : LinkAct) → DeviceAct
   Waited : (act : WaitAct) → DeviceAct

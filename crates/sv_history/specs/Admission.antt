@@ -1,5 +1,5 @@
--- What stops a call of the core channel (VXI-11 revision 1.0, sections B.4.4 and B.6). The checks are, in this order: the call's link; the
--- call's size; the lock; what the call has to wait for.
+-- What stops a call of the core channel (VXI-11 revision 1.0, sections B.4.4 and B.6). The checks
+-- are, in this order: the call's link; the call's size; the lock; what the call has to wait for.
 use Rattle.std.specs.Prelude.{ℕ, ◌+◌, ◌==◌, not, Bool, List, length, Option, Some, None, option_map, is_some, codes, nat_lt, ◌&&◌, if◌then◌else◌}
 use Rattle.std.specs.Str.{bytes_eq}
 use Rattle.sv_vxi.specs.declared.error_code.ErrorCode.{ErrorCode}
@@ -21,27 +21,29 @@ use Rattle.sv_history.specs.CoreCall.{lid_of, is_too_long, failure}
 use Rattle.sv_history.specs.Interrupts.{has_channel, is_peer}
 use Rattle.sv_history.specs.CoreChannel.{owns, own_call}
 
--- what happens to a call that is stopped: the call fails with an error; or the call is suspended, for at most `timeout`
--- milliseconds if there is a timeout
+-- what happens to a call that is stopped: the call fails with an error; or the call is suspended,
+-- for at most `timeout` milliseconds if there is a timeout
 pub data Stop : Type 0 where
   Fails : (error : ErrorCode) → Stop
   Awaits : (wait : Wait) (timeout : Option ℕ) → Stop
 
--- what stops a call while another link holds the lock: the call waits for the lock if its waitlock flag is set, else the call fails
--- with error 11
+-- what stops a call while another link holds the lock: the call waits for the lock if its waitlock
+-- flag is set, else the call fails with error 11
 abbrev pub lock_stop : LockWait → Stop
 lock_stop wait = if wait.waits then Awaits Lock (Some wait.timeout) else Fails DeviceLocked
 
--- What a call waits for besides the lock, and the call's timeout in milliseconds. A device_write waits while the instrument hasn't
--- finished a message that came completely. A device_read waits until the instrument can answer it.
+-- What a call waits for besides the lock, and the call's timeout in milliseconds. A device_write
+-- waits while the instrument hasn't finished a message that came completely. A device_read waits
+-- until the instrument can answer it.
 abbrev pub device_wait : LinkCall → List DeviceAct → Option (Wait × ℕ)
 device_wait (DeviceWrite timeout lock_timeout flags bytes) acts = if has_ended (exchange_acts acts) then Some (Input, timeout) else None
 device_wait (DeviceRead request_size timeout lock_timeout flags term_char) acts =
     if is_answerable (instrument_acts acts) then None else Some (Response, timeout)
 device_wait _ acts = None
 
--- What stops a call on a link, by the first of these that applies: the connection doesn't own the link; the call is a write that is too
--- long; another link holds the lock that the call needs; the call has to wait for the device.
+-- What stops a call on a link, by the first of these that applies: the connection doesn't own the
+-- link; the call is a write that is too long; another link holds the lock that the call needs; the
+-- call has to wait for the device.
 abbrev pub call_stop : ℕ → Option ℕ → LinkCall → List DeviceAct → Option Stop
 call_stop c lid call acts =
     if not (owns c lid acts) then Some (Fails InvalidLink)
@@ -49,21 +51,22 @@ call_stop c lid call acts =
     else (if is_some (lock_wait call) && is_locked_out (holder (link_acts acts)) lid then option_map lock_stop (lock_wait call)
     else option_map (λ wait. Awaits wait.0 (Some wait.1)) (device_wait call acts)))
 
--- whether one more link may be created: the live links and the suspended create_link calls are together fewer than 32, and a link number is
--- still unused
+-- whether one more link may be created: the live links and the suspended create_link calls are
+-- together fewer than 32, and a link number is still unused
 abbrev pub may_make_more : List DeviceAct → Bool
 may_make_more acts = nat_lt (length (live (link_acts acts)) + creating (wait_acts acts)) max_links && lids_left (link_acts acts)
 
--- What stops create_link, by the first of these that applies: the device's name isn't inst0; no more link may be created; the call asks for
--- the lock, and a link holds the lock.
+-- What stops create_link, by the first of these that applies: the device's name isn't inst0; no
+-- more link may be created; the call asks for the lock, and a link holds the lock.
 abbrev pub link_stop : Bool → ℕ → List ℕ → List DeviceAct → Option Stop
 link_stop lock_device timeout device acts =
     if not (bytes_eq device (codes "inst0")) then Some (Fails NotAccessible)
     else (if not (may_make_more acts) then Some (Fails OutOfResources)
     else (if lock_device && is_locked_out (holder (link_acts acts)) None then Some (Awaits Lock (Some timeout)) else None))
 
--- What stops create_intr_chan, by the first of these that applies: the connection already has a channel; the protocol isn't TCP (0); the
--- server doesn't connect to this address or port. If none applies, the call waits without a deadline until its peer is connected.
+-- What stops create_intr_chan, by the first of these that applies: the connection already has a
+-- channel; the protocol isn't TCP (0); the server doesn't connect to this address or port. If none
+-- applies, the call waits without a deadline until its peer is connected.
 abbrev pub channel_stop : Bool → ℕ → ℕ → ℕ → Stop
 channel_stop there host_addr host_port prog_family =
     if there then Fails AlreadyEstablished
@@ -83,7 +86,8 @@ stop_of c DestroyIntrChan acts = None
 abbrev pub deadline : Config → Option ℕ → List DeviceAct → Option ℕ
 deadline config timeout acts = option_map (λ milliseconds. config.clock + ticks acts + milliseconds) timeout
 
--- The outcome of a call: if nothing stops the call, the outcome of executing it; else the call fails or is suspended.
+-- The outcome of a call: if nothing stops the call, the outcome of executing it; else the call
+-- fails or is suspended.
 abbrev pub admission : Config → ℕ → ℕ → Arguments → Option Stop → List DeviceAct → CallOutcome
 admission config polled c arguments None acts = own_call config polled c arguments acts
 admission config polled c arguments (Some (Fails error)) acts = only (failure arguments error)

@@ -4,7 +4,8 @@ use Rattle.sv_vxi.specs.Results.{Outcome}
 use Rattle.sv_links.specs.Waiting.{WaitAct}
 use Rattle.sv_history.specs.Act.{DeviceAct, Waited}
 
--- the acts of the device that the call adds to the log, the newest first; and the result of the call, `None` if the call is suspended
+-- the acts of the device that the call adds to the log, the newest first; and the result of the
+-- call, `None` if the call is suspended
 pub record CallOutcome : Type 0 where
   pub adds : List DeviceAct
   pub result : Option Outcome

@@ -1,5 +1,5 @@
--- What the acts of a connection determine. The definitions search and count the acts since the connection was
--- last opened or closed.
+-- What the acts of a connection determine. The definitions search and count the acts since the
+-- connection was last opened or closed.
 use Rattle.std.specs.Prelude.{ℕ, ◌+◌, ◌-◌, ◌==◌, ◌&&◌, ◌||◌, Bool, true, false, List, [], ◌∷◌, ◌++◌, length, drop, filter, Option, Some, None, is_none, is_some, slice_get, if◌then◌else◌}
 use Rattle.std.specs.List.{concat, filter_map, list_any}
 use Rattle.sv_logs.specs.Since.{since, last_given}
@@ -14,8 +14,8 @@ use Rattle.sv_history.specs.declared.event.Port.TheVariants.{Conn, Intr}
 use Rattle.sv_history.specs.Act.{Act, ConnAct, Opened, Piece, CallTaken, Faulted, Replied, BytesTaken, PortClosed, of}
 use Rattle.sv_history.specs.Limits.{max_output}
 
--- if this act changes the connection's role: the new role. An opening gives the connection a role; after a close the
--- connection has no role.
+-- if this act changes the connection's role: the new role. An opening gives the connection a role;
+-- after a close the connection has no role.
 abbrev pub opening : ConnAct → Option (Option Role)
 opening = elim [ Opened role ↦ Some (Some role) | PortClosed ↦ Some None | _ ↦ None ]
 
@@ -27,8 +27,8 @@ open_role = last_given opening None
 abbrev pub acts_since_opening : List ConnAct → List ConnAct
 acts_since_opening = since (elim [ Opened role ∷ older ↦ true | PortClosed ∷ older ↦ true | _ ↦ false ])
 
--- the bytes of these pieces, joined from the oldest piece to the newest. In the list the newest piece is
--- first.
+-- the bytes of these pieces, joined from the oldest piece to the newest. In the list the newest
+-- piece is first.
 abbrev pub join_pieces : List (List ℕ) → List ℕ
 join_pieces [] = []
 join_pieces (piece ∷ pieces) = join_pieces pieces ++ piece
@@ -50,8 +50,9 @@ bytes_sent acts = join_pieces (filter_map (elim [ Replied bytes ↦ Some bytes |
 abbrev pub bytes_taken : List ConnAct → ℕ
 bytes_taken acts = total (filter_map (elim [ BytesTaken count ↦ Some count | _ ↦ None ]) (acts_since_opening acts))
 
--- if this act changes which call is pending: the new pending call. A call that is taken is pending. No call is pending after a reply, or
--- after the act `Faulted`, which says that the record that was taken isn't a call.
+-- if this act changes which call is pending: the new pending call. A call that is taken is pending.
+-- No call is pending after a reply, or after the act `Faulted`, which says that the record that was
+-- taken isn't a call.
 abbrev pub taking : ConnAct → Option (Option (List ℕ))
 taking = elim [ CallTaken call ↦ Some (Some call) | Replied bytes ↦ Some None | Faulted ↦ Some None | _ ↦ None ]
 
@@ -89,13 +90,14 @@ abbrev pub waiting_on : List ChannelAct → Port → List Act → List ℕ
 waiting_on channel_log (Conn c) log = waiting (of c log)
 waiting_on channel_log (Intr c) log = channel_waiting c channel_log
 
--- all bytes that were sent on a port since it was opened; `channel_log` is the log of the interrupt channels
+-- all bytes that were sent on a port since it was opened; `channel_log` is the log of the interrupt
+-- channels
 abbrev pub sent_on : List ChannelAct → Port → List Act → List ℕ
 sent_on channel_log (Conn c) log = bytes_sent (of c log)
 sent_on channel_log (Intr c) log = concat (calls c channel_log)
 
--- The call to take next: the first record that isn't answered. There is no call to take while a call is pending, or if a record was
--- taken that isn't a call.
+-- The call to take next: the first record that isn't answered. There is no call to take while a
+-- call is pending, or if a record was taken that isn't a call.
 abbrev pub next_call : List ConnAct → Option (List ℕ)
 next_call acts = if took_no_call acts || is_busy acts then None else slice_get (records_of (stream acts)) (records_ended acts)
 
@@ -103,13 +105,13 @@ next_call acts = if took_no_call acts || is_busy acts then None else slice_get (
 abbrev pub is_idle : List ConnAct → Bool
 is_idle acts = is_none (next_call acts)
 
--- whether the record at the end of the stream is too long. If so, the server stores no more bytes of this
--- connection.
+-- whether the record at the end of the stream is too long. If so, the server stores no more bytes
+-- of this connection.
 abbrev pub is_overlong : List ConnAct → Bool
 is_overlong acts = ends_overlong (tail_of (stream acts))
 
--- whether the connection is at fault and only waits to be closed: a record that isn't a call was taken; or a record is too long, and all
--- records before this record are finished
+-- whether the connection is at fault and only waits to be closed: a record that isn't a call was
+-- taken; or a record is too long, and all records before this record are finished
 abbrev pub is_faulted : List ConnAct → Bool
 is_faulted acts = took_no_call acts || (is_overlong acts && (records_ended acts == length (records_of (stream acts))))
 

@@ -16,7 +16,8 @@ abbrev pub creates_link : Option CoreCall → Bool
 creates_link (Some call) = is_create_link call.arguments
 creates_link None = false
 
--- the number of the link that a call names; `None` if the call names no link, or a negative number, which no link has
+-- the number of the link that a call names; `None` if the call names no link, or a negative number,
+-- which no link has
 abbrev pub lid_of : Option ℤ → Option ℕ
 lid_of (Some (pos lid)) = Some lid
 lid_of _ = None

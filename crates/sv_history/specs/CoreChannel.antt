@@ -1,4 +1,5 @@
--- What each call of the core channel does if nothing stops it (VXI-11 revision 1.0, section B.6). `Admission` says what stops a call.
+-- What each call of the core channel does if nothing stops it (VXI-11 revision 1.0, section B.6).
+-- `Admission` says what stops a call.
 use Rattle.std.specs.Prelude.{ℕ, ◌+◌, ◌%◌, ◌==◌, not, pos, negsuc, Bool, false, List, [], ◌∷◌, ◌++◌, length, map, take, Option, Some, None, nat_lt, if◌then◌else◌}
 use Rattle.std.specs.Int.{bit_at}
 use Rattle.sv_errors.specs.declared.code.Code.TheVariants.{QueryUnterminated}
@@ -26,8 +27,8 @@ abbrev pub owns : ℕ → Option ℕ → List DeviceAct → Bool
 owns c (Some lid) acts = is_of c (owner lid (link_acts acts))
 owns c None acts = false
 
--- create_link: a link is created, and gets the lock if the call asks for the lock; error 9 if all link numbers
--- are used up
+-- create_link: a link is created, and gets the lock if the call asks for the lock; error 9 if all
+-- link numbers are used up
 abbrev pub make_link : Config → ℕ → Bool → List DeviceAct → CallOutcome
 make_link config c lock_device acts =
     if not (lids_left (link_acts acts)) then only (Link OutOfResources (pos 0) 0 0)
@@ -35,7 +36,8 @@ make_link config c lock_device acts =
     answer_with ((if lock_device then Linked (Locked lid) ∷ [] else []) ++ Linked (Made lid c) ∷ [])
     (Link NoError (pos lid) config.abort max_message))
 
--- device_lock: the link gets the lock, even if it already holds the lock; error 11 if another link holds the lock
+-- device_lock: the link gets the lock, even if it already holds the lock; error 11 if another link
+-- holds the lock
 abbrev pub device_lock : ℕ → List DeviceAct → CallOutcome
 device_lock lid acts = if is_locked_out (holder (link_acts acts)) (Some lid) then only (Plain DeviceLocked)
     else answer_with (Linked (Locked lid) ∷ []) (Plain NoError)
@@ -45,42 +47,46 @@ abbrev pub device_unlock : ℕ → List DeviceAct → CallOutcome
 device_unlock lid acts =
     if is_this lid (holder (link_acts acts)) then answer_with (Linked (Unlocked lid) ∷ []) (Plain NoError) else only (Plain NoLock)
 
--- device_write: the bytes are accepted; error 5 for more than 4,096 bytes; error 15 while the instrument hasn't
--- finished a message that came completely
+-- device_write: the bytes are accepted; error 5 for more than 4,096 bytes; error 15 while the
+-- instrument hasn't finished a message that came completely
 abbrev pub device_write : ℕ → List ℕ → List DeviceAct → CallOutcome
 device_write flags bytes acts =
     if nat_lt max_message (length bytes) then only (Size ParameterError 0)
     else (if has_ended (exchange_acts acts) then only (Size IoTimeout 0)
     else answer_with (Applied (Exchanged (Accepted bytes (bit_at flags 3 == 1))) ∷ []) (Size NoError (length bytes)))
 
--- the termination character: the low eight bits of `term_char` if bit 7 of the flags is set, else none
+-- the termination character: the low eight bits of `term_char` if bit 7 of the flags is set, else
+-- none
 abbrev pub term_of : ℕ → ℕ → Option ℕ
 term_of flags term_char = if bit_at flags 7 == 1 then Some (term_char % 256) else None
 
--- the result of a device_read of this response. It has the first bytes of the response, up to the requested number of bytes,
--- 8,192 bytes or the termination character, whichever comes first. It also has each of the three reasons that applies; none
--- applies if only the 8,192 bytes ended the read.
+-- the result of a device_read of this response. It has the first bytes of the response, up to the
+-- requested number of bytes, 8,192 bytes or the termination character, whichever comes first. It
+-- also has each of the three reasons that applies; none applies if only the 8,192 bytes ended the
+-- read.
 abbrev pub read_of : List ℕ → ℕ → Option ℕ → Outcome
 read_of bytes most term =
     let count = read_count bytes most term in
     Read NoError (record { request_count = count == most; character = ends_at_term bytes count term; end = count == length bytes })
     (take count bytes)
 
--- the outcome of a device_read while there is a response: the bytes that the read returns are removed from the
--- response
+-- the outcome of a device_read while there is a response: the bytes that the read returns are
+-- removed from the response
 abbrev pub reads : List ℕ → ℕ → Option ℕ → CallOutcome
 reads bytes most term = answer_with (Applied (Exchanged (ResponseRead (read_count bytes most term))) ∷ []) (read_of bytes most term)
 
--- device_read: returns bytes of the response; error 15 if there is no response. If moreover no response can come without a further
--- write, the text of the unfinished message is dropped, and the instrument's error -420 is reported.
+-- device_read: returns bytes of the response; error 15 if there is no response. If moreover no
+-- response can come without a further write, the text of the unfinished message is dropped, and the
+-- instrument's error -420 is reported.
 abbrev pub device_read : ℕ → Option ℕ → List DeviceAct → CallOutcome
 device_read most term acts =
     if is_something (response (exchange_acts acts)) then reads (response (exchange_acts acts)) most term
     else (if not (is_answerable (instrument_acts acts)) then only (no_bytes IoTimeout)
     else answer_with (Applied (Reported QueryUnterminated) ∷ Applied (Exchanged TextDropped) ∷ []) (no_bytes IoTimeout))
 
--- What a call on this link does, if a poll of the status byte would return `polled`. device_remote and device_local do nothing.
--- device_docmd isn't supported (error 8). device_abort isn't a call of this channel, and gets error 8 too.
+-- What a call on this link does, if a poll of the status byte would return `polled`. device_remote
+-- and device_local do nothing. device_docmd isn't supported (error 8). device_abort isn't a call of
+-- this channel, and gets error 8 too.
 abbrev pub link_call : ℕ → ℕ → ℕ → LinkCall → List DeviceAct → CallOutcome
 link_call polled c lid (DeviceWrite io_timeout lock_timeout flags bytes) acts = device_write flags bytes acts
 link_call polled c lid (DeviceRead request_size io_timeout lock_timeout flags term_char) acts =
@@ -97,9 +103,10 @@ link_call polled c lid (DeviceEnableSrq enable handle) acts =
 link_call polled c lid DestroyLink acts = answer_with (Linked (Destroyed lid) ∷ []) (Plain NoError)
 link_call polled c lid call acts = only (failure (OnLink (pos lid) call) NotSupported)
 
--- What any call of the core channel does. A call that names a negative link number fails, because no link has such a number. The
--- error 8 that create_intr_chan would get here is never sent: `Admission` stops each create_intr_chan first; if the call is
--- suspended, `connect_outcome` (in `Interrupts`) is its later outcome.
+-- What any call of the core channel does. A call that names a negative link number fails, because
+-- no link has such a number. The error 8 that create_intr_chan would get here is never sent:
+-- `Admission` stops each create_intr_chan first; if the call is suspended, `connect_outcome` (in
+-- `Interrupts`) is its later outcome.
 abbrev pub own_call : Config → ℕ → ℕ → Arguments → List DeviceAct → CallOutcome
 own_call config polled c (CreateLink client_id lock_device lock_timeout device) acts = make_link config c lock_device acts
 own_call config polled c (OnLink (pos lid) call) acts = link_call polled c lid call acts

@@ -11,7 +11,8 @@ pub record Effect : Type 0 where
   pub own : List ConnAct
   pub adds : List DeviceAct
 
--- the acts of an effect, the newest first: the acts of connection `c` come in front of the acts of the device
+-- the acts of an effect, the newest first: the acts of connection `c` come in front of the acts of
+-- the device
 abbrev pub acts_of : ℕ → Effect → List Act
 acts_of c effect = map (On c) effect.own ++ map OnDevice effect.adds
 

@@ -51,6 +51,7 @@ IsEvent (Dialed conn ok) = conn < 256
 IsEvent (Input channel microvolts) = (channel < 256) × (neg_ℤ (pos (2 ^ 63)) ≤ℤ microvolts) × (microvolts <ℤ pos (2 ^ 63))
 IsEvent _ = ⊤
 
--- The code's type `Config` allows this configuration: each number lies in the range of its field's type.
+-- The code's type `Config` allows this configuration: each number lies in the range of its field's
+-- type.
 abbrev pub IsConfig : Config → Type 0
 IsConfig config = (config.core < 2 ^ 16) × (config.abort < 2 ^ 16) × (config.clock < 2 ^ 64)

@@ -18,7 +18,8 @@ abbrev pub port_reply : ℕ → Result ℕ Garbage → List ℕ
 port_reply xid (Ok port) = reply_record xid Success (Unsigned port ∷ [])
 port_reply xid (Err garbage) = reply_record xid GarbageArgs []
 
--- The effect of a request, if a poll of the status byte would return `polled`. A record that isn't a call puts its connection at fault.
+-- The effect of a request, if a poll of the status byte would return `polled`. A record that isn't
+-- a call puts its connection at fault.
 abbrev pub request_effect : Config → ℕ → ℕ → Request → List DeviceAct → Effect
 request_effect config polled c NoCall acts = record { own = Faulted ∷ []; adds = [] }
 request_effect config polled c (Decided xid reply) acts = only_reply (reply_record xid reply [])
@@ -28,7 +29,8 @@ request_effect config polled c (AbortRequest xid lid) acts = only_reply (result_
 request_effect config polled c (PortRequest xid args) acts =
     only_reply (port_reply xid (port_at (record { core = config.core; abort = config.abort }) args))
 
--- if this request is a device_abort that ends a suspended call: the connection of that call; else `None`
+-- if this request is a device_abort that ends a suspended call: the connection of that call; else
+-- `None`
 abbrev pub aborts : Request → List DeviceAct → Option ℕ
 aborts (AbortRequest xid lid) acts = if_waiting (owner_of (lid_of (Some lid)) acts) (lid_of (Some lid)) acts
 aborts _ acts = None

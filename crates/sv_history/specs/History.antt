@@ -1,5 +1,5 @@
--- The log of a history, and which events the server refuses. A history is a list of events that weren't refused, the newest
--- first.
+-- The log of a history, and which events the server refuses. A history is a list of events that
+-- weren't refused, the newest first.
 use Rattle.std.specs.Prelude.{◌≡◌, ℕ, ◌+◌, ◌||◌, ◌==◌, not, ℤ, pos, negsuc, Bool, true, List, [], ◌∷◌, ◌++◌, length, map, Option, Some, None, is_none, Result, Ok, Err, nat_lt, if◌then◌else◌}
 use Rattle.sv_errors.specs.Limits.{is_channel, most_microvolts}
 use Rattle.sv_vxi.specs.declared.error_code.ErrorCode.TheVariants.{Abort}
@@ -31,14 +31,14 @@ use Rattle.sv_history.specs.PolledStatus.{IsPolled}
 use Rattle.sv_history.specs.Settling.{Settles}
 use Rattle.sv_history.specs.Limits.{longest_reply}
 
--- the acts by which a device_abort makes the suspended call of a connection fail with error 23; none if the connection is
--- `None`
+-- the acts by which a device_abort makes the suspended call of a connection fail with error 23;
+-- none if the connection is `None`
 abbrev pub abort_acts : Option ℕ → List Act → List Act
 abort_acts (Some c) log = acts_of c (failure_effect Abort c (core_call_in (pending_call (of c log))))
 abort_acts None log = []
 
--- the acts of a record that was taken: the act of taking the record; the record's own effect; and, if the record aborts a suspended
--- call, the end of that call
+-- the acts of a record that was taken: the act of taking the record; the record's own effect; and,
+-- if the record aborts a suspended call, the end of that call
 abbrev pub taken_acts : ℕ → List ℕ → Effect → Option ℕ → List Act → List Act
 taken_acts c bytes effect aborts log =
     let acts = acts_of c effect ++ On c (CallTaken bytes) ∷ [] in abort_acts aborts (acts ++ log) ++ acts
@@ -56,8 +56,9 @@ abbrev pub refuse_acts : ℕ → Option (List ℕ) → Option CoreCall → List 
 refuse_acts c (Some bytes) (Some call) = On c (Replied (refused_reply call)) ∷ On c (CallTaken bytes) ∷ []
 refuse_acts c _ _ = []
 
--- The acts that an event itself adds to the log, if a poll of the status byte would return `polled`. Closing a connection ends its
--- suspended call, destroys its links from the lowest number up, and closes its interrupt channel.
+-- The acts that an event itself adds to the log, if a poll of the status byte would return
+-- `polled`. Closing a connection ends its suspended call, destroys its links from the lowest number
+-- up, and closes its interrupt channel.
 abbrev pub own_acts : Config → ℕ → PlainEvent → List Act → List Act
 own_acts config polled (Open c role) log = On c (Opened role) ∷ []
 own_acts config polled (Bytes c piece) log = On c (Piece piece) ∷ []
@@ -92,7 +93,8 @@ abbrev pub is_beyond : ℤ → Bool
 is_beyond (pos n) = nat_lt most_microvolts n
 is_beyond (negsuc n) = nat_lt most_microvolts (n + 1)
 
--- why an Input event is refused: there is no such channel; or the voltage is beyond plus or minus 1,000 V
+-- why an Input event is refused: there is no such channel; or the voltage is beyond plus or minus
+-- 1,000 V
 abbrev pub input_refusal : ℕ → ℤ → Option Refused
 input_refusal channel microvolts =
     if not (is_channel channel) then Some BadChannel else (if is_beyond microvolts then Some BadInput else None)
@@ -101,12 +103,13 @@ input_refusal channel microvolts =
 abbrev pub last_clock : ℕ
 last_clock = 9223372036854775807
 
--- why a Turn event of an open connection is refused: there is a call to take, but no room for the longest reply
+-- why a Turn event of an open connection is refused: there is a call to take, but no room for the
+-- longest reply
 abbrev pub turn_refusal : List ConnAct → Option Refused
 turn_refusal acts = if is_idle acts then None else (if nat_lt (free acts) longest_reply then Some NoRoom else None)
 
--- why a Refuse event of an open connection is itself refused: the connection has no next call that the server can answer with error 9; or
--- there is no room for the longest reply
+-- why a Refuse event of an open connection is itself refused: the connection has no next call that
+-- the server can answer with error 9; or there is no room for the longest reply
 abbrev pub refuse_refusal : List ConnAct → Option Refused
 refuse_refusal acts =
     if is_none (refusable acts) then Some NotRefusable else (if nat_lt (free acts) longest_reply then Some NoRoom else None)
@@ -115,12 +118,13 @@ refuse_refusal acts =
 abbrev pub took_refusal : ℕ → List ℕ → Option Refused
 took_refusal count bytes = if nat_lt (length bytes) count then Some NotSent else None
 
--- the refusal of an event that needs an open connection: `NoConn` if the connection isn't open, else `other`
+-- the refusal of an event that needs an open connection: `NoConn` if the connection isn't open,
+-- else `other`
 abbrev pub unless_shut : ℕ → List Act → Option Refused → Option Refused
 unless_shut c log other = if is_shut c log then Some NoConn else other
 
--- The first check that an event fails; `None` if the event fails no check. `channel_log` is the log of the interrupt channels. Running
--- out of memory isn't one of these checks.
+-- The first check that an event fails; `None` if the event fails no check. `channel_log` is the log
+-- of the interrupt channels. Running out of memory isn't one of these checks.
 abbrev pub refusal : Config → List ChannelAct → PlainEvent → List Act → Option Refused
 refusal config channel_log (Open c role) log = if nat_lt 15 c then Some NoConn else (if is_open (of c log) then Some ConnInUse else None)
 refusal config channel_log (Bytes c piece) log = unless_shut c log (if nat_lt (room (of c log)) (length piece) then Some NoRoom else None)
@@ -136,8 +140,8 @@ refusal config channel_log (Input channel microvolts) log = input_refusal channe
 refusal config channel_log External log = None
 refusal config channel_log Tick log = if config.clock + ticks (device_acts log) == last_clock then Some TimeOver else None
 
--- This is the log of this history: for each event the event's own acts, and then the acts of the steps that are due. No event of the
--- history is refused, and each number is in range.
+-- This is the log of this history: for each event the event's own acts, and then the acts of the
+-- steps that are due. No event of the history is refused, and each number is in range.
 abbrev pub IsLogOf : Config → List PlainEvent → List Act → Type 0
 IsLogOf config [] log = IsConfig config × (log ≡ [])
 IsLogOf config (event ∷ history) log = (before : List Act) × (polled : ℕ) × (channel_log : List ChannelAct) × IsEvent event
@@ -150,12 +154,14 @@ abbrev pub did : PlainEvent → List Act → Did
 did (Turn c) log = if is_idle (of c log) then Idle else Done
 did _ log = Done
 
--- whether the server needs memory for these acts: they create a link, or suspend a create_link or a create_intr_chan
+-- whether the server needs memory for these acts: they create a link, or suspend a create_link or a
+-- create_intr_chan
 abbrev pub wants_memory : List DeviceAct → Bool
 wants_memory acts = nat_lt 0 (links_made (link_acts acts)) || (nat_lt 0 (creating (wait_acts acts)) || nat_lt 0 (dialing (wait_acts acts)))
 
--- This is the result of an event: what the event did, or the first check that it failed. The server can run out of memory only if the
--- event fails no check, and creates a link or suspends a create_link or a create_intr_chan.
+-- This is the result of an event: what the event did, or the first check that it failed. The server
+-- can run out of memory only if the event fails no check, and creates a link or suspends a
+-- create_link or a create_intr_chan.
 abbrev pub AnswersBy : Config → List ChannelAct → PlainEvent → List Act → Result Did Refused → Type 0
 AnswersBy config channel_log event log (Ok what) = (refusal config channel_log event log ≡ None) × (what ≡ did event log)
 AnswersBy config channel_log event log (Err NoMemory) = (refusal config channel_log event log ≡ None) × (polled : ℕ)

@@ -2,8 +2,9 @@
 use Rattle.std.specs.Prelude.{ℕ, ◌+◌}
 use Rattle.sv_exchange.specs.Limits.{max_read}
 
--- the length of the longest reply in bytes, with its record mark. The longest reply is one to a device_read: it has 40 bytes besides the
--- data that the read returns (RFC 5531, sections 9 and 11; VXI-11, device_read).
+-- the length of the longest reply in bytes, with its record mark. The longest reply is one to a
+-- device_read: it has 40 bytes besides the data that the read returns (RFC 5531, sections 9 and 11;
+-- VXI-11, device_read).
 abbrev pub longest_reply : ℕ
 longest_reply = 40 + max_read
 

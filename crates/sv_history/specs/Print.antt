@@ -1,5 +1,5 @@
--- What a replay prints for an event: the refusal, if the event was refused, and a line for each connection and each interrupt channel on
--- which bytes wait to be sent.
+-- What a replay prints for an event: the refusal, if the event was refused, and a line for each
+-- connection and each interrupt channel on which bytes wait to be sent.
 use Rattle.std.specs.Prelude.{ℕ, zero, suc, ◌-◌, Bool, true, false, List, [], ◌∷◌, ◌++◌, map, length, codes, decimal, nat_lt, Result, Ok, Err, if◌then◌else◌}
 use Rattle.hex.specs.Hex.{encode_lower}
 use Rattle.sv_links.specs.Channels.{ChannelAct}
@@ -34,8 +34,8 @@ abbrev pub port_name : Port → List ℕ
 port_name (Conn c) = 99 ∷ decimal c
 port_name (Intr c) = 105 ∷ decimal c
 
--- the line of a port: all bytes that wait to be sent on the port, as lower-case hex digits; no line if no
--- bytes wait
+-- the line of a port: all bytes that wait to be sent on the port, as lower-case hex digits; no line
+-- if no bytes wait
 abbrev pub port_line : Port → List ℕ → List ℕ
 port_line port [] = []
 port_line port (byte ∷ bytes) = port_name port ++ 32 ∷ (encode_lower (byte ∷ bytes) ++ 10 ∷ [])
@@ -45,8 +45,8 @@ abbrev pub below : ℕ → List ℕ
 below zero = []
 below (suc n) = below n ++ n ∷ []
 
--- the port at index n in the order of the lines: connections 0 to 15 come first, then the interrupt channels of
--- connections 0 to 15
+-- the port at index n in the order of the lines: connections 0 to 15 come first, then the interrupt
+-- channels of connections 0 to 15
 abbrev pub port_of : ℕ → Port
 port_of n = if nat_lt n 16 then Conn n else Intr (n - 16)
 
@@ -54,7 +54,8 @@ port_of n = if nat_lt n 16 then Conn n else Intr (n - 16)
 abbrev pub ports : List Port
 ports = map port_of (below 32)
 
--- the lines that a replay prints for these ports, given the log and the log of the interrupt channels
+-- the lines that a replay prints for these ports, given the log and the log of the interrupt
+-- channels
 abbrev pub lines_of : List ChannelAct → List Port → List Act → List ℕ
 lines_of channel_log [] log = []
 lines_of channel_log (port ∷ others) log = port_line port (waiting_on channel_log port log) ++ lines_of channel_log others log

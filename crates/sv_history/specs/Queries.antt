@@ -27,6 +27,7 @@ Decided IsSuch config history result = (log : List Act) × IsLogOf config histor
 abbrev pub IsUnused : ℕ → List Act → Type 0
 IsUnused n log = (c : ℕ) → n ≤ c → of c log ≡ []
 
--- This is the lowest number such that the log has no act of a connection with this number or a higher one.
+-- This is the lowest number such that the log has no act of a connection with this number or a
+-- higher one.
 abbrev pub IsUsed : ℕ → List Act → Type 0
 IsUsed n log = IsUnused n log × ((c : ℕ) → n ≡ suc c → of c log ≢ [])

@@ -1,5 +1,6 @@
--- Refusing a call for lack of resources (VXI-11 revision 1.0, section B.5, error 9). The server can refuse only a create_link or a
--- create_intr_chan in this way, because only these two calls allocate memory.
+-- Refusing a call for lack of resources (VXI-11 revision 1.0, section B.5, error 9). The server can
+-- refuse only a create_link or a create_intr_chan in this way, because only these two calls
+-- allocate memory.
 use Rattle.std.specs.Prelude.{ℕ, Bool, true, false, List, Option, Some, None, if◌then◌else◌}
 use Rattle.sv_vxi.specs.declared.error_code.ErrorCode.TheVariants.{OutOfResources}
 use Rattle.sv_vxi.specs.Arguments.{Arguments, CreateLink, CreateIntrChan}

@@ -1,19 +1,20 @@
--- The log of the interrupt channels (VXI-11 revision 1.0, section B.6, device_intr_srq; IEEE 488.2, 11.3). This log has the acts of the
--- channels, and each request for service that is raised. For each link that is destroyed, the log has an act that disables the link's
--- service requests.
+-- The log of the interrupt channels (VXI-11 revision 1.0, section B.6, device_intr_srq; IEEE 488.2,
+-- 11.3). This log has the acts of the channels, and each request for service that is raised. For
+-- each link that is destroyed, the log has an act that disables the link's service requests.
 use Rattle.std.specs.Prelude.{◌≡◌, ◌↔◌, Bool, true, false, List, [], ◌∷◌}
 use Rattle.sv_links.specs.Links.{LinkAct, Destroyed}
 use Rattle.sv_links.specs.Channels.{ChannelAct, SrqDisabled, Requested}
 use Rattle.sv_layers.specs.StatusByte.{IsRaised}
 use Rattle.sv_history.specs.Act.{DeviceAct, Linked, Channel, Applied, instrument_acts}
 
--- the log of the interrupt channels after an act of a link; if the act destroys the link, an act that disables the link's service requests
--- is added
+-- the log of the interrupt channels after an act of a link; if the act destroys the link, an act
+-- that disables the link's service requests is added
 abbrev pub link_told : LinkAct → List ChannelAct → List ChannelAct
 link_told (Destroyed lid) channel_log = SrqDisabled lid ∷ channel_log
 link_told _ channel_log = channel_log
 
--- the log of the interrupt channels after an act of the instrument; if the act raises a request for service, the request is added in front
+-- the log of the interrupt channels after an act of the instrument; if the act raises a request for
+-- service, the request is added in front
 abbrev pub request_told : Bool → List ChannelAct → List ChannelAct
 request_told true channel_log = Requested ∷ channel_log
 request_told false channel_log = channel_log

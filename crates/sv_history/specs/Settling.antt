@@ -15,8 +15,8 @@ use Rattle.sv_history.specs.Request.{core_call_in}
 use Rattle.sv_history.specs.Effect.{acts_of}
 use Rattle.sv_history.specs.Resuming.{resume_effect, failure_effect, late}
 
--- The instrument takes a step: `IsSuch` holds of the log that the instrument has before the step and the log that it has after
--- the step. The step adds acts to the instrument's log.
+-- The instrument takes a step: `IsSuch` holds of the log that the instrument has before the step
+-- and the log that it has after the step. The step adds acts to the instrument's log.
 abbrev pub InstrumentDoes : (List InstrumentAct → List InstrumentAct → Type 0) → List Act → List Act → Type 0
 InstrumentDoes IsSuch log new = (adds : List InstrumentAct)
     × IsSuch (instrument_acts (device_acts log)) (adds ++ instrument_acts (device_acts log))
@@ -45,8 +45,9 @@ TimesOut config log new = (c : ℕ) × (wait : Wait)
 abbrev pub First : (List Act → Type 0) → (List Act → Type 0) → List Act → Type 0
 First IsOne IsOther new = IsOne new ⊎ (((one : List Act) → IsOne one → ⊥) × IsOther new)
 
--- The step that is due leads to the new log. It is the first of these that is possible: an immediate trigger; a suspended call resumes; a
--- step of message exchange; a suspended call times out.
+-- The step that is due leads to the new log. It is the first of these that is possible: an
+-- immediate trigger; a suspended call resumes; a step of message exchange; a suspended call times
+-- out.
 abbrev pub IsNext : Config → List Act → List Act → Type 0
 IsNext config log =
     First (InstrumentDoes IsFired log) (First (Resumes config log) (First (InstrumentDoes IsStep log) (TimesOut config log)))
@@ -60,6 +61,7 @@ abbrev pub SettlesIn : ℕ → Config → List Act → List Act → Type 0
 SettlesIn zero config log new = IsSettled config log × (new ≡ log)
 SettlesIn (suc n) config log new = (middle : List Act) × IsNext config log middle × SettlesIn n config middle new
 
--- After some number of steps, each of which was due, `log` has become `new`, and no further step is due.
+-- After some number of steps, each of which was due, `log` has become `new`, and no further step is
+-- due.
 abbrev pub Settles : Config → List Act → List Act → Type 0
 Settles config log new = (n : ℕ) × SettlesIn n config log new

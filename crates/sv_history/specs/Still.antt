@@ -11,7 +11,7 @@ use Rattle.sv_history.specs.Act.{DeviceAct, wait_acts, instrument_acts, ticks}
 abbrev pub IsUnhurried : ℕ → Config → List DeviceAct → Type 0
 IsUnhurried most config acts = (c : ℕ) → IsExpired (config.clock + ticks acts + most) (wait_acts acts) c → ⊥
 
--- No suspended call has a deadline within `most` milliseconds, and no scan is under way. (During a scan the instrument reads a
--- channel each millisecond.)
+-- No suspended call has a deadline within `most` milliseconds, and no scan is under way. (During a
+-- scan the instrument reads a channel each millisecond.)
 abbrev pub IsStill : ℕ → Config → List DeviceAct → Type 0
 IsStill most config acts = (is_scanning (state (effective_acts (instrument_acts acts))) ≡ false) × IsUnhurried most config acts

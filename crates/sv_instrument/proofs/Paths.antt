@@ -1,5 +1,5 @@
--- The path in front of the next unit: the root where no unit of the message began, whatever that is; what a unit leaves that starts; the
--- same where none does.
+-- The path in front of the next unit: the root where no unit of the message began, whatever that
+-- is; what a unit leaves that starts; the same where none does.
 use Rattle.std.proofs.Common.{◌≡◌, ℕ, zero, suc, ◌+◌, Bool, true, false, List, [], ◌∷◌, ◌++◌, Option, Some, None, Result, length, take, ap, refl, sym, subst, ◌∙◌, IsTrue, arith, cond}
 use Rattle.std.proofs.lemmas.List.{reverse-append}
 use Rattle.std.specs.Prelude.{reverse, slice_get}

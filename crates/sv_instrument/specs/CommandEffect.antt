@@ -1,5 +1,6 @@
--- The acts that an order adds to the log (IEEE 488.2, chapter 10; SCPI-1999, volume 2): first those of its effect; then the end of its
--- unit; then its answer, if it has one. An order that can't be performed in the present state reports an error and has no other effect.
+-- The acts that an order adds to the log (IEEE 488.2, chapter 10; SCPI-1999, volume 2): first those
+-- of its effect; then the end of its unit; then its answer, if it has one. An order that can't be
+-- performed in the present state reports an error and has no other effect.
 use Rattle.std.specs.Prelude.{◌≡◌, ℕ, List, ◌∷◌, Option, Some, None, pos, if◌then◌else◌}
 use Rattle.sv_errors.specs.declared.code.Code.{Code}
 use Rattle.sv_errors.specs.declared.code.Code.TheVariants.{QueryDeadlocked, DataCorruptOrStale}
@@ -26,15 +27,15 @@ use Rattle.sv_instrument.specs.QueryResponse.{Says}
 abbrev pub done : List Act → List Act
 done log = Exchanged UnitDone ∷ log
 
--- if the answer fits, the log after it is added to the answers of the message; else the log after all answers of the message are
--- dropped and -430 is reported
+-- if the answer fits, the log after it is added to the answers of the message; else the log after
+-- all answers of the message are dropped and -430 is reported
 abbrev pub after_answering : List ℕ → List Act → List Act
 after_answering text log =
     if fits_response (answers (exchange_acts log)) text then Exchanged (Answered text) ∷ log
     else Reported QueryDeadlocked ∷ Exchanged AnswersDropped ∷ log
 
--- with an error: the log after this error is reported and the unit is done; without an error: `acts`, the log after the order is
--- performed
+-- with an error: the log after this error is reported and the unit is done; without an error:
+-- `acts`, the log after the order is performed
 abbrev pub unless : Option Code → List Act → List Act → List Act
 unless (Some code) acts log = done (Reported code ∷ log)
 unless None acts log = acts
@@ -44,29 +45,31 @@ abbrev pub set_list : Option (List ℕ) → List Act → List Act
 set_list None log = log
 set_list (Some channels) log = Scanned (scan.Configure (setting.List channels)) ∷ log
 
--- the log after a measurement is configured: the previous measurement is aborted; range (10 V), source of triggers (immediate) and number
--- of scans (1) get their defaults; then the scan list is set, if one is given
+-- the log after a measurement is configured: the previous measurement is aborted; range (10 V),
+-- source of triggers (immediate) and number of scans (1) get their defaults; then the scan list is
+-- set, if one is given
 abbrev pub after_configure : Option (List ℕ) → List Act → List Act
 after_configure list log = set_list list
     (Scanned (scan.Configure (setting.Count 1)) ∷ Scanned (scan.Configure (setting.Source Immediate))
     ∷ Scanned (scan.Configure (setting.Range (pos 10000000))) ∷ Scanned scan.Abort ∷ log)
 
--- the log after a query's effect: a query that removes an entry of the error queue or clears a register adds an act; every other query adds
--- none
+-- the log after a query's effect: a query that removes an entry of the error queue or clears a
+-- register adds an act; every other query adds none
 abbrev pub after_query : Question → List Act → List Act
 after_query question.StandardEvents log = StatusChanged status.ReadStandard ∷ log
 after_query question.Error log = EntryTaken ∷ log
 after_query (question.Events name) log = StatusChanged (status.Register name ReadEvents) ∷ log
 after_query asked log = log
 
--- the error of a query that can't be answered: -230 if the query fetches the readings, and the measurement isn't complete, was
--- aborted or doesn't exist. `None` if the query can be answered.
+-- the error of a query that can't be answered: -230 if the query fetches the readings, and the
+-- measurement isn't complete, was aborted or doesn't exist. `None` if the query can be answered.
 abbrev pub question_fault : Question → List Act → Option Code
 question_fault question.Readings log = if is_complete (effective_acts log) then None else Some DataCorruptOrStale
 question_fault asked log = None
 
--- The query can't be answered (`Some`): its error is reported, and the unit is done without an answer. Or the query is answered (`None`):
--- if it removes an entry of the error queue or clears a register, this happens before its answer is added.
+-- The query can't be answered (`Some`): its error is reported, and the unit is done without an
+-- answer. Or the query is answered (`None`): if it removes an entry of the error queue or clears a
+-- register, this happens before its answer is added.
 abbrev pub Replies : Option Code → Question → List Act → List Act → Type 0
 Replies (Some code) asked log new = new ≡ done (Reported code ∷ log)
 Replies None asked log new = (text : List ℕ) × Says asked log text × (new ≡ after_answering text (done (after_query asked log)))

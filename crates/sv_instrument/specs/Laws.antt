@@ -6,7 +6,8 @@ use Rattle.sv_instrument.specs.declared.command.order.Order.{Order}
 use Rattle.sv_instrument.specs.Command.Unit.{IsReadAs}
 use Rattle.sv_instrument.specs.Step.{IsStep}
 
--- A unit can be read relative to a path in only one way: as one order or one error, and with one path for the next unit.
+-- A unit can be read relative to a path in only one way: as one order or one error, and with one
+-- path for the next unit.
 abbrev pub OneReading : Type 0
 OneReading = (path : List (List ℕ)) (unit : List ℕ) (a b : Result Order Code) (p q : List (List ℕ)) → IsReadAs path unit a p
     → IsReadAs path unit b q → (a ≡ b) × (p ≡ q)

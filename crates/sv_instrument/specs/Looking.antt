@@ -1,4 +1,5 @@
--- What is due at the instrument, as an answer to a question: which step comes next, before it is taken.
+-- What is due at the instrument, as an answer to a question: which step comes next, before it is
+-- taken.
 use Rattle.std.specs.Prelude.{◌≡◌, true, Bool, List, Some, None, is_none}
 use Rattle.sv_errors.specs.declared.source.Source.TheVariants.{Immediate}
 use Rattle.sv_scan.specs.Counted.{trigger_fault}
@@ -15,8 +16,9 @@ use Rattle.sv_instrument.specs.declared.looking.Step.TheVariants as step
 abbrev pub is_fire_due : List Act → Bool
 is_fire_due log = is_none (trigger_fault (effective_acts log) Immediate)
 
--- This step of message exchange is due after the log. A held unit ends once no measurement is under way; every other step needs that no
--- unit is held. A step in which a unit starts has the unit and its place in the current message.
+-- This step of message exchange is due after the log. A held unit ends once no measurement is under
+-- way; every other step needs that no unit is held. A step in which a unit starts has the unit and
+-- its place in the current message.
 abbrev pub IsDue : Step → List Act → Type 0
 IsDue step.Release log = (is_held (held_unit log) ≡ true) × (is_idle log ≡ true)
 IsDue step.Overrun log = (held_unit log ≡ None) × (due (exchange_acts log) ≡ OverrunDue)

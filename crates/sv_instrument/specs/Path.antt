@@ -1,5 +1,5 @@
--- The path for the next unit of a message (SCPI-1999, volume 1, 6.2.4). It results from the units that began: each unit is read relative to
--- the path that the units before it leave.
+-- The path for the next unit of a message (SCPI-1999, volume 1, 6.2.4). It results from the units
+-- that began: each unit is read relative to the path that the units before it leave.
 use Rattle.std.specs.Prelude.{◌≡◌, ℕ, ◌+◌, List, [], ◌∷◌, Option, Some, None, Result, take, reverse}
 use Rattle.sv_errors.specs.declared.code.Code.{Code}
 use Rattle.sv_exchange.specs.Exchange.{units, message, units_done, current}
@@ -20,7 +20,8 @@ abbrev pub one_if_held : Option Awaited → ℕ
 one_if_held None = 0
 one_if_held (Some awaited) = 1
 
--- how many units of the current message began: the units that are done, and the held unit, if there is one
+-- how many units of the current message began: the units that are done, and the held unit, if there
+-- is one
 abbrev pub units_begun : List Act → ℕ
 units_begun log = units_done (current (exchange_acts log)) + one_if_held (held_unit log)
 

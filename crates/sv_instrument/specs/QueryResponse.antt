@@ -1,5 +1,5 @@
--- The answer to each query (IEEE 488.2, chapter 10; SCPI-1999, volume 2). It is a text. It depends on the log as it is before the query
--- removes an entry or clears a register.
+-- The answer to each query (IEEE 488.2, chapter 10; SCPI-1999, volume 2). It is a text. It depends
+-- on the log as it is before the query removes an entry or clears a register.
 use Rattle.std.specs.Prelude.{◌≡◌, ◌↔◌, ℕ, ◌<◌, true, false, List, [], ◌∷◌, Option, length, codes, decimal, unwrap_or}
 use Rattle.std.specs.List.{join_by}
 use Rattle.std.specs.Int.{bit_at}
@@ -40,7 +40,8 @@ reading_text Under = overload_text true
 abbrev pub readings_text : List Reading → List ℕ
 readings_text given = join_by reading_text (codes ",") given
 
--- the answer to `SYSTem:ERRor?`: the oldest entry of the error queue; `0,"No error"` if the queue is empty
+-- the answer to `SYSTem:ERRor?`: the oldest entry of the error queue; `0,"No error"` if the queue
+-- is empty
 abbrev pub oldest_text : Option Code → List ℕ
 oldest_text oldest = error_text (unwrap_or oldest NoError)
 

@@ -10,8 +10,8 @@ use Rattle.sv_instrument.specs.HeldUnit.{held_unit}
 use Rattle.sv_instrument.specs.Path.{IsPath}
 use Rattle.sv_instrument.specs.RequestCount.{Raises}
 
--- the state of the instrument: its layers; what the held unit will answer, or `None` if no unit is held; and the path for the next
--- header
+-- the state of the instrument: its layers; what the held unit will answer, or `None` if no unit is
+-- held; and the path for the next header
 pub record Kept : Type 0 where
   pub layers : LayerState
   pub held : Option Awaited
@@ -23,13 +23,14 @@ pub record StandsFor (kept : Kept) (log : List Act) : Type 0 where
   pub held : kept.held ≡ held_unit log
   pub path : IsPath log kept.path
 
--- The state of the instrument stands for the log `new`, and `count` requests for service were raised since `log`.
+-- The state of the instrument stands for the log `new`, and `count` requests for service were
+-- raised since `log`.
 pub record Ran (kept : Kept) (count : ℕ) (log new : List Act) : Type 0 where
   pub stands : StandsFor kept new
   pub raises : Raises log new count
 
--- For `Some count`: the instrument took the step that was due (`IsNext` says which), and this step raised `count` requests for service. For
--- `None`: no step is due.
+-- For `Some count`: the instrument took the step that was due (`IsNext` says which), and this step
+-- raised `count` requests for service. For `None`: no step is due.
 abbrev pub Takes : (List Act → List Act → Type 0) → Kept → Option ℕ → List Act → Type 0
 Takes IsNext kept None log = (new : List Act) → IsNext log new → ⊥
 Takes IsNext kept (Some count) log = (new : List Act) × IsNext log new × Ran kept count log new
@@ -45,8 +46,8 @@ waits Waiting = 1
 waits Idle = 0
 waits Scanning = 0
 
--- a number that measures how many steps of the instrument remain. Each step and each immediate trigger makes this number smaller. So a loop
--- that takes all steps that are due comes to an end.
+-- a number that measures how many steps of the instrument remain. Each step and each immediate
+-- trigger makes this number smaller. So a loop that takes all steps that are due comes to an end.
 abbrev pub instrument_measure : Kept → ℕ
 instrument_measure kept = 2 * (2 * exchange_measure kept.layers.exchange + one_if_unheld kept.held)
     + waits (state_by kept.layers)

@@ -1,4 +1,5 @@
--- Queries whose response is read before anything else is written: the laws of specs/QueryAlone.antt.
+-- Queries whose response is read before anything else is written: the laws of
+-- specs/QueryAlone.antt.
 pub mod Texts
 pub mod Steps
 pub mod Written

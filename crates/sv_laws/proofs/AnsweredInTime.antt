@@ -1,4 +1,5 @@
--- After a Turn takes a call, and after as many Ticks as the call's longest wait has milliseconds, the call has its reply.
+-- After a Turn takes a call, and after as many Ticks as the call's longest wait has milliseconds,
+-- the call has its reply.
 use Rattle.std.proofs.Common.{◌≡◌, ℕ, ◌+◌, ◌<◌, Bool, true, false, cond, eqb, List, [], ◌∷◌, ◌++◌, length, nat_lt, Option, Some, None, refl, sym, ap, subst, ◌∙◌, inl, inr, ◌⊎◌, append_assoc, eq-eqb, arith}
 use Rattle.std.specs.Prelude.{is_some, ⊤, Result, Err}
 use Rattle.std.specs.List.{AllByRecursion}
@@ -67,7 +68,8 @@ stays_role (Opened role ∷ acts) own h = absurd h
 stays_role (PortClosed ∷ acts) own h = absurd h
 stays_role (_ ∷ acts) own h = stays_role acts own h
 
--- A call was taken. Since then either no reply was sent and no other call was taken, and it is pending; or there are more replies.
+-- A call was taken. Since then either no reply was sent and no other call was taken, and it is
+-- pending; or there are more replies.
 abbrev Goes : List ℕ → List ConnAct → List ConnAct → Type 0
 Goes bytes front own = ((length (replies (front ++ CallTaken bytes ∷ own)) ≡ length (replies own))
     × (pending_call (front ++ CallTaken bytes ∷ own) ≡ Some bytes) × NoCalls front)

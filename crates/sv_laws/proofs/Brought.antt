@@ -70,7 +70,8 @@ abbrev pub OnlyAdds : ℕ → List ChannelAct → List ChannelAct → Type 0
 OnlyAdds c before after = is_channel_open c after ≡ true → (is_channel_open c before ≡ true) × (bytes_taken c after ≡ bytes_taken c before)
     × (more : List (List ℕ)) × (calls c after ≡ calls c before ++ more)
 
--- An event tells to each interrupt channel its own act, and behind it a channel is closed, or calls are added to it.
+-- An event tells to each interrupt channel its own act, and behind it a channel is closed, or calls
+-- are added to it.
 abbrev pub OnlyRequests : Type 0
 OnlyRequests = (config : Config) (event : PlainEvent) (history : List PlainEvent) (before log : List Act)
     (channel_log later : List ChannelAct) (c : ℕ) → IsLogOf config history before → HearsOf (device_acts before) channel_log

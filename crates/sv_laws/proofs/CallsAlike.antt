@@ -1,4 +1,5 @@
--- What the call of a connection waits for, until when, and on which link: over an act of others, and over the same act.
+-- What the call of a connection waits for, until when, and on which link: over an act of others,
+-- and over the same act.
 use Rattle.std.proofs.Common.{◌≡◌, ◌≢◌, ℕ, eqb, List, ◌∷◌, refl, sym, inl, inr}
 use Rattle.std.proofs.lemmas.Bool.{ne_eqb, cases_Bool}
 use Rattle.sv_links.specs.Waiting.{WaitAct, Entered, Again, Left, waits, deadline, link}

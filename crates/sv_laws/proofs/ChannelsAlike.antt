@@ -1,4 +1,5 @@
--- All that the calls on the interrupt channel of a connection rest on: over an act of others, and over the same act.
+-- All that the calls on the interrupt channel of a connection rest on: over an act of others, and
+-- over the same act.
 use Rattle.std.proofs.Common.{◌≡◌, ◌≢◌, ℕ, ◌+◌, ◌<◌, ◌≤◌, suc, zero, Bool, eqb, ltb, List, [], ◌∷◌, ◌++◌, Option, Some, None, refl, sym, ap, ◌∙◌, inl, inr, arith}
 use Rattle.std.specs.Prelude.{filter, not}
 use Rattle.std.specs.List.{AllByRecursion, cons_option}

@@ -1,4 +1,5 @@
--- The present wait of a suspended call began fewer milliseconds ago than its longest wait for this thing.
+-- The present wait of a suspended call began fewer milliseconds ago than its longest wait for this
+-- thing.
 use Rattle.std.proofs.Common.{◌≡◌, ◌≢◌, ℕ, ◌+◌, ◌<◌, ◌≤◌, ◌==◌, Bool, true, false, List, [], ◌∷◌, ◌++◌, Option, Some, None, refl, sym, ap, subst, ◌∙◌, inl, inr, ◌⊎◌, append_assoc, eq-eqb, arith, eqb}
 use Rattle.std.specs.Prelude.{map, if◌then◌else◌}
 use Rattle.std.proofs.lemmas.Bool.{cases_eq, cases_Bool, ne_eqb, cases_lt}
@@ -83,7 +84,8 @@ began_done d c arguments (_ ∷ adds) acts h = began_done d c arguments adds act
 
 -- ---- until when a call waits
 
--- The call waits for a peer; or the deadline of its wait comes no later after its begin than the longest wait for this thing.
+-- The call waits for a peer; or the deadline of its wait comes no later after its begin than the
+-- longest wait for this thing.
 abbrev DatedBy : Config → Wait → Option ℕ → ℕ → Arguments → Type 0
 DatedBy config wait until start arguments = (waits_for_peer arguments ≡ true)
     ⊎ ((timeout : ℕ) × (until ≡ Some (config.clock + start + timeout)) × (timeout ≤ time_for wait arguments))

@@ -1,4 +1,5 @@
--- A connection that isn't open holds nothing: no link, no lock, no suspended call and no interrupt channel.
+-- A connection that isn't open holds nothing: no link, no lock, no suspended call and no interrupt
+-- channel.
 use Rattle.std.proofs.Common.{◌≡◌, ◌≢◌, ℕ, Bool, true, false, cond, eqb, List, [], ◌∷◌, ◌++◌, Option, Some, None, refl, sym, ap, subst, ◌∙◌, inl, inr, append_assoc, eq-eqb, nat_lt}
 use Rattle.std.specs.Prelude.{map, not, is_some, ◌||◌}
 use Rattle.std.proofs.lemmas.Bool.{cases_Bool, cases_eq, ne_eqb}

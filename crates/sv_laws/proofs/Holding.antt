@@ -1,5 +1,5 @@
--- The link that holds the lock keeps it until its connection lets it go. A link gets the lock because a call asks for it, in the order in
--- which calls were taken.
+-- The link that holds the lock keeps it until its connection lets it go. A link gets the lock
+-- because a call asks for it, in the order in which calls were taken.
 use Rattle.std.proofs.Common.{◌≡◌, ◌≢◌, ℕ, Bool, true, false, eqb, List, [], ◌∷◌, ◌++◌, Some, None, refl, sym, ap, subst, ◌∙◌, inl, inr, ◌⊎◌, eq-eqb}
 use Rattle.std.specs.Prelude.{map, not, ◌&&◌, ◌||◌}
 use Rattle.std.proofs.lemmas.Bool.{cases_eq, ne_eqb}
@@ -90,7 +90,8 @@ left_last [] (act ∷ other) c d acts more e = absurd cc
 left_last (act ∷ made) [] c d acts more e = absurd cc
 left_last (act ∷ made) (one ∷ other) c d acts more e = left_last made other c d acts more (cc)
 
--- A link that may take the lock by the order of suspension may get it by the order in which calls were taken.
+-- A link that may take the lock by the order of suspension may get it by the order in which calls
+-- were taken.
 gets_by : (lid : ℕ) (older : List Act) → AllPlaced older → (holder (link_acts (device_acts older)) ≡ None → HasTurn older)
     → MayTake lid (device_acts older) → MayGet lid older
 gets_by lid older placed turn (inl holds) = inl holds

@@ -47,8 +47,9 @@ use Rattle.sv_laws.proofs.EveryLog.EachEvent.{StepsKeep, step_keeps, turn_keeps,
 
 -- ---- until when a call waits
 
--- The call waits for a peer; or its wait has a deadline that hasn't passed. At this deadline the call will be no older than `bound` allows.
--- If it waits for the lock, it will be at least as old as its lock timeout.
+-- The call waits for a peer; or its wait has a deadline that hasn't passed. At this deadline the
+-- call will be no older than `bound` allows. If it waits for the lock, it will be at least as old
+-- as its lock timeout.
 abbrev pub Within : ℕ → ℕ → Wait → Option ℕ → Arguments → Type 0
 Within old clock wait until arguments = (waits_for_peer arguments ≡ true)
     ⊎ ((last : ℕ) × (until ≡ Some last) × (last + old ≤ clock + bound wait arguments) × (clock ≤ last)

@@ -25,7 +25,8 @@ abbrev pub EndsAt : Config → List Act → Act → List Act → Type 0
 EndsAt config newer (OnDevice (Waited (Left c))) older = WaitsForLock (device_acts older) c → Ends config c newer older
 EndsAt config newer act older = ⊤
 
--- So ends each call that waited for the lock and left in this log, behind which these newer acts came.
+-- So ends each call that waited for the lock and left in this log, behind which these newer acts
+-- came.
 abbrev pub AllEnd : Config → List Act → List Act → Type 0
 AllEnd config newer [] = ⊤
 AllEnd config newer (act ∷ older) = EndsAt config newer act older × AllEnd config (newer ++ act ∷ []) older

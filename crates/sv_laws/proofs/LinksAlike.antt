@@ -1,4 +1,5 @@
--- Whose link a number is, and which link holds the lock: over an act of others, and over the same act.
+-- Whose link a number is, and which link holds the lock: over an act of others, and over the same
+-- act.
 use Rattle.std.proofs.Common.{◌≡◌, ◌≢◌, ℕ, Bool, true, false, eqb, cond, List, [], ◌∷◌, ◌++◌, Option, Some, None, refl, sym, ap, ◌∙◌, inl, inr, ◌⊎◌, eq-eqb}
 use Rattle.std.specs.Prelude.{not, filter, find, option_map, ◌&&◌, ⊤}
 use Rattle.std.proofs.lemmas.Bool.{ne_eqb, cases_Bool, cases_eq, eqb-true, eqb-false}
@@ -103,7 +104,8 @@ owner_is_of c None e = absurd cc
 abbrev pub OwnsAlike : ℕ → List LinkAct → List LinkAct → Type 0
 OwnsAlike c acts other = (n : ℕ) → is_of c (owner n acts) ≡ is_of c (owner n other)
 
--- an act of others: no link of the connection's is made or destroyed, and no lock is taken or given up
+-- an act of others: no link of the connection's is made or destroyed, and no lock is taken or given
+-- up
 abbrev pub IsForeignLink : ℕ → LinkAct → List LinkAct → Type 0
 IsForeignLink c (Made lid conn) acts = conn ≢ c
 IsForeignLink c (Destroyed lid) acts = is_of c (owner lid acts) ≡ false

@@ -15,7 +15,8 @@ use Rattle.sv_history.specs.CoreChannel.{own_call}
 use Rattle.sv_laws.specs.LockFair.{AsksForLock, LockIsTaken, LockIsFreed}
 use Rattle.sv_laws.proofs.LinksAlike.{locked_now, not_unlocked}
 
--- A call that asks for the lock succeeds with this result: a device_lock, or a create_link that made this link.
+-- A call that asks for the lock succeeds with this result: a device_lock, or a create_link that
+-- made this link.
 abbrev Succeeds : ℕ → ℕ → ℕ → Option Outcome → Type 0
 Succeeds lid abort_port most result =
     (result ≡ Some (Plain NoError)) ⊎ (result ≡ Some (Link NoError (pos lid) abort_port most))

@@ -216,7 +216,8 @@ behind_none log = ([], tt, refl)
 no_tick : (log : List Act) → ticks (device_acts log) ≡ ticks (device_acts log) + 0
 no_tick log = sym (add-zero (ticks (device_acts log)))
 
--- what is told to channels, and how many milliseconds pass, before the acts that a list of acts begins with
+-- what is told to channels, and how many milliseconds pass, before the acts that a list of acts
+-- begins with
 record BeginsBy (told : List ChannelAct) (passed : ℕ) (log new : List Act) : Type 0 where
   base : List DeviceAct
   behind : Behind base new

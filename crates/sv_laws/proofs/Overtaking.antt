@@ -42,7 +42,8 @@ use Rattle.sv_laws.proofs.EveryLog.EachEvent.{each_settled, turn_parts, entered_
 
 -- ---- what stops a call that is locked out
 
--- A call that is locked out may fail with this error: 11 if it waits no time for the lock, or a fault of its own.
+-- A call that is locked out may fail with this error: 11 if it waits no time for the lock, or a
+-- fault of its own.
 abbrev MayFail : Arguments → ErrorCode → Type 0
 MayFail arguments error = ((error ≡ DeviceLocked) × (lock_time arguments ≡ 0)) ⊎ (is_own_fault error ≡ true)
 
@@ -106,7 +107,8 @@ out_of (Some h) (Some n) held ne = rw (ne_eqb n h (λ e. ne (ap (λ (m : ℕ). S
 
 -- ---- where nothing is due
 
--- Where the instrument is as in the log of a history, and no call can resume or is past its deadline, no step is due.
+-- Where the instrument is as in the log of a history, and no call can resume or is past its
+-- deadline, no step is due.
 none_next : (config : Config) (history : List PlainEvent) (before log new : List Act) → IsLogOf config history before
     → instrument_acts (device_acts log) ≡ instrument_acts (device_acts before) → ((e : ℕ) → CanResume (device_acts log) e → ⊥)
     → ((e : ℕ) → IsExpired (config.clock + ticks (device_acts log)) (wait_acts (device_acts log)) e → ⊥) → IsNext config log new → ⊥

@@ -1,5 +1,5 @@
--- A call stops waiting for the lock if it came first and the lock is free, if its connection closes, if its timeout has passed, or if a
--- device_abort names its link.
+-- A call stops waiting for the lock if it came first and the lock is free, if its connection
+-- closes, if its timeout has passed, or if a device_abort names its link.
 use Rattle.std.proofs.Common.{◌≡◌, ℕ, ◌+◌, ◌<◌, ◌≤◌, nat_lt, Bool, true, false, cond, List, [], ◌∷◌, ◌++◌, Option, Some, None, refl, sym, ap, subst, ◌∙◌, inl, inr, ◌⊎◌, append_assoc}
 use Rattle.std.specs.Prelude.{map, not, is_some, ◌&&◌, ℤ, pos, negsuc}
 use Rattle.std.proofs.lemmas.Bool.{eqb-true}

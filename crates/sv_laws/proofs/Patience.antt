@@ -1,4 +1,5 @@
--- The longest wait of a call, by its arguments: when it begins to wait, and after it waited for the lock.
+-- The longest wait of a call, by its arguments: when it begins to wait, and after it waited for the
+-- lock.
 use Rattle.std.proofs.Common.{◌≡◌, ◌≢◌, ℕ, ◌+◌, ◌≤◌, Bool, true, false, cond, List, Option, Some, None, refl, subst, inl, inr, ◌⊎◌, arith}
 use Rattle.std.specs.Prelude.{not, is_some, ◌&&◌, option_map, ℤ}
 use Rattle.sv_vxi.specs.declared.error_code.ErrorCode.TheVariants.{InvalidLink, ParameterError, NotAccessible, NotSupported, OutOfResources, InvalidAddress, AlreadyEstablished}
@@ -35,7 +36,8 @@ pub time_bound : (wait : Wait) (arguments : Arguments) → time_for wait argumen
 time_bound Lock arguments = omega arith
 time_bound _ arguments = omega arith
 
--- If so many milliseconds are within `bound` even after the longest wait for the lock, they are no longer than this wait at most.
+-- If so many milliseconds are within `bound` even after the longest wait for the lock, they are no
+-- longer than this wait at most.
 pub time_left : (wait : Wait) (arguments : Arguments) (n : ℕ) → n + lock_time arguments ≤ bound wait arguments
     → n ≤ time_for wait arguments
 time_left Lock arguments n le = omega (arith, le)
@@ -43,7 +45,8 @@ time_left _ arguments n le = omega (arith, le)
 
 -- ---- after the lock
 
--- After a call waited for the lock, its next wait isn't for the lock, and is within `bound` even after the longest wait for the lock.
+-- After a call waited for the lock, its next wait isn't for the lock, and is within `bound` even
+-- after the longest wait for the lock.
 abbrev pub IsThen : Wait → Arguments → Wait × ℕ → Type 0
 IsThen wait arguments next = (wait ≡ Lock) × (waits_for_peer arguments ≡ false) × (next.1 + lock_time arguments ≤ bound next.0 arguments)
     × (next.0 ≢ Lock)
@@ -85,7 +88,8 @@ then_is Dial arguments acts next e = absurd cc
 
 -- ---- a call begins to wait
 
--- A call that begins to wait waits for a peer; or it waits no longer than its timeout says, and for the lock exactly so long.
+-- A call that begins to wait waits for a peer; or it waits no longer than its timeout says, and for
+-- the lock exactly so long.
 abbrev pub Begins : Wait → Option ℕ → Arguments → Type 0
 Begins wait until arguments = (waits_for_peer arguments ≡ true)
     ⊎ ((timeout : ℕ) × (until ≡ Some timeout) × (timeout ≤ time_for wait arguments) × (wait ≡ Lock → lock_time arguments ≤ timeout))

@@ -1,4 +1,5 @@
--- What holds of nothing and is kept by each event's own acts behind a settled log, and by each step, holds of the log of every history.
+-- What holds of nothing and is kept by each event's own acts behind a settled log, and by each
+-- step, holds of the log of every history.
 use Rattle.std.proofs.Common.{◌≡◌, ℕ, List, [], ◌∷◌, ◌++◌, Option, Some, None, refl}
 use Rattle.sv_links.specs.Waiting.{IsOldest}
 use Rattle.sv_links.specs.Channels.{ChannelAct}

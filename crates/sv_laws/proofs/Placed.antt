@@ -1,6 +1,7 @@
--- In every log each act has its place: a call is taken while none of its connection waits, and begins to wait right behind; a link lets the
--- lock go where its connection asks for it, or is closed; and a link gets the lock where the call of its connection asks for it, and where
--- no call waits for it, or right behind a call that waited for it.
+-- In every log each act has its place: a call is taken while none of its connection waits, and
+-- begins to wait right behind; a link lets the lock go where its connection asks for it, or is
+-- closed; and a link gets the lock where the call of its connection asks for it, and where no call
+-- waits for it, or right behind a call that waited for it.
 use Rattle.std.proofs.Common.{◌≡◌, ℕ, ◌+◌, Bool, true, false, List, [], ◌∷◌, ◌++◌, length, nat_lt, Option, Some, None, refl, sym, ap, subst, ◌∙◌, inl, inr, ◌⊎◌, append_assoc}
 use Rattle.std.specs.Prelude.{map, pos, ⊤}
 use Rattle.std.specs.List.{AllByRecursion}
@@ -61,20 +62,23 @@ abbrev pub MayFree : ℕ → List Act → Type 0
 MayFree lid older =
     (c : ℕ) → owner lid (link_acts (device_acts older)) ≡ Some c → (is_open (of c older) ≡ false) ⊎ ReleasesLock c lid older
 
--- No call waits for the lock; or a call was suspended until now, and since then only links were made.
+-- No call waits for the lock; or a call was suspended until now, and since then only links were
+-- made.
 abbrev pub HasTurn : List Act → Type 0
 HasTurn older = ((d : ℕ) → WaitsForLock (device_acts older) d → ⊥)
     ⊎ ((c : ℕ) × (made : List LinkAct) × (before : List Act)
     × (older ≡ map OnDevice (map Linked made) ++ OnDevice (Waited (Left c)) ∷ before))
 
--- The connection of this link has a call that isn't answered, and it asks for the lock for this link.
+-- The connection of this link has a call that isn't answered, and it asks for the lock for this
+-- link.
 abbrev IsAsked : ℕ → List Act → Type 0
 IsAsked lid older = (c : ℕ) × (call : CoreCall) × (owner lid (link_acts (device_acts older)) ≡ Some c)
     × (core_call_in (pending_call (of c older)) ≡ Some call) × AsksForLock lid call.arguments
 
--- This act has its place behind these: a call is taken while none of its connection is suspended; a call is suspended right behind its
--- taking; a link gets the lock where a call asks for it, and a free lock where it is a call's turn; a link is unlocked or destroyed where
--- its connection lets it go, or is closed.
+-- This act has its place behind these: a call is taken while none of its connection is suspended; a
+-- call is suspended right behind its taking; a link gets the lock where a call asks for it, and a
+-- free lock where it is a call's turn; a link is unlocked or destroyed where its connection lets it
+-- go, or is closed.
 abbrev pub IsPlaced : List Act → Act → Type 0
 IsPlaced older (On c (CallTaken bytes)) = waits c (wait_acts (device_acts older)) ≡ None
 IsPlaced older (OnDevice (Waited (Entered c named wait last))) =
@@ -122,7 +126,8 @@ abbrev IsPending : ℕ → Arguments → List Act → Type 0
 IsPending c arguments log =
     (call : CoreCall) × (core_call_in (pending_call (of c log)) ≡ Some call) × (call.arguments ≡ arguments)
 
--- What a call that is done can do here: take the lock if it is its turn, and let its link go. The link that it names is its connection's.
+-- What a call that is done can do here: take the lock if it is its turn, and let its link go. The
+-- link that it names is its connection's.
 record MayPlace (c : ℕ) (arguments : Arguments) (log : List Act) : Type 0 where
   turn : takes_lock arguments ≡ true → holder (link_acts (device_acts log)) ≡ None → HasTurn log
   frees : (lid : ℕ) (call : LinkCall) → arguments ≡ OnLink (pos lid) call → lets_go arguments ≡ true → MayFree lid log

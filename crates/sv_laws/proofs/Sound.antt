@@ -50,7 +50,8 @@ lets_go (OnLink lid DeviceUnlock) = true
 lets_go (OnLink lid DestroyLink) = true
 lets_go _ = false
 
--- A suspended call has the link of its arguments, waits for the lock if it can take the lock, and doesn't let its link go.
+-- A suspended call has the link of its arguments, waits for the lock if it can take the lock, and
+-- doesn't let its link go.
 abbrev pub Told : ℕ → List ConnAct → List WaitAct → Type 0
 Told c own acts = (wait : Wait) (call : CoreCall) → waits c acts ≡ Some wait → core_call_in (pending_call own) ≡ Some call
     → (named_link c acts ≡ lid_of (link call.arguments)) × (takes_lock call.arguments ≡ true → wait ≡ Lock)

@@ -1,4 +1,5 @@
--- An event's own acts keep what `Keeps` says; so it holds in every log, and the lock is given in the order of the calls.
+-- An event's own acts keep what `Keeps` says; so it holds in every log, and the lock is given in
+-- the order of the calls.
 use Rattle.std.proofs.Common.{◌≡◌, ◌≢◌, ℕ, Bool, true, false, cond, List, [], ◌∷◌, ◌++◌, Option, Some, None, refl, sym, ap, subst, ◌∙◌, inl, inr, eq-eqb, append_assoc}
 use Rattle.std.specs.Prelude.{map, not, is_some, ◌&&◌, option_map}
 use Rattle.std.specs.List.{AllByRecursion}

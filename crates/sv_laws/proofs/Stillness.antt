@@ -43,7 +43,8 @@ goes_tick : (config : Config) (log new : List Act) → Resumes config log new
 goes_tick config log new (c, wait, polled, oldest, for, said, is) =
     (went_on config (OnDevice Ticked ∷ log) polled c wait, (c, wait, polled, oldest, for, said, refl))
 
--- Where no deadline comes within so many milliseconds and one more, none comes within so many behind one.
+-- Where no deadline comes within so many milliseconds and one more, none comes within so many
+-- behind one.
 later : (config : Config) (acts : List DeviceAct) (m : ℕ) → IsUnhurried (suc m) config acts → IsUnhurried m config (Ticked ∷ acts)
 later config acts m still c expired =
     let same : config.clock + (ticks acts + 1) + m ≡ config.clock + ticks acts + suc m = omega arith in

@@ -1,4 +1,5 @@
--- Two histories that differ only in their Took events send the same, if no service request was left out in them.
+-- Two histories that differ only in their Took events send the same, if no service request was left
+-- out in them.
 use Rattle.std.proofs.Common.{◌≡◌, ℕ, ◌+◌, ◌≤◌, Bool, true, false, List, [], ◌∷◌, ◌++◌, length, drop, Option, Some, None, refl, sym, ap, subst, ◌∙◌, inl, inr, arith}
 use Rattle.std.specs.Prelude.{◌==◌, ◌⊎◌, max, is_some, if◌then◌else◌}
 use Rattle.std.specs.List.{concat, filter_map, fold, range_with_len}

@@ -1,4 +1,5 @@
--- A record that a Turn takes is no call; or it is one, and is answered, or waits for what isn't there.
+-- A record that a Turn takes is no call; or it is one, and is answered, or waits for what isn't
+-- there.
 use Rattle.std.proofs.Common.{◌≡◌, ℕ, true, List, ◌∷◌, ◌++◌, Option, Some, None, refl, sym, ap, subst, ◌∙◌, inl, inr, ◌⊎◌}
 use Rattle.std.specs.Prelude.{map, is_some, Result, Err}
 use Rattle.sv_rpc.specs.declared.call.CallFault.{CallFault}

@@ -1,6 +1,6 @@
--- All bytes that a history sends on a port, and the bytes that further events add to them. On a connection these are the bytes of all
--- replies; on an interrupt channel they are the bytes of all device_intr_srq calls. Bytes that were sent before the port was last closed
--- are included.
+-- All bytes that a history sends on a port, and the bytes that further events add to them. On a
+-- connection these are the bytes of all replies; on an interrupt channel they are the bytes of all
+-- device_intr_srq calls. Bytes that were sent before the port was last closed are included.
 use Rattle.std.specs.Prelude.{◌≡◌, ℕ, List, [], ◌∷◌, ◌++◌}
 use Rattle.std.specs.List.{concat}
 use Rattle.sv_links.specs.Channels.{ChannelAct, all_calls}
@@ -29,7 +29,8 @@ abbrev pub Sends : Port → Config → List PlainEvent → List ℕ → Type 0
 Sends port config history bytes = (log : List Act) × (channel_log : List ChannelAct) × IsLogOf config history log
     × HearsOf (device_acts log) channel_log × (bytes ≡ all_sent port channel_log log)
 
--- The events `events`, which follow the history `past`, add the bytes `bytes` to all bytes that the history sends on a port.
+-- The events `events`, which follow the history `past`, add the bytes `bytes` to all bytes that the
+-- history sends on a port.
 abbrev pub Adds : Port → Config → List PlainEvent → List PlainEvent → List ℕ → Type 0
 Adds port config past events bytes =
     (before : List ℕ) × Sends port config past before × Sends port config (events ++ past) (before ++ bytes)

@@ -1,6 +1,7 @@
--- Laws about cuts: how bytes are split into pieces, records into fragments (RFC 5531, section 11: record marking), and text into writes
--- (VXI-11 revision 1.0, section B.6, device_write). Under the premises below, the bytes that are sent don't depend on how the input is
--- split; only the replies to the writes differ.
+-- Laws about cuts: how bytes are split into pieces, records into fragments (RFC 5531, section 11:
+-- record marking), and text into writes (VXI-11 revision 1.0, section B.6, device_write). Under the
+-- premises below, the bytes that are sent don't depend on how the input is split; only the replies
+-- to the writes differ.
 use Rattle.std.specs.Prelude.{◌≡◌, ◌≢◌, ◌↔◌, ℕ, pos, Bool, true, false, List, [], ◌∷◌, ◌++◌, length, drop, filter, map, Some}
 use Rattle.std.specs.Int.{bit_at}
 use Rattle.std.specs.List.{AllByRecursion}
@@ -31,29 +32,32 @@ IsFeeding c = elim [ Bytes d piece ↦ d ≡ c | Turn d ↦ d ≡ c | _ ↦ ⊥ 
 abbrev pub without_pieces : List ConnAct → List ConnAct
 without_pieces = filter (elim [ Piece bytes ↦ false | _ ↦ true ])
 
--- The newest acts of a connection are a device_write of these bytes on a link, with or without the END flag, and the reply to it. The
--- reply has no error, and says that all these bytes were written.
+-- The newest acts of a connection are a device_write of these bytes on a link, with or without the
+-- END flag, and the reply to it. The reply has no error, and says that all these bytes were
+-- written.
 abbrev pub IsWritten : ℕ → List ℕ → Bool → List ConnAct → List ConnAct → Type 0
 IsWritten lid bytes ended before acts = (xid io_timeout lock_timeout flags : ℕ) × (call : List ℕ)
     × (core_call call ≡ Some (record { xid = xid; arguments = OnLink (pos lid) (DeviceWrite io_timeout lock_timeout flags bytes) }))
     × ((bit_at flags 3 ≡ 1) ↔ (ended ≡ true)) × (acts ≡ Replied (result_reply xid (Size NoError (length bytes))) ∷ CallTaken call ∷ before)
 
--- These events follow the history `past`, and each is Bytes on connection `c` or a Turn of this connection. The events lead from the log
--- `before` to `log`, and leave no complete record to take on the connection.
+-- These events follow the history `past`, and each is Bytes on connection `c` or a Turn of this
+-- connection. The events lead from the log `before` to `log`, and leave no complete record to take
+-- on the connection.
 pub record Feeds (c : ℕ) (config : Config) (past events : List PlainEvent) (before log : List Act) : Type 0 where
   pub feeding : AllByRecursion (IsFeeding c) events
   pub was : IsLogOf config past before
   pub is_log : IsLogOf config (events ++ past) log
   pub none_left : drop (records_ended (of c log)) (records_of (stream (of c log))) ≡ []
 
--- No suspended call is a device_write that waits until the device accepts it, or a device_read that waits until
--- the device answers it.
+-- No suspended call is a device_write that waits until the device accepts it, or a device_read that
+-- waits until the device answers it.
 abbrev pub NoneWaits : List WaitAct → Type 0
 NoneWaits acts = (c : ℕ) → (waits c acts ≢ Some ForInput) × (waits c acts ≢ Some ForResponse)
 
--- Two lists of events that can follow the history `past`: `one` has a single write of the bytes x ++ y; `two` has a write of x without
--- the END flag, and then a write of y. Both lists leave the same unfinished record. No byte of x is a new line, and before these events
--- no read or write was suspended (`NoneWaits`).
+-- Two lists of events that can follow the history `past`: `one` has a single write of the bytes x
+-- ++ y; `two` has a write of x without the END flag, and then a write of y. Both lists leave the
+-- same unfinished record. No byte of x is a new line, and before these events no read or write was
+-- suspended (`NoneWaits`).
 pub record AreCut (c lid : ℕ) (x y : List ℕ) (ended : Bool) (config : Config) (past one two : List PlainEvent) : Type 0 where
   pub before : List Act
   pub whole : List Act
@@ -68,9 +72,10 @@ pub record AreCut (c lid : ℕ) (x y : List ℕ) (ended : Bool) (config : Config
   pub writes_first : IsWritten lid x false (without_pieces (of c before)) middle
   pub writes_second : IsWritten lid y ended middle (without_pieces (of c cut))
 
--- One history ends with a single write; a second history ends with this write cut into two writes (`AreCut`). The same further events add
--- the same bytes to each port in both histories, if none of these events is refused. The single write and the two writes also add the same
--- bytes to each port, except to the connection on which the writes come.
+-- One history ends with a single write; a second history ends with this write cut into two writes
+-- (`AreCut`). The same further events add the same bytes to each port in both histories, if none of
+-- these events is refused. The single write and the two writes also add the same bytes to each
+-- port, except to the connection on which the writes come.
 abbrev pub WritesCut : Type 0
 WritesCut = (c lid : ℕ) (x y : List ℕ) (ended : Bool) (config : Config) (past one two events : List PlainEvent) (log other : List Act)
     → AreCut c lid x y ended config past one two → IsLogOf config (events ++ (one ++ past)) log
@@ -80,8 +85,9 @@ WritesCut = (c lid : ℕ) (x y : List ℕ) (ended : Bool) (config : Config) (pas
 
 -- ---- pieces and fragments
 
--- Two histories differ only in how adjacent bytes on a connection are split into pieces, and how the records of these bytes are split into
--- fragments. Up to the end of these bytes, the connection's streams in both histories have the same records and the same unfinished record.
+-- Two histories differ only in how adjacent bytes on a connection are split into pieces, and how
+-- the records of these bytes are split into fragments. Up to the end of these bytes, the
+-- connection's streams in both histories have the same records and the same unfinished record.
 pub data Recut (config : Config) : List PlainEvent → List PlainEvent → Type 0 where
   Nothing : Recut config [] []
   Same : {past other : List PlainEvent} (event : PlainEvent) → Recut config past other → Recut config (event ∷ past) (event ∷ other)
@@ -89,8 +95,8 @@ pub data Recut (config : Config) : List PlainEvent → List PlainEvent → Type 
       → reading (stream (of c log) ++ join_pieces pieces) ≡ reading (stream (of c log) ++ join_pieces others) → Recut config past other
       → Recut config (map (Bytes c) pieces ++ past) (map (Bytes c) others ++ other)
 
--- If two histories differ only in how bytes are split into pieces, and records into fragments (`Recut`), they send the same bytes on each
--- port.
+-- If two histories differ only in how bytes are split into pieces, and records into fragments
+-- (`Recut`), they send the same bytes on each port.
 abbrev pub RecordsCut : Type 0
 RecordsCut = (config : Config) (history other : List PlainEvent) (log also : List Act) → Recut config history other
     → IsLogOf config history log → IsLogOf config other also → (port : Port) (bytes : List ℕ)

@@ -1,4 +1,5 @@
--- The state after device_clear, `*RST` and `*CLS`. Only enables and filters depend on what happened before.
+-- The state after device_clear, `*RST` and `*CLS`. Only enables and filters depend on what happened
+-- before.
 use Rattle.std.specs.Prelude.{◌≡◌, ℕ, pos, ⊤, List, [], ◌++◌, None}
 use Rattle.std.specs.List.{AllByRecursion}
 use Rattle.sv_vxi.specs.declared.arguments.GenericCall.TheVariants.{Clear}
@@ -24,12 +25,14 @@ use Rattle.sv_laws.specs.Conformance.{SameSettings, HasDefaults}
 abbrev pub IsText : Act → Type 0
 IsText = elim [ Exchanged (Accepted bytes ended) ↦ ⊤ | Exchanged Finished ↦ ⊤ | _ ↦ ⊥ ]
 
--- Bytes of a write are accepted, or a message is finished, or the scanner does something: a measurement may be under way.
+-- Bytes of a write are accepted, or a message is finished, or the scanner does something: a
+-- measurement may be under way.
 abbrev pub IsTextOrScan : Act → Type 0
 IsTextOrScan = elim [ Exchanged (Accepted bytes ended) ↦ ⊤ | Exchanged Finished ↦ ⊤ | Scanned act ↦ ⊤ | _ ↦ ⊥ ]
 
--- The scanner has its default settings and is idle. No event, no error and no pending `*OPC` is left, and a poll returns 0. There is no
--- response, no answer and no held unit; the program text is what was sent. Only the enables and filters are those of the log `before`.
+-- The scanner has its default settings and is idle. No event, no error and no pending `*OPC` is
+-- left, and a poll returns 0. There is no response, no answer and no held unit; the program text is
+-- what was sent. Only the enables and filters are those of the log `before`.
 pub record IsFresh (before sent new : List Act) : Type 0 where
   pub defaults : HasDefaults new
   pub events : (name : RegisterName) (k : ℕ) → EventStands name k new → ⊥
@@ -42,8 +45,9 @@ pub record IsFresh (before sent new : List Act) : Type 0 where
   pub none_left : (response (exchange_acts new) ≡ []) × (answers (exchange_acts new) ≡ [])
   pub settings : SameSettings new before
 
--- A device_clear is executed; then `*RST` is performed; then `*CLS`. Before `*RST` only text comes, and the scanner may act (`first`);
--- between `*RST` and `*CLS` only text comes (`second`). Then the driver finds a fresh instrument.
+-- A device_clear is executed; then `*RST` is performed; then `*CLS`. Before `*RST` only text comes,
+-- and the scanner may act (`first`); between `*RST` and `*CLS` only text comes (`second`). Then the
+-- driver finds a fresh instrument.
 abbrev pub FreshStart : Type 0
 FreshStart = (config : Config) (polled c lid flags lock_timeout io_timeout : ℕ) (acts : List DeviceAct) (outcome : CallOutcome)
     (first second reset new : List Act)

@@ -13,8 +13,9 @@ use Rattle.sv_history.specs.Interrupts.{has_channel}
 use Rattle.sv_history.specs.Requests.{HearsOf}
 use Rattle.sv_history.specs.History.{IsLogOf}
 
--- No live link is of connection `c`. If a link holds the lock, it is a live link of another connection that is open. Connection `c` has no
--- suspended call and no open interrupt channel, and no link of it has service requests enabled.
+-- No live link is of connection `c`. If a link holds the lock, it is a live link of another
+-- connection that is open. Connection `c` has no suspended call and no open interrupt channel, and
+-- no link of it has service requests enabled.
 pub record HoldsNothing (c : ℕ) (log : List Act) : Type 0 where
   pub links : (lid : ℕ) → owner lid (link_acts (device_acts log)) ≢ Some c
   pub lock : (lid : ℕ) → holder (link_acts (device_acts log)) ≡ Some lid

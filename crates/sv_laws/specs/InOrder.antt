@@ -13,14 +13,16 @@ use Rattle.sv_laws.specs.Laws.{HasXidOf}
 abbrev pub replies : List ConnAct → List (List ℕ)
 replies acts = filter_map (elim [ Replied bytes ↦ Some bytes | _ ↦ None ]) (acts_since_opening acts)
 
--- Each reply has the xid of the record that has its place: the first reply that of the first record, the second reply that of the second
--- record, and so on. The newest reply is first in the list of replies.
+-- Each reply has the xid of the record that has its place: the first reply that of the first
+-- record, the second reply that of the second record, and so on. The newest reply is first in the
+-- list of replies.
 abbrev pub AreInOrder : List (List ℕ) → List (List ℕ) → Type 0
 AreInOrder records [] = ⊤
 AreInOrder records (reply ∷ older) =
     (call : List ℕ) × (slice_get records (length older) ≡ Some call) × HasXidOf call reply × AreInOrder records older
 
--- The replies on a connection come in the order of the records that came on it: the k-th reply has the xid of the k-th record.
+-- The replies on a connection come in the order of the records that came on it: the k-th reply has
+-- the xid of the k-th record.
 abbrev pub InOrder : Type 0
 InOrder = (config : Config) (history : List PlainEvent) (log : List Act) (c : ℕ) → IsLogOf config history log
     → AreInOrder (records_of (stream (of c log))) (replies (of c log))

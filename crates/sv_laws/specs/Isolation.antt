@@ -1,5 +1,6 @@
--- Isolation: while a link holds the lock, other connections change nothing that is sent on the link's connection and on this
--- connection's interrupt channel (VXI-11 revision 1.0, section B.4.4: device locking).
+-- Isolation: while a link holds the lock, other connections change nothing that is sent on the
+-- link's connection and on this connection's interrupt channel (VXI-11 revision 1.0, section B.4.4:
+-- device locking).
 use Rattle.std.specs.Prelude.{◌≡◌, ◌≢◌, ◌↔◌, ◌==◌, not, ℕ, Bool, false, ⊤, List, [], ◌∷◌, ◌++◌, filter, Option, Some, None}
 use Rattle.sv_vxi.specs.Arguments.{is_create_link}
 use Rattle.sv_links.specs.declared.waiting.Wait.TheVariants.{Input as ForInput, Response as ForResponse}
@@ -29,8 +30,8 @@ is_foreign c (Input channel microvolts) = false
 is_foreign c External = false
 is_foreign c Tick = false
 
--- the events that remain if the events of connections other than `c`, and of their interrupt channels, are left out
--- (`is_foreign`)
+-- the events that remain if the events of connections other than `c`, and of their interrupt
+-- channels, are left out (`is_foreign`)
 abbrev pub own_events : ℕ → List PlainEvent → List PlainEvent
 own_events c = filter (λ event. not (is_foreign c event))
 
@@ -42,15 +43,16 @@ aborted_link = elim [ Some (AbortRequest xid lid) ↦ lid_of (Some lid) | _ ↦ 
 abbrev pub makes_link : Option Request → Bool
 makes_link = elim [ Some (CoreRequest call) ↦ is_create_link call.arguments | _ ↦ false ]
 
--- If the event takes a device_abort, this device_abort names no link of connection `c`. The event neither takes nor refuses a
--- create_link on connection `c`.
+-- If the event takes a device_abort, this device_abort names no link of connection `c`. The event
+-- neither takes nor refuses a create_link on connection `c`.
 abbrev pub LeavesLinksAlone : ℕ → PlainEvent → List Act → Type 0
 LeavesLinksAlone c (Turn d) log = (owner_of (aborted_link (next_request (of d log))) (device_acts log) ≢ Some c)
     × (d ≡ c → makes_link (next_request (of d log)) ≡ false)
 LeavesLinksAlone c (Refuse d) log = d ≡ c → makes_link (next_request (of d log)) ≡ false
 LeavesLinksAlone c _ log = ⊤
 
--- `IsSuch` holds of each of these events, together with the log of all events before that event. The events come after the history `past`.
+-- `IsSuch` holds of each of these events, together with the log of all events before that event.
+-- The events come after the history `past`.
 abbrev pub EachIs : (PlainEvent → List Act → Type 0) → Config → List PlainEvent → List PlainEvent → Type 0
 EachIs IsSuch config past [] = ⊤
 EachIs IsSuch config past (event ∷ events) =
@@ -61,14 +63,15 @@ abbrev pub HoldsFrom : ℕ → List Act → List Act → Type 0
 HoldsFrom lid before log = (later since : List Act) → log ≡ later ++ (since ++ before)
     → holder (link_acts (device_acts (since ++ before))) ≡ Some lid
 
--- No connection other than `c` has a suspended device_write that waits until the device accepts it, or a suspended device_read
--- that waits until the device answers it.
+-- No connection other than `c` has a suspended device_write that waits until the device accepts it,
+-- or a suspended device_read that waits until the device answers it.
 abbrev pub NoOtherWaits : ℕ → List WaitAct → Type 0
 NoOtherWaits c acts = (d : ℕ) → d ≢ c → (waits d acts ≢ Some ForInput) × (waits d acts ≢ Some ForResponse)
 
--- These events follow the history `past`. During these events link `lid` of connection `c` holds the lock. No event takes a device_abort
--- of a link of this connection, and no event takes or refuses a create_link on this connection (`LeavesLinksAlone`). When the events
--- begin, no read or write of another connection is suspended (`NoOtherWaits`).
+-- These events follow the history `past`. During these events link `lid` of connection `c` holds
+-- the lock. No event takes a device_abort of a link of this connection, and no event takes or
+-- refuses a create_link on this connection (`LeavesLinksAlone`). When the events begin, no read or
+-- write of another connection is suspended (`NoOtherWaits`).
 pub record IsLocked (c lid : ℕ) (config : Config) (past events : List PlainEvent) : Type 0 where
   pub before : List Act
   pub log : List Act
@@ -79,9 +82,10 @@ pub record IsLocked (c lid : ℕ) (config : Config) (past events : List PlainEve
   pub none_waits : NoOtherWaits c (wait_acts (device_acts before))
   pub left_alone : EachIs (LeavesLinksAlone c) config past events
 
--- While a link of a connection holds the lock (`IsLocked`), the events of all other connections can be left out. The history can go on
--- with the remaining events alone: none of them is refused. The remaining events add the same bytes to the connection and to its
--- interrupt channel as all events together.
+-- While a link of a connection holds the lock (`IsLocked`), the events of all other connections can
+-- be left out. The history can go on with the remaining events alone: none of them is refused. The
+-- remaining events add the same bytes to the connection and to its interrupt channel as all events
+-- together.
 abbrev pub Isolation : Type 0
 Isolation = (c lid : ℕ) (config : Config) (past events : List PlainEvent) → IsLocked c lid config past events
     → ((log : List Act) × IsLogOf config (own_events c events ++ past) log)

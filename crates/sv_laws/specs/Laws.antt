@@ -24,23 +24,25 @@ use Rattle.sv_history.specs.History.{is_port_shut, input_refusal, last_clock, Is
 abbrev pub OneLog : Type 0
 OneLog = (config : Config) (history : List PlainEvent) (a b : List Act) → IsLogOf config history a → IsLogOf config history b → a ≡ b
 
--- If nothing becomes due within `most` milliseconds, that many ticks change only the clock: the log gains only the acts of the ticks. A
--- premise is that after these ticks the clock isn't past its last value.
+-- If nothing becomes due within `most` milliseconds, that many ticks change only the clock: the log
+-- gains only the acts of the ticks. A premise is that after these ticks the clock isn't past its
+-- last value.
 abbrev pub TimeOnlyCounts : Type 0
 TimeOnlyCounts = (config : Config) (history : List PlainEvent) (log : List Act) (most : ℕ) → IsLogOf config history log
     → IsStill most config (device_acts log) → config.clock + ticks (device_acts log) + most ≤ last_clock
     → IsLogOf config (replicate most Tick ++ history) (replicate most (OnDevice Ticked) ++ log)
 
--- Between two events no suspended call is past its deadline, and no suspended call can resume (VXI-11 revision 1.0,
--- section B.4.4).
+-- Between two events no suspended call is past its deadline, and no suspended call can resume
+-- (VXI-11 revision 1.0, section B.4.4).
 abbrev pub NoneLate : Type 0
 NoneLate = (config : Config) (history : List PlainEvent) (log : List Act) (c : ℕ) → IsLogOf config history log
     → (IsExpired (config.clock + ticks (device_acts log)) (wait_acts (device_acts log)) c → ⊥) × (CanResume (device_acts log) c → ⊥)
 
--- The server's queries (its methods `is_open`, `room`, `waiting` and `dial`) allow this event by their answers: an Open of a free number;
--- Bytes that fit the room of a connection, if the room isn't 0; a Took of at most as many bytes as wait, if any bytes wait; a Close of an
--- open port; or a Dialed while a create_intr_chan waits for its peer. Or the event is an Input that isn't refused, or the external
--- trigger.
+-- The server's queries (its methods `is_open`, `room`, `waiting` and `dial`) allow this event by
+-- their answers: an Open of a free number; Bytes that fit the room of a connection, if the room
+-- isn't 0; a Took of at most as many bytes as wait, if any bytes wait; a Close of an open port; or
+-- a Dialed while a create_intr_chan waits for its peer. Or the event is an Input that isn't
+-- refused, or the external trigger.
 abbrev pub Suits : PlainEvent → List ChannelAct → List Act → Type 0
 Suits (Open c role) channel_log log = (c < 16) × (is_open (of c log) ≡ false)
 Suits (Bytes c piece) channel_log log = (c < 16) × (0 < room (of c log)) × (length piece ≤ room (of c log))
@@ -67,18 +69,19 @@ abbrev pub one_if : Bool → ℕ
 one_if true = 1
 one_if false = 0
 
--- Two numbers are equal, both counted since the connection opened. One counts the records that were taken on the connection. The
--- other counts the records that were answered or turned out not to be calls, plus one if a call of the connection is suspended.
+-- Two numbers are equal, both counted since the connection opened. One counts the records that were
+-- taken on the connection. The other counts the records that were answered or turned out not to be
+-- calls, plus one if a call of the connection is suspended.
 abbrev pub IsPaid : ℕ → List Act → Type 0
 IsPaid c log = calls_taken (of c log) ≡ records_ended (of c log) + one_if (is_some (waits c (wait_acts (device_acts log))))
 
--- Since a connection opened, each call that was taken on it was either answered exactly once, or is suspended. This is a count; which
--- reply answers which call is said by `RepliesMatch`.
+-- Since a connection opened, each call that was taken on it was either answered exactly once, or is
+-- suspended. This is a count; which reply answers which call is said by `RepliesMatch`.
 abbrev pub EachAnswered : Type 0
 EachAnswered = (config : Config) (history : List PlainEvent) (log : List Act) (c : ℕ) → IsLogOf config history log → IsPaid c log
 
--- The reply has the call's xid: the four bytes after the reply's record mark are the first four bytes of the call (RFC 5531,
--- sections 9 and 11).
+-- The reply has the call's xid: the four bytes after the reply's record mark are the first four
+-- bytes of the call (RFC 5531, sections 9 and 11).
 abbrev pub HasXidOf : List ℕ → List ℕ → Type 0
 HasXidOf call reply = (4 ≤ length call) × (take 4 (drop 4 reply) ≡ take 4 call)
 
@@ -88,8 +91,9 @@ RepliesMatch = (config : Config) (history : List PlainEvent) (log : List Act) (c
     → IsLogOf config history log → of c log ≡ newer ++ Replied reply ∷ older
     → (call : List ℕ) × (pending_call older ≡ Some call) × HasXidOf call reply
 
--- A Turn takes a record. If the record isn't a call, the connection is at fault and nothing is replied. If the record is a call, it is
--- answered, or it is suspended and can't resume yet (VXI-11 revision 1.0, section B.4.4).
+-- A Turn takes a record. If the record isn't a call, the connection is at fault and nothing is
+-- replied. If the record is a call, it is answered, or it is suspended and can't resume yet (VXI-11
+-- revision 1.0, section B.4.4).
 abbrev pub TurnAnswered : Type 0
 TurnAnswered = (config : Config) (history : List PlainEvent) (before log : List Act) (c : ℕ) (call : List ℕ) → IsLogOf config history before
     → IsLogOf config (Turn c ∷ history) log → next_call (of c before) ≡ Some call

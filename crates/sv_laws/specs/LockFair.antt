@@ -1,4 +1,5 @@
--- The lock is given in the order in which calls came, and the link that holds it keeps it (VXI-11 revision 1.0, section B.4.4).
+-- The lock is given in the order in which calls came, and the link that holds it keeps it (VXI-11
+-- revision 1.0, section B.4.4).
 use Rattle.std.specs.Prelude.{◌≡◌, ◌≢◌, ◌⊎◌, ◌≤◌, ℕ, pos, ◌==◌, Bool, true, false, List, [], ◌∷◌, ◌++◌, map, Some, None, is_some, if◌then◌else◌}
 use Rattle.sv_rpc.specs.Call.{call_at}
 use Rattle.sv_vxi.specs.declared.error_code.ErrorCode.{ErrorCode}
@@ -28,35 +29,41 @@ use Rattle.sv_laws.specs.Conformance.{SameLinks}
 abbrev pub WaitsForLock : List DeviceAct → ℕ → Type 0
 WaitsForLock acts c = waits c (wait_acts acts) ≡ Some Lock
 
--- whether the newest call that was taken on connection `d` came after the newest call that was taken on connection `c`
+-- whether the newest call that was taken on connection `d` came after the newest call that was
+-- taken on connection `c`
 abbrev pub is_later : ℕ → ℕ → List Act → Bool
 is_later c d [] = false
 is_later c d (On e (CallTaken call) ∷ log) = if e == d then true else (if e == c then false else is_later c d log)
 is_later c d (_ ∷ log) = is_later c d log
 
--- The call of connection `c` waits for the lock, and of all calls that wait for the lock it came first.
+-- The call of connection `c` waits for the lock, and of all calls that wait for the lock it came
+-- first.
 abbrev pub IsFirst : ℕ → List Act → Type 0
 IsFirst c log = WaitsForLock (device_acts log) c × ((d : ℕ) → WaitsForLock (device_acts log) d → d ≢ c → is_later c d log ≡ true)
 
--- While a call waits for the lock between two events, a link holds the lock, and it isn't the link that the call names.
+-- While a call waits for the lock between two events, a link holds the lock, and it isn't the link
+-- that the call names.
 abbrev pub WaitsWhileHeld : Type 0
 WaitsWhileHeld = (config : Config) (history : List PlainEvent) (log : List Act) (c : ℕ) → IsLogOf config history log
     → WaitsForLock (device_acts log) c
     → (lid : ℕ) × (holder (link_acts (device_acts log)) ≡ Some lid) × (link c (wait_acts (device_acts log)) ≢ Some lid)
 
--- whether a call needs the lock: a create_link that asks for the lock, or a call on a link that a lock of another link stops
+-- whether a call needs the lock: a create_link that asks for the lock, or a call on a link that a
+-- lock of another link stops
 abbrev pub needs_lock : Arguments → Bool
 needs_lock (CreateLink client_id lock_device lock_timeout device) = lock_device
 needs_lock (OnLink lid call) = is_some (lock_wait call)
 needs_lock _ = false
 
--- whether an error is a fault of the call itself: 3 (device not accessible), 4 (invalid link), 5 (parameter error) or 9 (out of resources)
+-- whether an error is a fault of the call itself: 3 (device not accessible), 4 (invalid link), 5
+-- (parameter error) or 9 (out of resources)
 abbrev pub is_own_fault : ErrorCode → Bool
 is_own_fault = elim [ NotAccessible ↦ true | InvalidLink ↦ true | ParameterError ↦ true | OutOfResources ↦ true | _ ↦ false ]
 
--- The call that a Turn took isn't executed: the Turn does nothing to the links, the interrupt channels and the instrument. The call waits
--- for the lock, or it is answered with an error: a fault of its own; or 11 if it waits no time for the lock, because its waitlock flag
--- isn't set, or its lock timeout is 0.
+-- The call that a Turn took isn't executed: the Turn does nothing to the links, the interrupt
+-- channels and the instrument. The call waits for the lock, or it is answered with an error: a
+-- fault of its own; or 11 if it waits no time for the lock, because its waitlock flag isn't set, or
+-- its lock timeout is 0.
 abbrev pub IsLockedOut : ℕ → List ℕ → CoreCall → List Act → List Act → Type 0
 IsLockedOut c bytes call before log = SameLinks (device_acts log) (device_acts before)
     × (instrument_acts (device_acts log) ≡ instrument_acts (device_acts before))
@@ -64,33 +71,37 @@ IsLockedOut c bytes call before log = SameLinks (device_acts log) (device_acts b
     × (((error ≡ DeviceLocked) × (lock_time call.arguments ≡ 0)) ⊎ (is_own_fault error ≡ true))
     × (of c log ≡ Replied (result_reply call.xid (failure call.arguments error)) ∷ CallTaken bytes ∷ of c before)))
 
--- While a link holds the lock, a Turn takes a call that needs the lock. If the call names another link, or none, it isn't executed.
+-- While a link holds the lock, a Turn takes a call that needs the lock. If the call names another
+-- link, or none, it isn't executed.
 abbrev pub NoneOvertakes : Type 0
 NoneOvertakes = (config : Config) (history : List PlainEvent) (before log : List Act) (c : ℕ) (bytes : List ℕ) (call : CoreCall)
     → IsLogOf config history before → IsLogOf config (Turn c ∷ history) log → holder (link_acts (device_acts before)) ≢ None
     → next_call (of c before) ≡ Some bytes → next_request (of c before) ≡ Some (CoreRequest call) → needs_lock call.arguments ≡ true
     → holder (link_acts (device_acts before)) ≢ lid_of (link_in call.arguments) → IsLockedOut c bytes call before log
 
--- whether this act changes what the call of connection `c` waits for: it is suspended, waits for something else, or isn't suspended any
--- more
+-- whether this act changes what the call of connection `c` waits for: it is suspended, waits for
+-- something else, or isn't suspended any more
 abbrev pub changes_wait : ℕ → WaitAct → Bool
 changes_wait c = elim [ Entered conn link wait deadline ↦ conn == c | Again conn wait deadline ↦ conn == c | Left conn ↦ conn == c ]
 
--- The newest acts are those of a device_abort that names the link of the suspended call of connection `c`.
+-- The newest acts are those of a device_abort that names the link of the suspended call of
+-- connection `c`.
 abbrev pub IsAborted : ℕ → List Act → Type 0
 IsAborted c log = (d : ℕ) × (bytes reply : List ℕ) × (before : List Act) × (xid lid : ℕ)
     × (log ≡ On d (Replied reply) ∷ On d (CallTaken bytes) ∷ before)
     × (request_of AbortChannel (call_at bytes) ≡ AbortRequest xid (pos lid)) × (link c (wait_acts (device_acts before)) ≡ Some lid)
 
--- The call of connection `c` fails: the next act is the reply with the error. The error is 11, and the call was taken at least as many
--- milliseconds ago as its lock timeout says; or it is 23, and a device_abort named the call's link.
+-- The call of connection `c` fails: the next act is the reply with the error. The error is 11, and
+-- the call was taken at least as many milliseconds ago as its lock timeout says; or it is 23, and a
+-- device_abort named the call's link.
 abbrev pub FailsNext : ℕ → List Act → List Act → Type 0
 FailsNext c newer older = (more : List Act) × (call : CoreCall) × (error : ErrorCode)
     × (newer ≡ more ++ On c (Replied (result_reply call.xid (failure call.arguments error))) ∷ [])
     × (core_call_in (pending_call (of c older)) ≡ Some call)
     × (((error ≡ DeviceLocked) × (lock_time call.arguments ≤ age c older)) ⊎ ((error ≡ Abort) × IsAborted c older))
 
--- The call of connection `c` has resumed and is executed: the next acts are those of `own_call`, with its reply.
+-- The call of connection `c` has resumed and is executed: the next acts are those of `own_call`,
+-- with its reply.
 abbrev pub IsExecuted : Config → ℕ → List Act → List Act → Type 0
 IsExecuted config c newer older = (more : List Act) × (call : CoreCall) × (polled : ℕ) × IsPolled polled (device_acts older)
     × (core_call_in (pending_call (of c older)) ≡ Some call)
@@ -102,17 +113,19 @@ GoesOn config (Entered conn link wait deadline) newer older = ⊥
 GoesOn config (Again conn wait deadline) newer older = wait ≢ Lock
 GoesOn config (Left conn) newer older = IsExecuted config conn newer older
 
--- A call stops waiting for the lock in three ways only: the lock is free, of all calls that wait for the lock the call came first, and it
--- goes on (`GoesOn`); or its connection was closed; or the call fails, by its own timeout or by a device_abort (`FailsNext`).
+-- A call stops waiting for the lock in three ways only: the lock is free, of all calls that wait
+-- for the lock the call came first, and it goes on (`GoesOn`); or its connection was closed; or the
+-- call fails, by its own timeout or by a device_abort (`FailsNext`).
 abbrev pub OldestPasses : Type 0
 OldestPasses = (config : Config) (history : List PlainEvent) (log newer older : List Act) (act : WaitAct) (c : ℕ)
     → IsLogOf config history log → log ≡ newer ++ OnDevice (Waited act) ∷ older → changes_wait c act ≡ true
     → WaitsForLock (device_acts older) c → ((holder (link_acts (device_acts older)) ≡ None) × IsFirst c older
     × GoesOn config act newer older) ⊎ (is_open (of c older) ≡ false) ⊎ FailsNext c newer older
 
--- A link may get the lock in three cases: it holds the lock already; or the lock is free and no call waits for it; or the lock is free, and
--- the call that takes it was suspended until now, and of all calls that waited for the lock it came first. (In the third case the acts
--- before are that the call resumed and, for a create_link, that its link was made.)
+-- A link may get the lock in three cases: it holds the lock already; or the lock is free and no
+-- call waits for it; or the lock is free, and the call that takes it was suspended until now, and
+-- of all calls that waited for the lock it came first. (In the third case the acts before are that
+-- the call resumed and, for a create_link, that its link was made.)
 abbrev pub MayGet : ℕ → List Act → Type 0
 MayGet lid log = (holder (link_acts (device_acts log)) ≡ Some lid)
     ⊎ ((holder (link_acts (device_acts log)) ≡ None) × (((c : ℕ) → WaitsForLock (device_acts log) c → ⊥)
@@ -120,13 +133,15 @@ MayGet lid log = (holder (link_acts (device_acts log)) ≡ Some lid)
     × (log ≡ map OnDevice (map Linked made) ++ OnDevice (Waited (Left c)) ∷ before)
     × (owner lid (link_acts (device_acts log)) ≡ Some c) × IsFirst c before)))
 
--- The call asks for the lock for this link: it is a device_lock of the link, or a create_link that asks for the lock.
+-- The call asks for the lock for this link: it is a device_lock of the link, or a create_link that
+-- asks for the lock.
 abbrev pub AsksForLock : ℕ → Arguments → Type 0
 AsksForLock lid (OnLink (pos n) (DeviceLock flags lock_timeout)) = n ≡ lid
 AsksForLock lid (CreateLink client_id lock_device lock_timeout device) = lock_device ≡ true
 AsksForLock lid _ = ⊥
 
--- Each link that gets the lock may get it, and the unanswered call of its connection asks for the lock.
+-- Each link that gets the lock may get it, and the unanswered call of its connection asks for the
+-- lock.
 abbrev pub OldestGets : Type 0
 OldestGets = (config : Config) (history : List PlainEvent) (log newer older : List Act) (lid : ℕ) → IsLogOf config history log
     → log ≡ newer ++ OnDevice (Linked (Locked lid)) ∷ older → MayGet lid older × ((c : ℕ) × (call : CoreCall)
@@ -152,8 +167,9 @@ ReleasesLock c lid log = (bytes : List ℕ) × (before : List Act) × (xid : ℕ
     × ((request_of Core (call_at bytes) ≡ CoreRequest (record { xid = xid; arguments = OnLink (pos lid) DeviceUnlock }))
     ⊎ (request_of Core (call_at bytes) ≡ CoreRequest (record { xid = xid; arguments = OnLink (pos lid) DestroyLink })))
 
--- A link that holds the lock keeps it until the connection that owns it lets it go: by a device_unlock or a destroy_link of the link
--- (`ReleasesLock`), or because the connection was closed.
+-- A link that holds the lock keeps it until the connection that owns it lets it go: by a
+-- device_unlock or a destroy_link of the link (`ReleasesLock`), or because the connection was
+-- closed.
 abbrev pub HolderKeeps : Type 0
 HolderKeeps = (config : Config) (history : List PlainEvent) (log newer older : List Act) (act : Act) (c lid : ℕ)
     → IsLogOf config history log → log ≡ newer ++ act ∷ older → holder (link_acts (device_acts older)) ≡ Some lid

@@ -1,5 +1,5 @@
--- One query at a time: write it, read its response to the end, and the answer is right (IEEE 488.2, 6.1 and 6.3; VXI-11 revision 1.0,
--- section B.6, device_write and device_read).
+-- One query at a time: write it, read its response to the end, and the answer is right (IEEE 488.2,
+-- 6.1 and 6.3; VXI-11 revision 1.0, section B.6, device_write and device_read).
 use Rattle.std.specs.Prelude.{◌≡◌, ◌≢◌, ◌↔◌, ◌==◌, ⊤, ℕ, ◌+◌, ◌<◌, ◌≤◌, pos, Bool, true, false, filter, List, [], ◌∷◌, ◌++◌, length, drop, map, replicate, Option, Some, None, is_some, Ok, codes}
 use Rattle.std.specs.Int.{bit_at}
 use Rattle.std.specs.List.{AllByRecursion}
@@ -40,14 +40,14 @@ use Rattle.sv_history.specs.History.{IsLogOf}
 use Rattle.sv_laws.specs.Adding.{all_replies}
 use Rattle.sv_laws.specs.Isolation.{own_events, IsLocked}
 
--- Message exchange is at rest: all text was executed, so that the current message is empty and hasn't ended; and there is no response to
--- read. (Then no unit is held.)
+-- Message exchange is at rest: all text was executed, so that the current message is empty and
+-- hasn't ended; and there is no response to read. (Then no unit is held.)
 pub record IsAtRest (acts : List ExchangeAct) : Type 0 where
   pub text_left : drop (messages_finished acts) (messages (text acts)) ≡ [] ∷ []
   pub none_left : response acts ≡ []
 
--- The data of a write with END is one message, whose only unit is this query; new lines may follow the message. The unit is read
--- as the query, without an error.
+-- The data of a write with END is one message, whose only unit is this query; new lines may follow
+-- the message. The unit is read as the query, without an error.
 pub record IsQuery (query : Order) (sent : List ℕ) : Type 0 where
   pub message : List ℕ
   pub lines : ℕ
@@ -64,8 +64,8 @@ pub record NextIs (lid : ℕ) (call : LinkCall) (acts : List ConnAct) : Type 0 w
   pub next : next_call acts ≡ Some bytes
   pub asks : next_request acts ≡ Some (CoreRequest (record { xid = xid; arguments = OnLink (pos lid) call }))
 
--- The event is no Turn, no Refuse, no Dialed, no Close of a connection, and no Open of this connection. So bytes may come and be taken,
--- inputs be set, triggers come, and time pass.
+-- The event is no Turn, no Refuse, no Dialed, no Close of a connection, and no Open of this
+-- connection. So bytes may come and be taken, inputs be set, triggers come, and time pass.
 abbrev pub IsQuiet : ℕ → PlainEvent → Type 0
 IsQuiet c (Open d role) = d ≢ c
 IsQuiet c (Turn d) = ⊥
@@ -74,17 +74,19 @@ IsQuiet c (Dialed d ok) = ⊥
 IsQuiet c (Close (Conn d)) = ⊥
 IsQuiet c _ = ⊤
 
--- The termination character of a read isn't in the answer: there is none, or it is the new line, and the answer has no new line.
+-- The termination character of a read isn't in the answer: there is none, or it is the new line,
+-- and the answer has no new line.
 abbrev pub EndsAt : Option ℕ → List ℕ → Type 0
 EndsAt None answer = ⊤
 EndsAt (Some term) answer = (term ≡ 10) × AllByRecursion (λ b. b ≢ 10) answer
 
--- One read with this termination character, for at most `most` bytes, can return the answer and a new line.
+-- One read with this termination character, for at most `most` bytes, can return the answer and a
+-- new line.
 abbrev pub OneRead : Option ℕ → ℕ → List ℕ → Type 0
 OneRead term most answer = (length answer < most) × (length answer < max_read) × EndsAt term answer
 
--- After the history `past`, the connection owns the link, and no other link holds the lock. The next call is a write with END of this
--- query.
+-- After the history `past`, the connection owns the link, and no other link holds the lock. The
+-- next call is a write with END of this query.
 pub record Writes (c lid : ℕ) (query : Order) (sent : List ℕ) (config : Config) (past : List PlainEvent) (start : List Act) : Type 0 where
   pub io_timeout : ℕ
   pub lock_timeout : ℕ
@@ -97,7 +99,8 @@ pub record Writes (c lid : ℕ) (query : Order) (sent : List ℕ) (config : Conf
   pub short : length sent ≤ max_message
   pub query_sent : IsQuery query sent
 
--- After the Turn that takes the write, and quiet events, the next call is a read of at most `most` bytes.
+-- After the Turn that takes the write, and quiet events, the next call is a read of at most `most`
+-- bytes.
 pub record Reads (c lid most : ℕ) (config : Config) (past between : List PlainEvent) (before : List Act) : Type 0 where
   pub timeout : ℕ
   pub lock_timeout : ℕ
@@ -107,7 +110,8 @@ pub record Reads (c lid most : ℕ) (config : Config) (past between : List Plain
   pub went_on : IsLogOf config (between ++ Turn c ∷ past) before
   pub call : NextIs lid (DeviceRead most timeout lock_timeout flags term_char) (of c before)
 
--- The connection writes a query, which can be answered, with this answer, and then reads. One read can return the answer and a new line.
+-- The connection writes a query, which can be answered, with this answer, and then reads. One read
+-- can return the answer and a new line.
 pub record AsksAlone (c lid : ℕ) (asked : Question) (sent answer : List ℕ) (most : ℕ) (config : Config) (past between : List PlainEvent)
     (start before : List Act) : Type 0 where
   pub writes : Writes c lid (order.Ask asked) sent config past start
@@ -122,8 +126,8 @@ reported [] = []
 reported (Reported code ∷ log) = code ∷ reported log
 reported (_ ∷ log) = reported log
 
--- No error was reported from one log of the instrument to the next, and no standard event occurred. Only the queries `SYSTem:ERRor?` and
--- `*ESR?` change the error queue and the standard events.
+-- No error was reported from one log of the instrument to the next, and no standard event occurred.
+-- Only the queries `SYSTem:ERRor?` and `*ESR?` change the error queue and the standard events.
 pub record NoneReported (asked : Question) (log new : List InstrumentAct) : Type 0 where
   pub none : reported new ≡ reported log
   pub errors : asked ≢ question.Error → queue_acts new ≡ queue_acts log
@@ -133,8 +137,8 @@ pub record NoneReported (asked : Question) (log new : List InstrumentAct) : Type
 abbrev pub write_reply : ℕ → List ℕ → List ℕ
 write_reply xid sent = result_reply xid (Size NoError (length sent))
 
--- The reply to the read: no error, and exactly the answer and a new line, with the reason END. (The count and the termination character
--- are reasons too, if they apply.)
+-- The reply to the read: no error, and exactly the answer and a new line, with the reason END. (The
+-- count and the termination character are reasons too, if they apply.)
 abbrev pub read_reply : ℕ → List ℕ → ℕ → Option ℕ → List ℕ
 read_reply xid answer most term = result_reply xid (Read NoError (record {
   request_count = length answer + 1 == most;
@@ -142,7 +146,8 @@ read_reply xid answer most term = result_reply xid (Read NoError (record {
   end = true;
 }) (answer ++ 10 ∷ []))
 
--- The write and the read are answered so. After the read message exchange is at rest again. Neither Turn reports an error.
+-- The write and the read are answered so. After the read message exchange is at rest again. Neither
+-- Turn reports an error.
 pub record IsAnswered (c lid : ℕ) (asked : Question) (sent answer : List ℕ) (most : ℕ) (config : Config) (past between : List PlainEvent)
     (start before log : List Act) (asks : AsksAlone c lid asked sent answer most config past between start before) : Type 0 where
   pub written : List Act
@@ -154,7 +159,8 @@ pub record IsAnswered (c lid : ℕ) (asked : Question) (sent answer : List ℕ) 
   pub write_reports : NoneReported asked (instrument_acts (device_acts start)) (instrument_acts (device_acts written))
   pub read_reports : NoneReported asked (instrument_acts (device_acts before)) (instrument_acts (device_acts log))
 
--- If message exchange is at rest, a connection asks a query alone (`AsksAlone`), and neither Turn is refused, the query is answered.
+-- If message exchange is at rest, a connection asks a query alone (`AsksAlone`), and neither Turn
+-- is refused, the query is answered.
 abbrev pub QueryAlone : Type 0
 QueryAlone = (c lid : ℕ) (asked : Question) (sent answer : List ℕ) (most : ℕ) (config : Config) (past between : List PlainEvent)
     (start before log : List Act) → IsAtRest (exchange_acts (device_acts start))
@@ -162,15 +168,17 @@ QueryAlone = (c lid : ℕ) (asked : Question) (sent answer : List ℕ) (most : �
     → IsLogOf config (Turn c ∷ (between ++ Turn c ∷ past)) log
     → IsAnswered c lid asked sent answer most config past between start before log asks
 
--- The write and the read were answered, the read with exactly this answer and a new line, and nothing else was sent on the
--- connection. Message exchange is at rest again, and no error was reported.
+-- The write and the read were answered, the read with exactly this answer and a new line, and
+-- nothing else was sent on the connection. Message exchange is at rest again, and no error was
+-- reported.
 pub record IsTold (c : ℕ) (sent answer : List ℕ) (most : ℕ) (term : Option ℕ) (write_xid read_xid : ℕ) (start log : List Act) : Type 0 where
   pub told : all_replies (of c log) ≡ all_replies (of c start) ++ (write_reply write_xid sent ++ read_reply read_xid answer most term)
   pub rest : IsAtRest (exchange_acts (device_acts log))
   pub none : reported (instrument_acts (device_acts log)) ≡ reported (instrument_acts (device_acts start))
 
--- While the connection's link holds the lock (`IsLocked`), other connections may do anything. If the connection's own events are those of
--- a query that is asked alone, the query is answered, and after all events together this holds (`IsTold`).
+-- While the connection's link holds the lock (`IsLocked`), other connections may do anything. If
+-- the connection's own events are those of a query that is asked alone, the query is answered, and
+-- after all events together this holds (`IsTold`).
 abbrev pub QueryLocked : Type 0
 QueryLocked = (c lid : ℕ) (asked : Question) (sent answer : List ℕ) (most : ℕ) (config : Config) (past between events : List PlainEvent)
     (start before log : List Act) → IsAtRest (exchange_acts (device_acts start))
@@ -180,7 +188,8 @@ QueryLocked = (c lid : ℕ) (asked : Question) (sent answer : List ℕ) (most : 
 
 -- ---- queries that wait for the end of the measurement
 
--- what a query answers when the measurement ends; `None` if the order isn't one of `READ?`, `MEASure?` and `*OPC?`
+-- what a query answers when the measurement ends; `None` if the order isn't one of `READ?`,
+-- `MEASure?` and `*OPC?`
 abbrev pub holds : Order → Option Awaited
 holds (order.Do action.Read) = Some Readings
 holds (order.Do action.WaitAndTell) = Some One
@@ -198,8 +207,8 @@ held_answer Nothing log = []
 held_answer One log = codes "1"
 held_answer Readings log = readings_text (readings (effective_acts log))
 
--- The connection writes a query that waits for the end of the measurement, and then reads. Quiet events `later` follow the Turn that takes
--- the read, and the read's timeout hasn't come.
+-- The connection writes a query that waits for the end of the measurement, and then reads. Quiet
+-- events `later` follow the Turn that takes the read, and the read's timeout hasn't come.
 pub record AsksHeld (c lid : ℕ) (query : Order) (what : Awaited) (sent : List ℕ) (most : ℕ) (config : Config)
     (past between later : List PlainEvent) (start before log : List Act) : Type 0 where
   pub writes : Writes c lid query sent config past start
@@ -210,8 +219,9 @@ pub record AsksHeld (c lid : ℕ) (query : Order) (what : Awaited) (sent : List 
   pub is_log : IsLogOf config (later ++ Turn c ∷ (between ++ Turn c ∷ past)) log
   pub in_time : ticks (device_acts log) < ticks (device_acts before) + reads.timeout
 
--- A moment after `start`, the instrument's log before the write, at which the unit is held and no measurement is under way: there the unit
--- ends. If it answers with readings, a measurement was initiated since `start`.
+-- A moment after `start`, the instrument's log before the write, at which the unit is held and no
+-- measurement is under way: there the unit ends. If it answers with readings, a measurement was
+-- initiated since `start`.
 pub record UnitEnd (what : Awaited) (start log : List InstrumentAct) : Type 0 where
   pub done : List InstrumentAct
   pub newer : List InstrumentAct
@@ -222,15 +232,16 @@ pub record UnitEnd (what : Awaited) (start log : List InstrumentAct) : Type 0 wh
   pub held : held_unit done ≡ Some what
   pub idle : is_idle done ≡ true
 
--- The query's unit ended. If one read can return the answer that this moment gives, the query was answered with it.
+-- The query's unit ended. If one read can return the answer that this moment gives, the query was
+-- answered with it.
 pub record IsHeldAnswered (c : ℕ) (what : Awaited) (sent : List ℕ) (most : ℕ) (term : Option ℕ) (write_xid read_xid : ℕ)
     (start log : List Act) : Type 0 where
   pub end : UnitEnd what (instrument_acts (device_acts start)) (instrument_acts (device_acts log))
   pub told : OneRead term most (held_answer what end.done) → IsTold c sent (held_answer what end.done) most term write_xid read_xid start
       log
 
--- A query that waits for the end of the measurement is answered as soon as no measurement is under way, if the read doesn't time out
--- before.
+-- A query that waits for the end of the measurement is answered as soon as no measurement is under
+-- way, if the read doesn't time out before.
 abbrev pub HeldAlone : Type 0
 HeldAlone = (c lid : ℕ) (query : Order) (what : Awaited) (sent : List ℕ) (most : ℕ) (config : Config) (past between later : List PlainEvent)
     (start before log : List Act) → IsAtRest (exchange_acts (device_acts start))
@@ -238,8 +249,8 @@ HeldAlone = (c lid : ℕ) (query : Order) (what : Awaited) (sent : List ℕ) (mo
     → is_idle (instrument_acts (device_acts log)) ≡ true
     → IsHeldAnswered c what sent most (term_of asks.reads.flags asks.reads.term_char) asks.writes.call.xid asks.reads.call.xid start log
 
--- The same while the connection's link holds the lock, and other connections do anything: if the connection's own events are those of such
--- a query, it is answered so after all events together.
+-- The same while the connection's link holds the lock, and other connections do anything: if the
+-- connection's own events are those of such a query, it is answered so after all events together.
 abbrev pub HeldLocked : Type 0
 HeldLocked = (c lid : ℕ) (query : Order) (what : Awaited) (sent : List ℕ) (most : ℕ) (config : Config)
     (past between later events : List PlainEvent) (start before own log : List Act) → IsAtRest (exchange_acts (device_acts start))
@@ -259,8 +270,9 @@ is_command (order.Do action.WaitAndTell) = false
 is_command (order.Do action.Read) = false
 is_command _ = true
 
--- The history is `past` and then rounds: a connection sends commands, and queries whose response it reads, one after the other. Between
--- them only quiet events come. For a query that waits, the measurement ended in time, and one read can return the answer.
+-- The history is `past` and then rounds: a connection sends commands, and queries whose response it
+-- reads, one after the other. Between them only quiet events come. For a query that waits, the
+-- measurement ended in time, and one read can return the answer.
 pub data Rounds (c lid : ℕ) (config : Config) (past : List PlainEvent) : List PlainEvent → Type 0 where
   Start : Rounds c lid config past past
   Quiet : {history : List PlainEvent} (event : PlainEvent) → IsQuiet c event → Rounds c lid config past history
@@ -277,7 +289,8 @@ pub data Rounds (c lid : ℕ) (config : Config) (past : List PlainEvent) : List 
       → OneRead (term_of asks.reads.flags asks.reads.term_char) most (held_answer what end.done))
       → Rounds c lid config past history → Rounds c lid config past (later ++ Turn c ∷ (between ++ Turn c ∷ history))
 
--- whether an error is a query error: -410 (Query INTERRUPTED), -420 (Query UNTERMINATED) or -430 (Query DEADLOCKED)
+-- whether an error is a query error: -410 (Query INTERRUPTED), -420 (Query UNTERMINATED) or -430
+-- (Query DEADLOCKED)
 abbrev pub is_query_error : Code → Bool
 is_query_error QueryInterrupted = true
 is_query_error QueryUnterminated = true
@@ -293,13 +306,14 @@ abbrev pub NoneSince : List Act → List Act → Type 0
 NoneSince start log = IsAtRest (exchange_acts (device_acts log))
     × (query_errors (instrument_acts (device_acts log)) ≡ query_errors (instrument_acts (device_acts start)))
 
--- A controller that reads each response to its end before it writes again never gets a query error. Message exchange is at rest before the
--- rounds, and so it is after them.
+-- A controller that reads each response to its end before it writes again never gets a query error.
+-- Message exchange is at rest before the rounds, and so it is after them.
 abbrev pub NoQueryError : Type 0
 NoQueryError = (c lid : ℕ) (config : Config) (past history : List PlainEvent) (start log : List Act) → IsLogOf config past start
     → IsAtRest (exchange_acts (device_acts start)) → Rounds c lid config past history → IsLogOf config history log → NoneSince start log
 
--- The same while the connection's link holds the lock, and other connections do anything: the connection's own events are such rounds.
+-- The same while the connection's link holds the lock, and other connections do anything: the
+-- connection's own events are such rounds.
 abbrev pub NoQueryErrorLocked : Type 0
 NoQueryErrorLocked = (c lid : ℕ) (config : Config) (past events : List PlainEvent) (start log : List Act) → IsLogOf config past start
     → IsAtRest (exchange_acts (device_acts start)) → IsLocked c lid config past events

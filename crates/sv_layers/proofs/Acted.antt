@@ -1,4 +1,5 @@
--- The exchange has acted, and the other layers are as they were: so an act of the instrument begins.
+-- The exchange has acted, and the other layers are as they were: so an act of the instrument
+-- begins.
 use Rattle.std.proofs.Common.{List, ◌∷◌}
 use Rattle.sv_exchange.specs.Exchange.{ExchangeAct}
 use Rattle.sv_exchange.specs.Contents.{Contents, StandsFor as Exchanges}

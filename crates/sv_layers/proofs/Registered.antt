@@ -1,4 +1,5 @@
--- What a status register sees of an act: the condition behind it, and then what the act does to the register itself.
+-- What a status register sees of an act: the condition behind it, and then what the act does to the
+-- register itself.
 use Rattle.std.proofs.Common.{◌≡◌, List, ◌∷◌, refl}
 use Rattle.sv_status.specs.declared.register_name.RegisterName.{RegisterName}
 use Rattle.sv_status.specs.declared.register.RegisterAct.TheVariants as register

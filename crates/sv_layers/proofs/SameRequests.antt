@@ -16,7 +16,8 @@ use Rattle.sv_layers.proofs.Projected.{projected}
 use Rattle.sv_layers.proofs.SameSummaries.{same_summaries, no_summary}
 use Rattle.sv_layers.proofs.NothingAtPoll.{polled_asks, polled_ended}
 
--- an act that is no poll: it isn't told of itself, and a request lasts at it by the master summary alone
+-- an act that is no poll: it isn't told of itself, and a request lasts at it by the master summary
+-- alone
 abbrev IsOther : Act → Type 0
 IsOther act = ((status_log : List StatusAct) → own_status act status_log ≡ status_log)
     × ((log : List Act) → Lasts (act ∷ log) ↔ Master (act ∷ log))

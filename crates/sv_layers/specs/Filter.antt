@@ -1,4 +1,5 @@
--- Filters, enables and clearing of the event registers (SCPI-1999, chapter 20, STATus), by searches of the log.
+-- Filters, enables and clearing of the event registers (SCPI-1999, chapter 20, STATus), by searches
+-- of the log.
 use Rattle.std.specs.Prelude.{ℕ, ◌==◌, Bool, true, false, not, ◌&&◌, ◌||◌, List, [], ◌∷◌, Option, Some, None, if◌then◌else◌}
 use Rattle.std.specs.Int.{bit_at}
 use Rattle.sv_logs.specs.Since.{last_given}
@@ -16,12 +17,13 @@ is_same Questionable Questionable = true
 is_same Limit Limit = true
 is_same _ _ = false
 
--- the enable mask of a register at power on and after a preset: 32767 for the limit register, 0 for every other register
+-- the enable mask of a register at power on and after a preset: 32767 for the limit register, 0 for
+-- every other register
 abbrev pub start : RegisterName → ℕ
 start = elim [ Limit ↦ 32767 | _ ↦ 0 ]
 
--- the new mask of register `name` after an act that sets this mask for register `other`: this mask without bit 15, if both are the
--- same register; else `None`
+-- the new mask of register `name` after an act that sets this mask for register `other`: this mask
+-- without bit 15, if both are the same register; else `None`
 abbrev pub mask_for : RegisterName → RegisterName → ℕ → Option ℕ
 mask_for name other mask = if is_same name other then Some (without_top_bit mask) else None
 
@@ -44,14 +46,16 @@ enable name = last_given (elim [ StatusChanged (Register other (Enable mask)) �
 abbrev pub has_bit : ℕ → ℕ → Bool
 has_bit word k = bit_at word k == 1
 
--- whether the newest act changes bit k of the condition, and the change passes its filter. A change to 1 passes if bit k of the positive
--- filter was set before the act; a change to 0 passes if bit k of the negative filter was set.
+-- whether the newest act changes bit k of the condition, and the change passes its filter. A change
+-- to 1 passes if bit k of the positive filter was set before the act; a change to 0 passes if bit k
+-- of the negative filter was set.
 abbrev pub passes : (List Act → ℕ) → RegisterName → ℕ → List Act → Bool
 passes condition name k [] = false
 passes condition name k (act ∷ before) =
     (not (has_bit (condition before) k) && (has_bit (condition (act ∷ before)) k && has_bit (rise name before) k))
     || (has_bit (condition before) k && (not (has_bit (condition (act ∷ before)) k) && has_bit (fall name before) k))
 
--- whether the newest act doesn't clear the event register: it is neither `*CLS` nor a read of this event register
+-- whether the newest act doesn't clear the event register: it is neither `*CLS` nor a read of this
+-- event register
 abbrev pub leaves : RegisterName → List Act → Bool
 leaves name = elim [ StatusChanged (Register other ReadEvents) ∷ log ↦ not (is_same name other) | Cleared ∷ log ↦ false | _ ↦ true ]

@@ -22,25 +22,28 @@ abbrev pub IsPending : List Act → Type 0
 IsPending [] = ⊤
 IsPending (act ∷ log) = (is_idle (act ∷ log) ≡ false) × (cancels act ≡ false)
 
--- An `*OPC` is pending: there was one, and at each moment since then a measurement was under way and nothing cancelled the `*OPC`.
+-- An `*OPC` is pending: there was one, and at each moment since then a measurement was under way
+-- and nothing cancelled the `*OPC`.
 abbrev pub Waits : List Act → Type 0
 Waits log = Since IsAsked IsPending log
 
--- At the newest act an `*OPC` completes: no measurement is under way. Either the newest act is the `*OPC`; or an `*OPC` was pending before,
--- and the newest act doesn't cancel it.
+-- At the newest act an `*OPC` completes: no measurement is under way. Either the newest act is the
+-- `*OPC`; or an `*OPC` was pending before, and the newest act doesn't cancel it.
 abbrev pub Completes : List Act → Type 0
 Completes [] = ⊥
 Completes (act ∷ before) = (is_idle (act ∷ before) ≡ true) × (IsAsked (act ∷ before) ⊎ (Waits before × (cancels act ≡ false)))
 
--- The standard event of bit k occurs at the newest act. Bit 7: power on, which occurs before all acts. Bit 0: an `*OPC` completes. Bits 5
--- to 2: an error of the bit's class is reported. Bit 3 also occurs if the error queue overflows.
+-- The standard event of bit k occurs at the newest act. Bit 7: power on, which occurs before all
+-- acts. Bit 0: an `*OPC` completes. Bits 5 to 2: an error of the bit's class is reported. Bit 3
+-- also occurs if the error queue overflows.
 abbrev pub Occurs : ℕ → List Act → Type 0
 Occurs k [] = k ≡ 7
 Occurs k (Reported code ∷ log) = (bit_at (standard_event_of code) k ≡ 1) ⊎ ((k ≡ 3) × (is_full (queue_acts log) ≡ true))
     ⊎ ((k ≡ 0) × Completes (Reported code ∷ log))
 Occurs k log = (k ≡ 0) × Completes log
 
--- The newest act doesn't clear the standard event status register: the act is neither `*CLS` nor `*ESR?`.
+-- The newest act doesn't clear the standard event status register: the act is neither `*CLS` nor
+-- `*ESR?`.
 abbrev pub NotCleared : List Act → Type 0
 NotCleared = elim [ StatusChanged ReadStandard ∷ log ↦ ⊥ | Cleared ∷ log ↦ ⊥ | _ ↦ ⊤ ]
 

@@ -74,7 +74,8 @@ white_dark (b ∷ head) xs s e =
     let parts = and_parts (is_dark b) (list_all is_dark head) e in
     ap (λ (t : Bool). cond t (1 + white_size (head ++ xs)) 0) (not-true (is_white b) parts.0)
 
--- A unit is white space, a header and what stands behind it, which begins with white space; without a header that is nothing.
+-- A unit is white space, a header and what stands behind it, which begins with white space; without
+-- a header that is nothing.
 pub record IsDivided (unit lead head body : List ℕ) : Type 0 where
   pub whole : unit ≡ lead ++ (head ++ body)
   pub white : list_all is_white lead ≡ true

@@ -15,8 +15,9 @@ abbrev pub is_mnemonic : List ℕ → Bool
 is_mnemonic [] = false
 is_mnemonic (b ∷ bytes) = is_letter b && list_all is_word_byte bytes
 
--- the parts of a header that must be mnemonics. If the header begins with an asterisk, all bytes after the asterisk are one part; else
--- colons separate the parts. A question mark at the end of the header belongs to no part.
+-- the parts of a header that must be mnemonics. If the header begins with an asterisk, all bytes
+-- after the asterisk are one part; else colons separate the parts. A question mark at the end of
+-- the header belongs to no part.
 abbrev pub words : List ℕ → List (List ℕ)
 words text = elim (lead text) [ Common ↦ body text ∷ [] | _ ↦ cut_at 58 (body text) ]
 

@@ -23,8 +23,8 @@ in_u32 place = min place 4294967295
 abbrev pub StandsAt : List ℕ → ℕ → List ℕ → Type 0
 StandsAt unit place text = (front behind : List ℕ) × (unit ≡ front ++ (text ++ behind)) × (length front ≡ place)
 
--- The unit contains `slice` from position `place` on. The token has `slice` as its text, the kind of the data in `slice`, and the position
--- `place`, capped at 2 ^ 32 - 1.
+-- The unit contains `slice` from position `place` on. The token has `slice` as its text, the kind
+-- of the data in `slice`, and the position `place`, capped at 2 ^ 32 - 1.
 pub record IsToken (unit : List ℕ) (place : ℕ) (slice : List ℕ) (token : Token) : Type 0 where
   pub text : token.text.now ≡ slice
   pub start : token.start ≡ in_u32 place

@@ -1,4 +1,5 @@
--- The header of a program message unit, the text after the header, and the syntax faults of a unit (IEEE 488.2, 7.3 and 7.6).
+-- The header of a program message unit, the text after the header, and the syntax faults of a unit
+-- (IEEE 488.2, 7.3 and 7.6).
 use Rattle.std.specs.Prelude.{◌≡◌, ℕ, ◌+◌, ◌&&◌, ◌||◌, not, Bool, List, take, drop, Option, Some, None, Result, MatchResult, nat_lt, nat_le, length, if◌then◌else◌}
 use Rattle.std.specs.List.{prefix_len, position_or_len, list_all}
 use Rattle.sv_errors.specs.declared.code.Code.{Code}
@@ -38,8 +39,8 @@ rest_place unit = header_place unit + header_size unit + white_size (behind unit
 abbrev pub is_legal : ℕ → Bool
 is_legal b = is_white b || (nat_lt 32 b && nat_lt b 127)
 
--- the first fault of a unit: an illegal byte (-101); no valid header where the header should be (-102); or a mnemonic of more than 12
--- characters (-112). `None` if there is no fault.
+-- the first fault of a unit: an illegal byte (-101); no valid header where the header should be
+-- (-102); or a mnemonic of more than 12 characters (-112). `None` if there is no fault.
 abbrev pub unit_fault : List ℕ → Option Code
 unit_fault unit =
     if not (list_all is_legal unit) then Some InvalidCharacter
@@ -47,7 +48,7 @@ unit_fault unit =
     else if not (list_all (λ word. nat_le (length word) 12) (words (header unit))) then Some ProgramMnemonicTooLong
     else None
 
--- Reading these bytes as a unit has this outcome: the bytes themselves if the unit has no fault, else
--- its first fault.
+-- Reading these bytes as a unit has this outcome: the bytes themselves if the unit has no fault,
+-- else its first fault.
 abbrev pub IsLexed : Result (List ℕ) Code → List ℕ → Type 0
 IsLexed outcome bytes = MatchResult outcome (λ unit. (unit ≡ bytes) × (unit_fault bytes ≡ None)) (λ code. unit_fault bytes ≡ Some code)

@@ -8,8 +8,9 @@ use Rattle.sv_links.specs.declared.channel.Stage.TheVariants.{Closed, Prepared, 
 use Rattle.sv_links.specs.Limits.{max_connections, max_enabled}
 use Rattle.sv_links.specs.Channels.{ChannelAct, enabled_links, peer, bytes_taken, calls, calls_left}
 
--- the state of one interrupt channel: its stage; how many device_intr_srq calls were appended since the channel was opened; how many
--- bytes are still to be sent of each call that the peer didn't take completely; and all these bytes, joined
+-- the state of one interrupt channel: its stage; how many device_intr_srq calls were appended since
+-- the channel was opened; how many bytes are still to be sent of each call that the peer didn't
+-- take completely; and all these bytes, joined
 pub record Channel : Type 0 where
   pub stage : Stage
   pub made : ℕ
@@ -33,20 +34,20 @@ is_prepared Prepared = true
 is_prepared Closed = false
 is_prepared (Open what) = false
 
--- how many bytes remain of each call, if the calls have these sizes and the peer took `count` bytes in total. A call of which no byte
--- remains is omitted.
+-- how many bytes remain of each call, if the calls have these sizes and the peer took `count` bytes
+-- in total. A call of which no byte remains is omitted.
 abbrev pub left_in : ℕ → List ℕ → List ℕ
 left_in count [] = []
 left_in count (size ∷ sizes) = if nat_lt count size then (size - count) ∷ sizes else left_in (count - size) sizes
 
--- The channel stores what remains of `calls` after the peer took `count` bytes of these calls. All calls together have at least `count`
--- bytes.
+-- The channel stores what remains of `calls` after the peer took `count` bytes of these calls. All
+-- calls together have at least `count` bytes.
 abbrev pub IsQueued : Channel → ℕ → List (List ℕ) → Type 0
 IsQueued kept count calls = (kept.made ≡ length calls) × (kept.sizes ≡ map length (calls_left count calls))
     × (kept.bytes ≡ concat (calls_left count calls)) × (count ≤ length (concat calls))
 
--- If the channel is open, it stores what remains of `calls` after the peer took `count` bytes of these
--- calls.
+-- If the channel is open, it stores what remains of `calls` after the peer took `count` bytes of
+-- these calls.
 abbrev pub IsChannelFor : Option Peer → Channel → ℕ → List (List ℕ) → Type 0
 IsChannelFor (Some what) kept count calls = IsQueued kept count calls
 IsChannelFor None kept count calls = ⊤
@@ -60,7 +61,8 @@ abbrev pub IsSorted : List Enabled → Type 0
 IsSorted [] = ⊤
 IsSorted (link ∷ links) = AllByRecursion (λ other. link.lid < other.lid) links × IsSorted links
 
--- There is room for link `lid` to enable service requests: fewer than 32 other links have service requests enabled.
+-- There is room for link `lid` to enable service requests: fewer than 32 other links have service
+-- requests enabled.
 abbrev pub HasRoomFor : ℕ → Channels → Type 0
 HasRoomFor lid kept = length (filter (λ other. not (other.lid == lid)) kept.enabled) < max_enabled
 
@@ -87,8 +89,8 @@ bytes_of kept c = bytes_in (slice_get kept.channels c)
 abbrev pub IsReady : Channels → ℕ → Type 0
 IsReady kept c = (other : Channel) → is_prepared (slice_index_or kept.channels c other).stage ≡ true
 
--- The channels, and the list of links with service requests enabled, have the state that the acts determine. No connection above 15 has an
--- open channel.
+-- The channels, and the list of links with service requests enabled, have the state that the acts
+-- determine. No connection above 15 has an open channel.
 pub record AreChannels (kept : Channels) (acts : List ChannelAct) : Type 0 where
   pub enabled : kept.enabled ≡ enabled_links acts
   pub each : (c : ℕ) (other : Channel) → c < max_connections → IsChannel (slice_index_or kept.channels c other) c acts

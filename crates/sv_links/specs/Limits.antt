@@ -17,21 +17,23 @@ max_links = 32
 abbrev pub max_enabled : ℕ
 max_enabled = max_links
 
--- how many calls may wait on an interrupt channel, including a call of which the peer took only a part
+-- how many calls may wait on an interrupt channel, including a call of which the peer took only a
+-- part
 abbrev pub max_calls : ℕ
 max_calls = 32
 
--- how long the handle of a service request may be, in bytes (VXI-11 revision 1.0, section B.6, device_enable_srq)
+-- how long the handle of a service request may be, in bytes (VXI-11 revision 1.0, section B.6,
+-- device_enable_srq)
 abbrev pub max_handle : ℕ
 max_handle = 40
 
--- the length of the longest device_intr_srq in bytes: its header (40 bytes), the length field of the handle (4 bytes), and the longest
--- handle, which needs no padding
+-- the length of the longest device_intr_srq in bytes: its header (40 bytes), the length field of
+-- the handle (4 bytes), and the longest handle, which needs no padding
 abbrev pub longest_text : ℕ
 longest_text = 44 + max_handle
 
--- the length in bytes of the longest device_intr_srq as a record: the header of its one fragment (4 bytes; RFC 5531, section 11), and the
--- call
+-- the length in bytes of the longest device_intr_srq as a record: the header of its one fragment (4
+-- bytes; RFC 5531, section 11), and the call
 abbrev pub longest_call : ℕ
 longest_call = 4 + longest_text
 

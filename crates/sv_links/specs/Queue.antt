@@ -40,8 +40,8 @@ pub record IsQueue (entries : List Entry) (acts : List WaitAct) : Type 0 where
   pub ordered : IsOrdered acts entries
   pub all : (conn : ℕ) → waits conn acts ≡ option_map (λ entry. entry.wait) (entry_of conn entries)
 
--- an entry of the queue after the suspended call of connection `conn` began to wait for something else: the entry of `conn` gets this wait
--- and this deadline; any other entry is unchanged
+-- an entry of the queue after the suspended call of connection `conn` began to wait for something
+-- else: the entry of `conn` gets this wait and this deadline; any other entry is unchanged
 abbrev pub anew : ℕ → Wait → Option ℕ → Entry → Entry
 anew conn wait deadline entry = if entry.conn == conn then record entry { wait = wait; deadline = deadline } else entry
 
@@ -62,8 +62,9 @@ creations entries = length (filter creates entries)
 abbrev pub without : ℕ → List Entry → List Entry
 without conn entries = filter (λ entry. not (entry.conn == conn)) entries
 
--- the most steps that a suspended call with this wait can still take. Each call takes one step when it leaves the queue. A call that
--- waits for the lock can take one step more: it can first be suspended anew, to wait for something else.
+-- the most steps that a suspended call with this wait can still take. Each call takes one step when
+-- it leaves the queue. A call that waits for the lock can take one step more: it can first be
+-- suspended anew, to wait for something else.
 abbrev pub wait_measure : Wait → ℕ
 wait_measure Lock = 2
 wait_measure Input = 1

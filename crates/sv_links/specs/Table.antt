@@ -4,8 +4,9 @@ use Rattle.std.specs.List.{AllByRecursion}
 use Rattle.sv_links.specs.declared.links.Link.{Link}
 use Rattle.sv_links.specs.Links.{LinkAct, links_made, live, is_locked, is_this}
 
--- the state of the table of links: how many links were ever made; the slots, each of which has a live link or is empty; the link that
--- holds the lock; and the number of further links for which memory is reserved
+-- the state of the table of links: how many links were ever made; the slots, each of which has a
+-- live link or is empty; the link that holds the lock; and the number of further links for which
+-- memory is reserved
 pub record Table : Type 0 where
   pub made : ℕ
   pub slots : List (Option Link)
@@ -28,7 +29,8 @@ abbrev pub IsRising : List Link → ℕ → Type 0
 IsRising [] last = ⊤
 IsRising (link ∷ links) last = (link.lid ≤ last) × AllByRecursion (λ other. link.lid < other.lid) links × IsRising links last
 
--- The table has the state that the acts determine: each live link is in one slot, and the slots have nothing else.
+-- The table has the state that the acts determine: each live link is in one slot, and the slots
+-- have nothing else.
 pub record IsTable (table : Table) (acts : List LinkAct) : Type 0 where
   pub made : table.made ≡ links_made acts
   pub kept : IsKept table.slots (live acts)

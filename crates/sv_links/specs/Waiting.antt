@@ -1,5 +1,6 @@
--- Suspended calls (VXI-11 revision 1.0, section B.4.4: locks and timeouts): what each call waits for, when it times out, and in which
--- order the calls were suspended. In a list of acts the newest act comes first.
+-- Suspended calls (VXI-11 revision 1.0, section B.4.4: locks and timeouts): what each call waits
+-- for, when it times out, and in which order the calls were suspended. In a list of acts the newest
+-- act comes first.
 use Rattle.std.specs.Prelude.{◌≡◌, ℕ, ◌==◌, ◌≤◌, not, ◌&&◌, Bool, true, false, List, [], ◌∷◌, length, filter, is_none, option_map, Option, Some, None, if◌then◌else◌}
 use Rattle.std.specs.List.{range_with_len}
 use Rattle.sv_logs.specs.Since.{newest}
@@ -8,9 +9,10 @@ use Rattle.sv_links.specs.Limits.{max_connections}
 use Rattle.sv_links.specs.Links.{is_locked_out}
 use Rattle.sv_links.specs.declared.waiting.Wait.TheVariants.{Lock, Input, Response}
 
--- What happens to the call of a connection. `Entered`: the call is suspended; `link` is the link that the call names, or `None`. `Again`:
--- the call stays suspended, but now waits for something else. `Left`: the call isn't suspended any more. `deadline` is the value of the
--- clock at which the wait times out, in milliseconds; `None` if it never does.
+-- What happens to the call of a connection. `Entered`: the call is suspended; `link` is the link
+-- that the call names, or `None`. `Again`: the call stays suspended, but now waits for something
+-- else. `Left`: the call isn't suspended any more. `deadline` is the value of the clock at which
+-- the wait times out, in milliseconds; `None` if it never does.
 pub data WaitAct : Type 0 where
   Entered : (conn : ℕ) (link : Option ℕ) (wait : Wait) (deadline : Option ℕ) → WaitAct
   Again : (conn : ℕ) (wait : Wait) (deadline : Option ℕ) → WaitAct
@@ -39,7 +41,8 @@ enters c = elim [ Entered conn link wait deadline ∷ acts ↦ conn == c | _ ↦
 abbrev pub arrival : ℕ → List WaitAct → ℕ
 arrival c acts = length (newest (enters c) acts)
 
--- the link named by the call that the newest act suspends; `None` if the call names no link, or if the newest act suspends no call
+-- the link named by the call that the newest act suspends; `None` if the call names no link, or if
+-- the newest act suspends no call
 abbrev link_of : List WaitAct → Option ℕ
 link_of = elim [ Entered conn link wait deadline ∷ acts ↦ link | _ ↦ None ]
 
@@ -55,9 +58,9 @@ is_lock = elim [ Some Lock ↦ true | _ ↦ false ]
 abbrev pub connections : List ℕ
 connections = range_with_len 0 max_connections
 
--- whether a call gets what it waits for, by the kind of its wait. `Lock`: no link other than the named one holds the lock. `Input`: the
--- device accepts a write (`can_write`). `Response`: the device answers a read (`can_read`). For any other wait, or `None`, the result is
--- false.
+-- whether a call gets what it waits for, by the kind of its wait. `Lock`: no link other than the
+-- named one holds the lock. `Input`: the device accepts a write (`can_write`). `Response`: the
+-- device answers a read (`can_read`). For any other wait, or `None`, the result is false.
 abbrev pub is_there : Option ℕ → Bool → Bool → Option ℕ → Option Wait → Bool
 is_there holder can_write can_read named (Some Lock) = not (is_locked_out holder named)
 is_there holder can_write can_read named (Some Input) = can_write
@@ -80,8 +83,8 @@ is_creating acts c = is_lock (waits c acts) && is_none (link c acts)
 abbrev pub creating : List WaitAct → ℕ
 creating acts = length (filter (is_creating acts) connections)
 
--- Of all connections for which `IsSuch` holds, the third argument is the connection whose call was suspended first. The third
--- argument is `None` if `IsSuch` holds for no connection.
+-- Of all connections for which `IsSuch` holds, the third argument is the connection whose call was
+-- suspended first. The third argument is `None` if `IsSuch` holds for no connection.
 abbrev pub IsOldest : List WaitAct → (ℕ → Type 0) → Option ℕ → Type 0
 IsOldest acts IsSuch None = (c : ℕ) → IsSuch c → ⊥
 IsOldest acts IsSuch (Some c) = IsSuch c × ((d : ℕ) → IsSuch d → arrival c acts ≤ arrival d acts)

@@ -49,13 +49,15 @@ IfBoth (Some text) None P = ⊥
 IfBoth None (Some a) P = ⊥
 IfBoth None None P = ⊤
 
--- The ports of a replay are the values of these options: both are given; or none is, and the ports are 4096 and 4097.
+-- The ports of a replay are the values of these options: both are given; or none is, and the ports
+-- are 4096 and 4097.
 abbrev pub ArePorts : Option Text → Option Text → Ports → Type 0
 ArePorts (Some core) (Some abort) ports = IsCount 65535 core ports.core × IsCount 65535 abort ports.abort
 ArePorts None None ports = (ports.core ≡ 4096) × (ports.abort ≡ 4097)
 ArePorts _ _ ports = ⊥
 
--- The values of the options say which ports a replay has. `value` finds the value of the option that has a given name.
+-- The values of the options say which ports a replay has. `value` finds the value of the option
+-- that has a given name.
 abbrev pub HasPorts : (Text → Option Text) → Ports → Type 0
 HasPorts value ports = ArePorts (value (codes "core")) (value (codes "abort")) ports
 
@@ -70,7 +72,8 @@ ServesBy value serve = IfGiven (value (codes "core")) (λ text. IsCount 65535 te
     × IfBoth (value (codes "record")) serve.record (λ text path. path.now ≡ text)
     × IfBoth (value (codes "control")) serve.control (λ text port. IsCount 65535 text port)
 
--- No word is `--`; clap's command `command` finds no fault in the words; and `P` holds of the values that it finds for the options.
+-- No word is `--`; clap's command `command` finds no fault in the words; and `P` holds of the
+-- values that it finds for the options.
 abbrev pub Asks : App → ((Text → Option Text) → Type 0) → List Text → Type 0
 Asks command P words = (Contains words (codes "--") → ⊥) × (fault_of command words ≡ [])
     × P (λ name. first_of name (matches_of command words))
@@ -83,14 +86,16 @@ AsksToReplay words ports = Asks replay_command (λ value. HasPorts value ports) 
 abbrev pub AsksToServe : List Text → Serve → Type 0
 AsksToServe words serve = Asks serve_command (λ value. ServesBy value serve) words
 
--- The words of the command line tell the program to do this: `replay`, `explain` or `serve`, with its options.
+-- The words of the command line tell the program to do this: `replay`, `explain` or `serve`, with
+-- its options.
 abbrev pub AsksFor : List Text → Words → Type 0
 AsksFor [] words = ⊥
 AsksFor (word ∷ words) (Replay ports) = (word ≡ codes "replay") × AsksToReplay (word ∷ words) ports
 AsksFor (word ∷ words) (Explain ports) = (word ≡ codes "explain") × AsksToReplay (word ∷ words) ports
 AsksFor (word ∷ words) (Server serve) = (word ≡ codes "serve") × AsksToServe (word ∷ words) serve
 
--- What reading the command line returns: something of which `P` holds; `BadWords`, if `P` holds of nothing; or that memory was refused.
+-- What reading the command line returns: something of which `P` holds; `BadWords`, if `P` holds of
+-- nothing; or that memory was refused.
 abbrev pub ReadsWords : {A : Type 0} → (A → Type 0) → Result A ProgramFault → Type 0
 ReadsWords P (Ok asked) = P asked
 ReadsWords {A} P (Err BadWords) = (asked : A) → P asked → ⊥
@@ -102,7 +107,7 @@ abbrev pub Finds : {A : Type 0} → (A → Type 0) → Option A → Type 0
 Finds P (Some found) = P found
 Finds {A} P None = (other : A) → P other → ⊥
 
--- This is the program's fault for an error of clap. If clap's error is of the kind `OutOfMemory`, the fault is that memory was
--- refused; else it is `BadWords`.
+-- This is the program's fault for an error of clap. If clap's error is of the kind `OutOfMemory`,
+-- the fault is that memory was refused; else it is `BadWords`.
 abbrev pub IsUsageFault : ErrorKind → ProgramFault → Type 0
 IsUsageFault kind fault = ((kind ≡ OutOfMemory) × (fault ≡ Run Memory)) ⊎ ((kind ≡ OutOfMemory → ⊥) × (fault ≡ BadWords))

@@ -1,5 +1,5 @@
--- What a printer did with a text: its writer accepted the whole text, or failed and accepted a prefix of the text. After that, the writer
--- is given no more bytes.
+-- What a printer did with a text: its writer accepted the whole text, or failed and accepted a
+-- prefix of the text. After that, the writer is given no more bytes.
 use Rattle.std.specs.Prelude.{◌≡◌, ℕ, Bool, true, false, List, Option}
 use Rattle.std.specs.Io.KnownBytes.{Appends}
 use Rattle.sv_print.specs.TakenByWriter.{IsFront}

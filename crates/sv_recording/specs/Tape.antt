@@ -23,7 +23,8 @@ ok_end false = codes " failed\n"
 abbrev pub numbered : List ℕ → ℕ → List ℕ → List ℕ
 numbered word number end = word ++ (decimal number ++ end)
 
--- the line of an event; a Took has none, since a replay sends everything at once, and a Tick has none of its own
+-- the line of an event; a Took has none, since a replay sends everything at once, and a Tick has
+-- none of its own
 abbrev pub event_line : PlainEvent → List ℕ
 event_line (Open c role) = numbered (codes "open ") c (role_end role)
 event_line (Bytes c piece) = numbered (codes "bytes ") c (32 ∷ (encode_lower piece ++ 10 ∷ []))
@@ -48,27 +49,29 @@ pending (Tick ∷ history) = if pending history + 1 == 1000000 then 0 else pendi
 pending (Took port count ∷ history) = pending history
 pending (_ ∷ history) = 0
 
--- the script of a history, but for its last milliseconds (`pending`): a line for each event, and before it a line for the milliseconds
--- since the event before
+-- the script of a history, but for its last milliseconds (`pending`): a line for each event, and
+-- before it a line for the milliseconds since the event before
 abbrev pub script : List PlainEvent → List ℕ
 script [] = []
 script (Tick ∷ history) = if pending history + 1 == 1000000 then script history ++ ticks_line 1000000 else script history
 script (Took port count ∷ history) = script history
 script (event ∷ history) = (script history ++ ticks_line (pending history)) ++ event_line event
 
--- the state of a tape: its writer; how many milliseconds it has counted since its last line; and whether its writer has failed
+-- the state of a tape: its writer; how many milliseconds it has counted since its last line; and
+-- whether its writer has failed
 pub record TapeState (W : Type 0) : Type 0 where
   pub writer : W
   pub ticks : ℕ
   pub failed : Bool
 
--- Since its writer held `first`, the tape has written this text; or a prefix of it, if the writer has failed. Else it has also counted this
--- many milliseconds.
+-- Since its writer held `first`, the tape has written this text; or a prefix of it, if the writer
+-- has failed. Else it has also counted this many milliseconds.
 abbrev pub Writes : {W : Type 0} → (W → Option (List ℕ)) → Option (List ℕ) → List ℕ → ℕ → TapeState W → Type 0
 Writes contents first text ticks tape =
     Prints first false (contents tape.writer) tape.failed text × (tape.failed ≡ false → tape.ticks ≡ ticks)
 
--- Since it was in the state `first`, a new tape was told this history: it has written the history's script, and counted its last
--- milliseconds; or its writer has failed, and took a prefix of the script.
+-- Since it was in the state `first`, a new tape was told this history: it has written the history's
+-- script, and counted its last milliseconds; or its writer has failed, and took a prefix of the
+-- script.
 abbrev pub Notes : {W : Type 0} → (W → Option (List ℕ)) → TapeState W → List PlainEvent → TapeState W → Type 0
 Notes contents first history now = Writes contents (contents first.writer) (script history) (pending history) now

@@ -1,5 +1,5 @@
--- The function that reads a line of a scenario from left to right. The comment over each of its parts says what the part reads. For any
--- other text the part returns `None`.
+-- The function that reads a line of a scenario from left to right. The comment over each of its
+-- parts says what the part reads. For any other text the part returns `None`.
 use Rattle.std.specs.Prelude.{ℕ, List, length, codes, Option, Some, None, is_none, nat_lt, if◌then◌else◌}
 use Rattle.std.specs.Str.{bytes_eq}
 use Rattle.sv_history.specs.History.{input_refusal}
@@ -8,7 +8,8 @@ use Rattle.sv_replay.specs.declared.entry.Stimulus.{Stimulus}
 use Rattle.sv_replay.specs.declared.entry.Stimulus.TheVariants.{Input, External}
 use Rattle.sv_replay.specs.Reading.{◌>>=◌, cut_at, numbered_at, short_at, voltage_at}
 
--- an `input`, read from the text after this word: a channel and a voltage, if the server accepts them
+-- an `input`, read from the text after this word: a channel and a voltage, if the server accepts
+-- them
 unfoldable pub accepted_at : List ℕ → Option Stimulus
 accepted_at text = do
   x ← numbered_at text
@@ -23,7 +24,8 @@ lone_stimulus_at word = if bytes_eq word (codes "external") then Some External e
 unfoldable pub worded_stimulus_at : List ℕ → List ℕ → Option Stimulus
 worded_stimulus_at word text = if bytes_eq word (codes "input") then accepted_at text else None
 
--- a stimulus, read from its text; the second argument is the text cut at its first space, or `None` if the text has no space
+-- a stimulus, read from its text; the second argument is the text cut at its first space, or `None`
+-- if the text has no space
 abbrev pub cut_stimulus_at : List ℕ → Option (List ℕ × List ℕ) → Option Stimulus
 cut_stimulus_at text None = lone_stimulus_at text
 cut_stimulus_at text (Some cut) = worded_stimulus_at cut.0 cut.1

@@ -1,4 +1,5 @@
--- The meaning of a line of a replay, defined as a relation between the line's bytes and the meaning.
+-- The meaning of a line of a replay, defined as a relation between the line's bytes and the
+-- meaning.
 use Rattle.std.specs.Prelude.{◌≡◌, ◌≢◌, ◌⊎◌, ℕ, ◌+◌, ◌-◌, ◌*◌, ◌<◌, ◌≤◌, ℤ, pos, negsuc, Bool, true, false, List, [], ◌∷◌, ◌++◌, length, codes, fold}
 use Rattle.std.specs.List.{AllByRecursion}
 use Rattle.sv_history.specs.declared.event.Role.{Role}
@@ -37,15 +38,16 @@ IsHexDigit digit n = (n < 16) × (((n < 10) × (digit ≡ n + 48)) ⊎ (((10 ≤
 abbrev pub IsPair : ℕ → ℕ → ℕ → Type 0
 IsPair high low byte = (h l : ℕ) × IsHexDigit high h × IsHexDigit low l × (byte ≡ 16 * h + l)
 
--- The text is one or more bytes, each written as two hexadecimal digits, with at most one space between two bytes.
+-- The text is one or more bytes, each written as two hexadecimal digits, with at most one space
+-- between two bytes.
 abbrev pub IsHex : List ℕ → List ℕ → Type 0
 IsHex text [] = ⊥
 IsHex text (byte ∷ []) = (high low : ℕ) × IsPair high low byte × (text ≡ high ∷ low ∷ [])
 IsHex text (byte ∷ other ∷ bytes) = (high low : ℕ) × (rest : List ℕ) × IsPair high low byte × IsHex rest (other ∷ bytes)
     × ((text ≡ high ∷ low ∷ rest) ⊎ (text ≡ high ∷ low ∷ 32 ∷ rest))
 
--- The text is a voltage in microvolts: 1 to 18 digits, with a minus sign before them if the voltage is below zero. The digits may begin
--- with zeros, and zero may have a minus sign.
+-- The text is a voltage in microvolts: 1 to 18 digits, with a minus sign before them if the voltage
+-- is below zero. The digits may begin with zeros, and zero may have a minus sign.
 abbrev pub IsVoltage : List ℕ → ℤ → Type 0
 IsVoltage text (pos n) = (digits : List ℕ) × IsNumber digits n × (length digits ≤ 18) × ((text ≡ digits) ⊎ ((n ≡ 0) × (text ≡ 45 ∷ digits)))
 IsVoltage text (negsuc n) = (digits : List ℕ) × IsNumber digits (n + 1) × (length digits ≤ 18) × (text ≡ 45 ∷ digits)

@@ -1,5 +1,5 @@
--- The function that reads a line of a replay from left to right. The comment over each of its parts says what the part reads. For any other
--- text the part returns `None`.
+-- The function that reads a line of a replay from left to right. The comment over each of its parts
+-- says what the part reads. For any other text the part returns `None`.
 use Rattle.std.specs.Prelude.{ℕ, ◌+◌, ◌-◌, ◌*◌, ℤ, pos, neg_ℤ, Bool, true, false, ◌&&◌, List, [], ◌∷◌, length, drop, codes, Option, Some, None, option_and_then, option_map, nat_le, nat_lt, ◌==◌, if◌then◌else◌}
 use Rattle.sv_text.specs.Front.{has_minus}
 use Rattle.std.specs.Char.{is_ascii_digit}
@@ -11,13 +11,14 @@ use Rattle.sv_history.specs.declared.event.Port.TheVariants.{Conn, Intr}
 use Rattle.sv_history.specs.Event.{PlainEvent, Open, Bytes, Turn, Refuse, Close, Dialed, Input, External, Tick}
 use Rattle.sv_replay.specs.Line.{Line, Blank, One, Ticks}
 
--- reads a part of a line, and then a second part, which may depend on the value of the first part; `None` if either part can't be read
+-- reads a part of a line, and then a second part, which may depend on the value of the first part;
+-- `None` if either part can't be read
 infixl 10 ◌>>=◌
 abbrev pub ◌>>=◌ : {A B : Type 0} → Option A → (A → Option B) → Option B
 o >>= f = option_and_then f o
 
--- the number whose decimal digits are those of `n` and then these characters; `None` if it is above `most`, or if one of the characters
--- isn't a digit
+-- the number whose decimal digits are those of `n` and then these characters; `None` if it is above
+-- `most`, or if one of the characters isn't a digit
 unfoldable pub digits_onto : ℕ → ℕ → List ℕ → Option ℕ
 digits_onto most n [] = Some n
 digits_onto most n (digit ∷ digits) =
@@ -140,14 +141,16 @@ input_at text = do
   microvolts ← voltage_at x.1
   Some (Input x.0 microvolts)
 
--- a Bytes, a Turn or a Refuse event, read from the first word of the line and the text after this word
+-- a Bytes, a Turn or a Refuse event, read from the first word of the line and the text after this
+-- word
 unfoldable pub traffic_at : List ℕ → List ℕ → Option PlainEvent
 traffic_at word text =
     if bytes_eq word (codes "bytes") then bytes_at text
     else (if bytes_eq word (codes "turn") then option_map Turn (plain_at 255 text)
     else (if bytes_eq word (codes "refuse") then option_map Refuse (plain_at 255 text) else None))
 
--- an event of a connection or an interrupt channel, read from the first word of the line and the text after this word
+-- an event of a connection or an interrupt channel, read from the first word of the line and the
+-- text after this word
 unfoldable pub event_at : List ℕ → List ℕ → Option PlainEvent
 event_at word text =
     if bytes_eq word (codes "open") then open_at text
@@ -167,7 +170,8 @@ words_at word text =
     if bytes_eq word (codes "tick") then ticks_at text
     else (if bytes_eq word (codes "input") then option_map One (input_at text) else option_map One (event_at word text))
 
--- the meaning of a line, read from the line; the second argument is the line cut at its first space, or `None` if the line has no space
+-- the meaning of a line, read from the line; the second argument is the line cut at its first
+-- space, or `None` if the line has no space
 abbrev pub cut_line_at : List ℕ → Option (List ℕ × List ℕ) → Option Line
 cut_line_at line None = lone_at line
 cut_line_at line (Some cut) = words_at cut.0 cut.1

@@ -17,7 +17,8 @@ nothing_held = record { text = []; reads = 0 }
 abbrev pub first_end : List ℕ → Option ℕ
 first_end text = position (λ b. b == 10) text
 
--- A read that found the reader's end, or failed, returned no bytes: `more` is empty. If it found the end, no bytes remain in the reader.
+-- A read that found the reader's end, or failed, returned no bytes: `more` is empty. If it found
+-- the end, no bytes remain in the reader.
 abbrev pub IsGiven : List ℕ → Option (List ℕ) → Result Bool InputFault → Type 0
 IsGiven more rest (Ok true) = Unit {0}
 IsGiven more rest (Ok false) = (more ≡ []) × IsAtEnd rest
@@ -27,7 +28,8 @@ IsGiven more rest (Err fault) = more ≡ []
 abbrev pub Filled : Option (List ℕ) → Option (List ℕ) → List ℕ → List ℕ → Result Bool InputFault → Type 0
 Filled before rest old new result = (more : List ℕ) × Consumes before rest more × (new ≡ old ++ more) × IsGiven more rest result
 
--- What one read put at the front of a buffer's free part: `count` bytes; or no bytes, at the reader's end or if the read failed.
+-- What one read put at the front of a buffer's free part: `count` bytes; or no bytes, at the
+-- reader's end or if the read failed.
 abbrev pub IsBehind : Option (List ℕ) → Option (List ℕ) → List ℕ → Result (Option ℕ) InputFault → Type 0
 IsBehind before rest free (Ok (Some count)) = (count ≤ length free) × Consumes before rest (take count free)
 IsBehind before rest free (Ok None) = Consumes before rest [] × IsAtEnd rest
@@ -41,8 +43,9 @@ held_of buffer start end reads = record { text = slice_range buffer start end; r
 abbrev pub line_size : List ℕ → ℕ
 line_size text = position_or_len (λ b. b == 10) text
 
--- The invariant of the fields of a `Text`: the positions are in order; the buffer has its full size; the stored text has no new line before
--- the position `clean`; and at most 4294967294 reads were made.
+-- The invariant of the fields of a `Text`: the positions are in order; the buffer has its full
+-- size; the stored text has no new line before the position `clean`; and at most 4294967294 reads
+-- were made.
 pub record IsKept (buffer : List ℕ) (start clean end reads : ℕ) : Type 0 where
   pub order : (start ≤ clean) × (clean ≤ end) × (end ≤ 131072)
   pub size : length buffer ≡ 131072

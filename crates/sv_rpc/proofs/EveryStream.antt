@@ -11,7 +11,8 @@ use Rattle.sv_rpc.specs.Stream.{Reading, read_on, read_data, read, reading, reco
 use Rattle.sv_rpc.specs.Laws.{ReadAsSplit}
 use Rattle.sv_rpc.proofs.Steps.{header_read}
 
--- behind these fragments, which aren't the last of their record, the bytes are read, and the whole splits so
+-- behind these fragments, which aren't the last of their record, the bytes are read, and the whole
+-- splits so
 abbrev pub SplitsSo : List (List ℕ) → List ℕ → Reading → Type 0
 SplitsSo front bytes reading = Splits (flat_map (fragment false) front ++ bytes) reading.0 reading.1
 

@@ -8,7 +8,8 @@ use Rattle.sv_rpc.specs.Call.{heading}
 use Rattle.sv_rpc.specs.Reply.{reply_fields}
 use Rattle.sv_rpc.specs.Laws.{CallsPrefixFree, RepliesPrefixFree}
 
--- The fields are the same as far as they are words or opaque data in both lists, and so is what follows two lists that end together.
+-- The fields are the same as far as they are words or opaque data in both lists, and so is what
+-- follows two lists that end together.
 abbrev Agree : List Field → List Field → List ℕ → List ℕ → Type 0
 Agree [] [] after behind = after ≡ behind
 Agree (Unsigned m ∷ xs) (Unsigned n ∷ ys) after behind = (m ≡ n) × Agree xs ys after behind

@@ -152,7 +152,8 @@ word_heads : (word : ℕ) (last : Bool) → leb (2 ^ 31) word ≡ last → word 
 word_heads word true is small = ap (to_be_bytes w32) (omega (arith, leb-true (2 ^ 31) word is))
 word_heads word false is small = ap (to_be_bytes w32) (omega (arith, leb-false (2 ^ 31) word is))
 
--- four bytes are the header that their word stands for: its top bit says whether the fragment is the last, and the others are the length
+-- four bytes are the header that their word stands for: its top bit says whether the fragment is
+-- the last, and the others are the length
 pub header_read : (header : List ℕ) (word : ℕ) → length header ≡ 4 → ((i : ℕ) → get_or header i 0 < 256) → word ≡ from_be_bytes w32 header
     → word < 2 ^ 32
     → header ≡ header_of (leb (2 ^ 31) word) (word % 2 ^ 31)

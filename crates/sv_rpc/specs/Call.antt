@@ -1,4 +1,5 @@
--- The header of a call (RFC 5531, section 9): the relation between bytes and the header's fields, and the function that reads the fields.
+-- The header of a call (RFC 5531, section 9): the relation between bytes and the header's fields,
+-- and the function that reads the fields.
 use Rattle.std.specs.Prelude.{◌≢◌, ℕ, ◌≤◌, List, [], ◌∷◌, length, Result, Ok, Err, ◌==◌, if◌then◌else◌}
 use Rattle.sv_xdr.specs.declared.fault.XdrFault.{XdrFault}
 use Rattle.sv_xdr.specs.Spelling.{Field, Unsigned, Opaque, BeginsAll}
@@ -20,7 +21,8 @@ pub record PlainCall : Type 0 where
 abbrev pub plain_call : Call → PlainCall
 plain_call call = record { xid = call.xid; prog = call.prog; vers = call.vers; proc = call.proc; args = call.args.now }
 
--- a credential or a verifier (8.2): a flavor, and a body of at most 400 bytes. The server ignores the contents of both.
+-- a credential or a verifier (8.2): a flavor, and a body of at most 400 bytes. The server ignores
+-- the contents of both.
 pub record Auth : Type 0 where
   pub flavor : ℕ
   pub body : List ℕ
@@ -36,19 +38,21 @@ abbrev pub IsCall : List ℕ → PlainCall → Type 0
 IsCall bytes call = (credential verifier : Auth) × (length credential.body ≤ max_auth) × (length verifier.body ≤ max_auth)
     × BeginsAll bytes (heading call credential verifier) call.args
 
--- The bytes are a call with transaction number `xid` under an RPC version other than 2. Any bytes may follow the version.
+-- The bytes are a call with transaction number `xid` under an RPC version other than 2. Any bytes
+-- may follow the version.
 abbrev pub IsOtherVersion : List ℕ → ℕ → Type 0
 IsOtherVersion bytes xid = (version : ℕ) × (after : List ℕ) × (version ≢ 2)
     × BeginsAll bytes (Unsigned xid ∷ Unsigned 0 ∷ Unsigned version ∷ []) after
 
--- What these bytes are. `Ok`: they encode this call. `Version`: they are a call under an RPC version other than 2. `BadHeader`: they are
--- neither.
+-- What these bytes are. `Ok`: they encode this call. `Version`: they are a call under an RPC
+-- version other than 2. `BadHeader`: they are neither.
 abbrev pub CallIs : List ℕ → Result PlainCall CallFault → Type 0
 CallIs bytes (Ok call) = IsCall bytes call
 CallIs bytes (Err (Version xid)) = IsOtherVersion bytes xid
 CallIs bytes (Err BadHeader) = ((call : PlainCall) → IsCall bytes call → ⊥) × ((xid : ℕ) → IsOtherVersion bytes xid → ⊥)
 
--- the next step of a reading: `f` applied to the field that was read; `BadHeader` if the field can't be read
+-- the next step of a reading: `f` applied to the field that was read; `BadHeader` if the field
+-- can't be read
 infixl 10 ◌>>=◌
 abbrev pub ◌>>=◌ : {A B : Type 0} → Result A XdrFault → (A → Result B CallFault) → Result B CallFault
 (Ok x) >>= f = f x

@@ -17,15 +17,15 @@ pub record Mapping : Type 0 where
 abbrev pub mapping_fields : Mapping → List Field
 mapping_fields m = Unsigned m.prog ∷ Unsigned m.vers ∷ Unsigned m.prot ∷ Unsigned m.port ∷ []
 
--- the port in the reply: the core channel's for program 0x0607AF, the abort channel's for program 0x0607B0, each at version 1 over TCP
--- (protocol 6); 0 for anything else
+-- the port in the reply: the core channel's for program 0x0607AF, the abort channel's for program
+-- 0x0607B0, each at version 1 over TCP (protocol 6); 0 for anything else
 abbrev pub port_of : Ports → Mapping → ℕ
 port_of ports m =
     if (m.prog == 395183) && ((m.vers == 1) && (m.prot == 6)) then ports.core
     else (if (m.prog == 395184) && ((m.vers == 1) && (m.prot == 6)) then ports.abort else 0)
 
--- This is the answer to a GETPORT call with these bytes as arguments. Bytes after the arguments are ignored. If the arguments
--- can't be read from the bytes, the answer is `Garbage`.
+-- This is the answer to a GETPORT call with these bytes as arguments. Bytes after the arguments are
+-- ignored. If the arguments can't be read from the bytes, the answer is `Garbage`.
 abbrev pub PortIs : Ports → List ℕ → Result ℕ Garbage → Type 0
 PortIs ports args (Ok port) = (m : Mapping) × (after : List ℕ) × BeginsAll args (mapping_fields m) after × (port ≡ port_of ports m)
 PortIs ports args (Err garbage) = (m : Mapping) (after : List ℕ) → BeginsAll args (mapping_fields m) after → ⊥

@@ -1,11 +1,12 @@
--- Record marking (RFC 5531, section 11), as a relation between a whole stream of bytes and its records.
+-- Record marking (RFC 5531, section 11), as a relation between a whole stream of bytes and its
+-- records.
 use Rattle.std.specs.Prelude.{◌≡◌, ℕ, ◌+◌, ◌<◌, ◌≤◌, ◌^◌, Bool, true, false, List, ◌++◌, length, map, if◌then◌else◌}
 use Rattle.std.specs.List.{concat, flat_map, AllByRecursion}
 use Rattle.sv_xdr.specs.Spelling.{Unsigned, spelling}
 use Rattle.sv_rpc.specs.Limits.{max_record}
 
--- the header of a fragment, an encoded 32-bit number: the top bit marks the last fragment of a record, and the low 31 bits are the length
--- of the fragment's data
+-- the header of a fragment, an encoded 32-bit number: the top bit marks the last fragment of a
+-- record, and the low 31 bits are the length of the fragment's data
 abbrev pub header_of : Bool → ℕ → List ℕ
 header_of last size = spelling (Unsigned (if last then size + 2 ^ 31 else size))
 
@@ -13,7 +14,8 @@ header_of last size = spelling (Unsigned (if last then size + 2 ^ 31 else size))
 abbrev pub fragment : Bool → List ℕ → List ℕ
 fragment last text = header_of last (length text) ++ text
 
--- a record as it is sent, in fragments: `front` has the data of each fragment before the last one, `final` the data of the last fragment
+-- a record as it is sent, in fragments: `front` has the data of each fragment before the last one,
+-- `final` the data of the last fragment
 pub record Sent : Type 0 where
   pub front : List (List ℕ)
   pub final : List ℕ
@@ -30,8 +32,9 @@ record_of sent = concat sent.front ++ sent.final
 abbrev pub IsTaken : Sent → Type 0
 IsTaken sent = length (record_of sent) ≤ max_record
 
--- what follows the last complete record of a stream: an unfinished record that lacks bytes of a fragment's header (`Header`); an unfinished
--- record that lacks bytes of a fragment's data (`Data`); or a record that is too long (`TooLong`). `payload` is the part of the unfinished
+-- what follows the last complete record of a stream: an unfinished record that lacks bytes of a
+-- fragment's header (`Header`); an unfinished record that lacks bytes of a fragment's data
+-- (`Data`); or a record that is too long (`TooLong`). `payload` is the part of the unfinished
 -- record's data that has come.
 pub data Tail : Type 0 where
   Header : (payload header : List ℕ) → Tail
@@ -42,8 +45,9 @@ pub data Tail : Type 0 where
 abbrev pub ends_overlong : Tail → Bool
 ends_overlong = elim [ TooLong ↦ true | _ ↦ false ]
 
--- The bytes are this tail. They begin with complete fragments, none of which is the last of its record. After these follow: fewer bytes
--- than a header has; a header and less data than the header says; or a header that makes the record too long, and any bytes after it.
+-- The bytes are this tail. They begin with complete fragments, none of which is the last of its
+-- record. After these follow: fewer bytes than a header has; a header and less data than the header
+-- says; or a header that makes the record too long, and any bytes after it.
 abbrev pub IsTail : List ℕ → Tail → Type 0
 IsTail bytes (Header payload header) = (front : List (List ℕ)) × (bytes ≡ flat_map (fragment false) front ++ header)
     × (payload ≡ concat front) × (length header < 4) × (length payload ≤ max_record)

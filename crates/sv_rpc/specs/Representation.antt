@@ -1,5 +1,5 @@
--- How the fields of a record buffer represent its complete records and its tail, the unfinished record after them. Also how pushed bytes
--- change the records and the tail.
+-- How the fields of a record buffer represent its complete records and its tail, the unfinished
+-- record after them. Also how pushed bytes change the records and the tail.
 use Rattle.std.specs.Prelude.{◌≡◌, ℕ, ◌+◌, ◌-◌, ◌*◌, ◌%◌, ◌<◌, ◌≤◌, ◌^◌, Bool, List, [], ◌∷◌, ◌++◌, length, take, drop, sum, nat_lt, nat_le, if◌then◌else◌}
 use Rattle.std.specs.Int.{w32, from_be_bytes}
 use Rattle.sv_rpc.specs.declared.record_buf.Place.{Place}
@@ -19,12 +19,14 @@ tail_of place.Header payload header = Header payload header
 tail_of (place.Data missing last) payload header = Data payload missing last
 tail_of place.TooLong payload header = TooLong
 
--- the complete records and the unfinished one (the tail) that the fields of a record buffer represent
+-- the complete records and the unfinished one (the tail) that the fields of a record buffer
+-- represent
 abbrev pub held_of : List ℕ → List ℕ → List ℕ → Place → Records
 held_of bytes lengths header place = record { records = cut lengths bytes; tail = tail_of place (drop (sum lengths) bytes) header }
 
--- how many bytes fit in addition to those that `used_by` leaves free. While the unfinished record has no data, this is 4, because
--- `used_by` already counts 4 bytes for this record, which aren't used yet. Afterwards it is 0.
+-- how many bytes fit in addition to those that `used_by` leaves free. While the unfinished record
+-- has no data, this is 4, because `used_by` already counts 4 bytes for this record, which aren't
+-- used yet. Afterwards it is 0.
 abbrev pub spare_of : List ℕ → ℕ
 spare_of [] = 4
 spare_of (b ∷ payload) = 0
@@ -41,20 +43,23 @@ Fits records TooLong n = Unit {0}
 abbrev pub InRoom : Records → ℕ → Type 0
 InRoom held n = Fits held.records held.tail n
 
--- how many bytes of the buffer's capacity an unfinished fragment header uses; the whole capacity if a record is too long
+-- how many bytes of the buffer's capacity an unfinished fragment header uses; the whole capacity if
+-- a record is too long
 abbrev pub begun_of : Place → ℕ → ℕ
 begun_of place.Header header_len = header_len
 begun_of (place.Data missing last) header_len = 0
 begun_of place.TooLong header_len = capacity
 
--- This `Place` is possible after `payload` bytes of the unfinished record's data and `header_len` bytes of an unfinished header have
--- come. A `Place` says what the next byte of the stream belongs to.
+-- This `Place` is possible after `payload` bytes of the unfinished record's data and `header_len`
+-- bytes of an unfinished header have come. A `Place` says what the next byte of the stream belongs
+-- to.
 abbrev pub IsPlace : Place → ℕ → ℕ → Type 0
 IsPlace place.Header payload header_len = (payload ≤ max_record) × (header_len < 4)
 IsPlace (place.Data missing last) payload header_len = (0 < missing) × (payload + missing ≤ max_record) × (header_len ≡ 0)
 IsPlace place.TooLong payload header_len = Unit {0}
 
--- the invariant of a record buffer's fields: the fields agree with each other, and the allocated memory suffices for the buffer's capacity
+-- the invariant of a record buffer's fields: the fields agree with each other, and the allocated
+-- memory suffices for the buffer's capacity
 pub record IsValid (bytes lengths header : List ℕ) (space slots payload header_len : ℕ) (place : Place) : Type 0 where
   pub whole : sum lengths + payload ≡ length bytes
   pub four : length header ≡ 4
@@ -75,8 +80,8 @@ IsBeforeHeader (Header payload header) = header ≡ []
 IsBeforeHeader (Data payload missing last) = ⊥
 IsBeforeHeader TooLong = ⊥
 
--- The next byte of the stream is data of a fragment: `n` bytes of the fragment are missing, and `b` says whether the fragment is the last
--- of its record.
+-- The next byte of the stream is data of a fragment: `n` bytes of the fragment are missing, and `b`
+-- says whether the fragment is the last of its record.
 abbrev pub IsInData : Tail → ℕ → Bool → Type 0
 IsInData (Header payload header) n b = ⊥
 IsInData (Data payload missing last) n b = (missing ≡ n) × (last ≡ b)
@@ -92,8 +97,8 @@ payload_of TooLong = []
 abbrev pub finish_record : List (List ℕ) → Tail → Records
 finish_record records tail = record { records = records ++ payload_of tail ∷ []; tail = Header [] [] }
 
--- what the buffer holds after a header was completed. The header says that its fragment has `size` bytes of data, and whether the fragment
--- is the last of its record.
+-- what the buffer holds after a header was completed. The header says that its fragment has `size`
+-- bytes of data, and whether the fragment is the last of its record.
 abbrev pub after_header : List (List ℕ) → Tail → ℕ → Bool → Records
 after_header records tail size last =
     let payload = payload_of tail in
@@ -122,7 +127,8 @@ after_data records (Data payload missing last) piece =
     })
 after_data records TooLong piece = record { records = records; tail = TooLong }
 
--- If the old buffer stands for a stream, the new buffer stands for this stream with the bytes `front` appended.
+-- If the old buffer stands for a stream, the new buffer stands for this stream with the bytes
+-- `front` appended.
 abbrev pub GoesOn : Records → Records → List ℕ → Type 0
 GoesOn old new front = (stream : List ℕ) (dropped : ℕ) → StandsFor old stream dropped → StandsFor new (stream ++ front) dropped
 

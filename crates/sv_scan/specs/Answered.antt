@@ -8,7 +8,8 @@ use Rattle.sv_scan.specs.declared.acts.ScanAnswer.TheVariants.{Done, Answered, S
 use Rattle.sv_scan.specs.Scan.{state}
 use Rattle.sv_scan.specs.Counted.{effective, is_scanning, setting_fault, init_fault, trigger_fault}
 
--- the result of an act: the error with which the act is refused, if an error is given; otherwise `Ok`
+-- the result of an act: the error with which the act is refused, if an error is given; otherwise
+-- `Ok`
 abbrev pub refused_by : Option Code → Result ⊤ Code
 refused_by None = Ok tt
 refused_by (Some code) = Err code

@@ -1,5 +1,5 @@
--- Which acts of the scanner take effect. All do except: an act that is refused; a sample while no scan is under way; and an input of a
--- channel that doesn't exist.
+-- Which acts of the scanner take effect. All do except: an act that is refused; a sample while no
+-- scan is under way; and an input of a channel that doesn't exist.
 use Rattle.std.specs.Prelude.{◌&&◌, not, Bool, true, false, List, [], ◌∷◌, Option, Some, None, is_none, if◌then◌else◌}
 use Rattle.sv_errors.specs.declared.code.Code.{Code}
 use Rattle.sv_errors.specs.declared.code.Code.TheVariants.{DataOutOfRange, SettingsConflict, TriggerIgnored, InitIgnored, TriggerDeadlock}
@@ -33,8 +33,9 @@ same_source Bus Bus = true
 same_source External External = true
 same_source _ _ = false
 
--- why a setting is refused after these acts: -222 if its value isn't allowed; else -221 if a measurement is under way and this setting
--- can't be changed during a measurement; `None` if the setting isn't refused
+-- why a setting is refused after these acts: -222 if its value isn't allowed; else -221 if a
+-- measurement is under way and this setting can't be changed during a measurement; `None` if the
+-- setting isn't refused
 abbrev pub setting_fault : List ScanAct → Setting → Option Code
 setting_fault log setting =
     if not (is_possible setting) then Some DataOutOfRange
@@ -44,13 +45,13 @@ setting_fault log setting =
 abbrev pub init_fault : List ScanAct → Option Code
 init_fault log = if is_idle (state log) then None else Some InitIgnored
 
--- why a trigger is refused: -211 if no scan waits for a trigger, or if the scan waits for a trigger from another source; `None` if it isn't
--- refused
+-- why a trigger is refused: -211 if no scan waits for a trigger, or if the scan waits for a trigger
+-- from another source; `None` if it isn't refused
 abbrev pub trigger_fault : List ScanAct → Source → Option Code
 trigger_fault log from = if is_waiting (state log) && same_source (source log) from then None else Some TriggerIgnored
 
--- why the controller can't wait for a reading: -214 if the trigger source is the bus, because the controller can't send a trigger while it
--- waits; `None` if it can wait
+-- why the controller can't wait for a reading: -214 if the trigger source is the bus, because the
+-- controller can't send a trigger while it waits; `None` if it can wait
 abbrev pub read_fault : List ScanAct → Option Code
 read_fault log = if same_source (source log) Bus then Some TriggerDeadlock else None
 

@@ -8,8 +8,9 @@ use Rattle.sv_scan.specs.Setting.{scan_list, count}
 use Rattle.sv_scan.specs.Scan.{before_init, triggers, samples, state, channel_at, last_reading}
 use Rattle.sv_scan.specs.Counted.{is_idle}
 
--- how far the measurement under way is: how many of its scans were triggered, and how many channels of the scan under way were read (0
--- while it waits for its trigger); `None` if no measurement is under way
+-- how far the measurement under way is: how many of its scans were triggered, and how many channels
+-- of the scan under way were read (0 while it waits for its trigger); `None` if no measurement is
+-- under way
 abbrev pub progress : List ScanAct → Option Progress
 progress log = if is_idle (state log) then None else option_map (λ before. record {
   scan = triggers log;

@@ -22,8 +22,8 @@ abbrev pub run_complete : Option Run → ℕ → Bool
 run_complete None samples = false
 run_complete (Some run) samples = samples == run.scans * length run.channels
 
--- A measurement has a legal scan list, at most 16 scans, and at most as many triggers as scans. It has at most as many samples as its
--- triggered scans have channels in total.
+-- A measurement has a legal scan list, at most 16 scans, and at most as many triggers as scans. It
+-- has at most as many samples as its triggered scans have channels in total.
 pub record IsRun (run : Run) (samples : ℕ) : Type 0 where
   pub channels : is_channel_list run.channels ≡ true
   pub scans : run.scans ≤ most_scans
@@ -35,8 +35,9 @@ abbrev pub IsRunOf : Option Run → ℕ → Type 0
 IsRunOf None samples = samples ≡ 0
 IsRunOf (Some run) samples = IsRun run samples
 
--- The scanner's state has an input for each channel, and memory for the largest number of readings. Its scan list, monitored channel,
--- range, limits, count and measurement are legal, and no reading is beyond 1,000 V.
+-- The scanner's state has an input for each channel, and memory for the largest number of readings.
+-- Its scan list, monitored channel, range, limits, count and measurement are legal, and no reading
+-- is beyond 1,000 V.
 pub record IsValid (contents : Contents) (capacity : ℕ) : Type 0 where
   pub inputs : length contents.inputs ≡ channel_count
   pub room : most_readings ≤ capacity

@@ -1,5 +1,5 @@
--- The trigger state and the readings (SCPI-1999, volume 2, chapter 24). They are defined by searching and counting the acts of the scanner
--- that took effect, the newest first.
+-- The trigger state and the readings (SCPI-1999, volume 2, chapter 24). They are defined by
+-- searching and counting the acts of the scanner that took effect, the newest first.
 use Rattle.std.specs.Prelude.{ℕ, ◌-◌, ◌*◌, ◌%◌, ◌==◌, ℤ, neg_ℤ, int_lt, nat_le, unsigned_abs, Bool, true, false, List, [], ◌∷◌, ◌++◌, length, filter, Option, Some, None, slice_get, slice_index_or, if◌then◌else◌}
 use Rattle.sv_errors.specs.Limits.{most_microvolts}
 use Rattle.std.specs.Option.{option_map_or}
@@ -16,8 +16,8 @@ use Rattle.sv_scan.specs.Setting.{scan_list, count, range, input}
 abbrev pub starts_or_ends : List ScanAct → Bool
 starts_or_ends = elim [ Init ∷ log ↦ true | Abort ∷ log ↦ true | Reset ∷ log ↦ true | _ ↦ false ]
 
--- the acts before the current or last measurement was initiated; `None` if no measurement was initiated, or if an abort or a reset came
--- later
+-- the acts before the current or last measurement was initiated; `None` if no measurement was
+-- initiated, or if an abort or a reset came later
 abbrev pub before_init : List ScanAct → Option (List ScanAct)
 before_init log = elim (newest starts_or_ends log) [ Init ∷ before ↦ Some before | _ ↦ None ]
 
@@ -34,13 +34,14 @@ abbrev pub state_by : ℕ → ℕ → ℕ → ℕ → State
 state_by triggers samples channels scans =
     if samples == scans * channels then Idle else if samples == triggers * channels then Waiting else Scanning
 
--- the state of the measurement. It depends on the scan list and the count that were set when the measurement was initiated. Without a
--- measurement, the state is idle.
+-- the state of the measurement. It depends on the scan list and the count that were set when the
+-- measurement was initiated. Without a measurement, the state is idle.
 abbrev pub state : List ScanAct → State
 state log =
     option_map_or (λ before. state_by (triggers log) (samples log) (length (scan_list before)) (count before)) (before_init log) Idle
 
--- the reading of a voltage in a range: the voltage itself, or an overload if the voltage is beyond the range
+-- the reading of a voltage in a range: the voltage itself, or an overload if the voltage is beyond
+-- the range
 abbrev pub reading_in : ℤ → ℤ → Reading
 reading_in range value = if int_lt range value then Over else if int_lt value (neg_ℤ range) then Under else Value value
 
@@ -49,11 +50,13 @@ abbrev pub is_bounded : Reading → Bool
 is_bounded (Value microvolts) = nat_le (unsigned_abs microvolts) most_microvolts
 is_bounded _ = true
 
--- the channel of the next sample, if `before` samples came before it. After the last channel of the list, the first channel comes again.
+-- the channel of the next sample, if `before` samples came before it. After the last channel of the
+-- list, the first channel comes again.
 abbrev pub channel_at : List ℕ → ℕ → ℕ
 channel_at channels before = slice_index_or channels (before % length channels) 0
 
--- the reading of a sample that comes right after these acts: the input of the next channel, measured in the range that these acts set
+-- the reading of a sample that comes right after these acts: the input of the next channel,
+-- measured in the range that these acts set
 abbrev pub reading : List ScanAct → Reading
 reading log = reading_in (range log) (input (channel_at (option_map_or scan_list (before_init log) []) (samples log)) log)
 

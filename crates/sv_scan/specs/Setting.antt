@@ -1,5 +1,5 @@
--- Settings and inputs: each has the value to which it was last set. This value is found by a search of the acts of the scanner that took
--- effect, the newest first.
+-- Settings and inputs: each has the value to which it was last set. This value is found by a search
+-- of the acts of the scanner that took effect, the newest first.
 use Rattle.std.specs.Prelude.{ℕ, ℤ, pos, neg_ℤ, int_le, nat_le, ◌==◌, ◌&&◌, Bool, true, false, List, [], ◌∷◌, Option, Some, None, if◌then◌else◌}
 use Rattle.sv_errors.specs.Limits.{is_channel, is_channel_list, is_within, most_microvolts, most_scans}
 use Rattle.sv_logs.specs.Since.{last_given}

@@ -12,7 +12,8 @@ use Rattle.sv_scan.specs.Scan.{before_init, triggers, readings}
 use Rattle.sv_scan.specs.Counted.{effective}
 use Rattle.sv_scan.specs.Touched.{IsTouched}
 
--- a measurement: its scan list and count, as they were when it was initiated, and the number of its triggers so far
+-- a measurement: its scan list and count, as they were when it was initiated, and the number of its
+-- triggers so far
 pub record Run : Type 0 where
   pub channels : List ℕ
   pub scans : ℕ
@@ -27,7 +28,8 @@ progress_by run samples = if samples == run.scans * length run.channels then Non
   places = length run.channels;
 })
 
--- the measurement that was initiated last; `None` if no measurement was initiated, or if an abort or a reset came later
+-- the measurement that was initiated last; `None` if no measurement was initiated, or if an abort
+-- or a reset came later
 abbrev pub current_run : List ScanAct → Option Run
 current_run log = option_map (λ before. record { channels = scan_list before; scans = count before; triggers = triggers log })
     (before_init log)
@@ -47,7 +49,8 @@ pub record Contents : Type 0 where
   pub readings : List Reading
   pub touched : Touched
 
--- Each part of the contents has the value that the search of `log` finds. All acts of `log` took effect.
+-- Each part of the contents has the value that the search of `log` finds. All acts of `log` took
+-- effect.
 pub record Holds (contents : Contents) (log : List ScanAct) : Type 0 where
   pub inputs : (channel : ℕ) → is_channel channel ≡ true → slice_index_or contents.inputs (channel - 1) (pos 0) ≡ input channel log
   pub list : contents.list ≡ scan_list log
@@ -62,6 +65,7 @@ pub record Holds (contents : Contents) (log : List ScanAct) : Type 0 where
   pub readings : contents.readings ≡ readings log
   pub touched : IsTouched contents.touched log
 
--- The state of the scanner stands for these acts. It is determined by those of the acts that took effect.
+-- The state of the scanner stands for these acts. It is determined by those of the acts that took
+-- effect.
 abbrev pub StandsFor : Contents → List ScanAct → Type 0
 StandsFor contents acts = Holds contents (effective acts)

@@ -17,7 +17,8 @@ pub record AreOf (settings : Settings) (log : List ScanAct) : Type 0 where
   pub source : settings.source ≡ source log
   pub count : settings.count ≡ count log
 
--- The setting that was set has its new value; a range becomes the least range for the wanted voltage. All other settings are unchanged.
+-- The setting that was set has its new value; a range becomes the least range for the wanted
+-- voltage. All other settings are unchanged.
 abbrev pub IsSet : Setting → Settings → Settings → Type 0
 IsSet (SetList channels) old new = new ≡ record old { list = channels }
 IsSet (Monitor channel) old new = new ≡ record old { monitor = channel }

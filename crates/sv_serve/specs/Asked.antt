@@ -24,7 +24,8 @@ HasRoom c config at answer = Answered (λ log. room (of c log)) config at.histor
 abbrev pub IsReady : {W : Type 0} → ℕ → Config → DriverView W → Bool → Type 0
 IsReady c config at answer = Answered (λ log. not (is_idle (of c log))) config at.history answer
 
--- The answer says whether a record that is too long came on a connection, so that the server stores no more bytes of this connection.
+-- The answer says whether a record that is too long came on a connection, so that the server stores
+-- no more bytes of this connection.
 abbrev pub IsOverlong : {W : Type 0} → ℕ → Config → DriverView W → Bool → Type 0
 IsOverlong c config at answer = Answered (λ log. is_overlong (of c log)) config at.history answer
 
@@ -32,7 +33,8 @@ IsOverlong c config at answer = Answered (λ log. is_overlong (of c log)) config
 abbrev pub IsFaulted : {W : Type 0} → ℕ → Config → DriverView W → Bool → Type 0
 IsFaulted c config at answer = Answered (λ log. is_faulted (of c log)) config at.history answer
 
--- The answer is where to connect the interrupt channel of a connection; `None` if no create_intr_chan of this connection is suspended.
+-- The answer is where to connect the interrupt channel of a connection; `None` if no
+-- create_intr_chan of this connection is suspended.
 abbrev pub Wants : {W : Type 0} → ℕ → Config → DriverView W → Option Dial → Type 0
 Wants c config at answer = Answered (λ log. dial_of c log) config at.history answer
 
@@ -44,7 +46,8 @@ Waits port config at bytes = WaitOn port config at.history bytes
 abbrev pub NoneUsed : {W : Type 0} → ℕ → Config → DriverView W → Type 0
 NoneUsed n config at = (log : List Act) × IsLogOf config at.history log × IsUnused n log
 
--- The answer is the lowest of the numbers 0 to 15 whose connection isn't open; `None` if all 16 connections are open.
+-- The answer is the lowest of the numbers 0 to 15 whose connection isn't open; `None` if all 16
+-- connections are open.
 abbrev pub IsLowest : {W : Type 0} → Option ℕ → Config → DriverView W → Type 0
 IsLowest (Some c) config at = (c < 16) × IsOpen (Conn c) config at false × ((d : ℕ) → d < c → IsOpen (Conn d) config at true)
 IsLowest None config at = (d : ℕ) → d < 16 → IsOpen (Conn d) config at true

@@ -6,8 +6,9 @@ use Rattle.sv_history.specs.Event.{PlainEvent}
 use Rattle.sv_server.specs.Server.State.{State, StandsFor}
 use Rattle.sv_replay.specs.declared.entry.Entry.{Entry}
 
--- The state of a driver: its server; its wire; for each connection, which peer the driver dialed for the interrupt channel; the entries
--- of the scenario that weren't applied yet; how many milliseconds have passed; and its journal.
+-- The state of a driver: its server; its wire; for each connection, which peer the driver dialed
+-- for the interrupt channel; the entries of the scenario that weren't applied yet; how many
+-- milliseconds have passed; and its journal.
 pub record DriverState (W J : Type 0) : Type 0 where
   pub server : State
   pub wire : W

@@ -1,4 +1,5 @@
--- The calls of a wire's methods, with their answers; and traces, which are lists of these calls, the newest first.
+-- The calls of a wire's methods, with their answers; and traces, which are lists of these calls,
+-- the newest first.
 use Rattle.std.specs.Prelude.{◌≡◌, ℕ, ◌≤◌, Bool, List, [], ◌∷◌, length, take, Option, ⊤}
 use Rattle.sv_history.specs.declared.event.Role.{Role}
 use Rattle.sv_history.specs.declared.event.Port.{Port}
@@ -6,8 +7,9 @@ use Rattle.sv_history.specs.declared.event.Dial.{Dial}
 use Rattle.sv_serve.specs.declared.wire.Answer.{Answer}
 use Rattle.sv_serve.specs.declared.wire.Answer.TheVariants.{Got, Pending, Failed}
 
--- One call of a wire's method, with its answer. `most` is how many bytes a read can return at most. A probe asks whether a connection's
--- peer is gone, while the connection isn't read. With `drops` the probe also discards the bytes that come on the connection.
+-- One call of a wire's method, with its answer. `most` is how many bytes a read can return at most.
+-- A probe asks whether a connection's peer is gone, while the connection isn't read. With `drops`
+-- the probe also discards the bytes that come on the connection.
 pub data Heard : Type 0 where
   WasAccepted : (role : Role) (conn : Option ℕ) (answer : Answer ⊤) → Heard
   WasRead : (conn : ℕ) (most : ℕ) (answer : Answer (List ℕ)) → Heard

@@ -30,7 +30,8 @@ IsSuited event config at = (log : List Act) × (channel_log : List ChannelAct) �
     × HearsOf (device_acts log) channel_log
     × Suits event channel_log log
 
--- A create_intr_chan of a connection is suspended, so that its interrupt channel has to be connected.
+-- A create_intr_chan of a connection is suspended, so that its interrupt channel has to be
+-- connected.
 abbrev pub IsAwaited : {W : Type 0} → ℕ → Config → DriverView W → Type 0
 IsAwaited c config at = (dial : Dial) × Wants c config at (Some dial)
 
@@ -43,8 +44,8 @@ Handed port answer config at = (bytes : List ℕ) × Waits port config at bytes 
 abbrev pub FoundNone : {W : Type 0} → ℕ → Config → DriverView W → Type 0
 FoundNone c config at = (log : List Act) × IsLogOf config at.history log × Answers config (Turn c) log (Err NoMemory)
 
--- If the server's answer to a Turn is that memory was refused, there was a call to take, and memory for this call was
--- refused.
+-- If the server's answer to a Turn is that memory was refused, there was a call to take, and memory
+-- for this call was refused.
 abbrev pub MayFindNone : {W : Type 0} → ℕ → Result Did Refused → Config → DriverView W → Type 0
 MayFindNone c answer config at = answer ≡ Err NoMemory → FoundNone c config at
 

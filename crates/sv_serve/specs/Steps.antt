@@ -1,5 +1,6 @@
--- The steps of a driver. In each of the smallest steps at most one method of the wire is called, or one event is given to the server.
--- The server can refuse only three kinds of these events: a Turn, a Tick, and the event of a scenario's entry.
+-- The steps of a driver. In each of the smallest steps at most one method of the wire is called, or
+-- one event is given to the server. The server can refuse only three kinds of these events: a Turn,
+-- a Tick, and the event of a scenario's entry.
 use Rattle.std.specs.Prelude.{◌≡◌, ◌⊎◌, ℕ, ◌<◌, min, ◌==◌, ◌&&◌, ◌||◌, Bool, true, false, List, [], length, Option, Some, None, Result, Ok, Err, ⊤, slice_set, slice_index_or}
 use Rattle.sv_history.specs.declared.event.Config.{Config}
 use Rattle.sv_history.specs.declared.event.Dial.{Dial}
@@ -37,17 +38,19 @@ IsApplied event = Given event (Ok Done)
 abbrev pub called_of : {W : Type 0} → ℕ → DriverView W → Option Dial
 called_of c at = slice_index_or at.called c None
 
--- The driver records which peer it dialed for the interrupt channel of a connection, or (`None`) that no peer is
--- dialed.
+-- The driver records which peer it dialed for the interrupt channel of a connection, or (`None`)
+-- that no peer is dialed.
 abbrev pub Remembers : {W : Type 0} → ℕ → Option Dial → Config → DriverView W → DriverView W → Type 0
 Remembers c dial config before after = after ≡ record before { called = slice_set before.called c dial }
 
--- If the wire accepted a connection under a number, the connection opens at the server under this number.
+-- If the wire accepted a connection under a number, the connection opens at the server under this
+-- number.
 abbrev pub Opens : {W : Type 0} → Role → Option ℕ → Answer ⊤ → Config → DriverView W → DriverView W → Type 0
 Opens role (Some c) (Got all) = IsApplied (Open c role)
 Opens role number answer = Unchanged
 
--- If a peer connects, its connection is accepted under the lowest free number. If no number is free, the connection is dropped.
+-- If a peer connects, its connection is accepted under the lowest free number. If no number is
+-- free, the connection is dropped.
 abbrev pub Accepts : {W : Type 0} → (W → Heard → W → Type 0) → Role → Config → DriverView W → DriverView W → Type 0
 Accepts hears role config before after = (number : Option ℕ) × (answer : Answer ⊤) × IsLowest number config before
     × (Hears hears (WasAccepted role number answer) then Opens role number answer) config before after
@@ -58,7 +61,8 @@ abbrev pub ClosesChannelOn : {W : Type 0} → (W → Heard → W → Type 0) →
 ClosesChannelOn hears c None = Unchanged
 ClosesChannelOn hears c (Some dial) = Hears hears (WasClosed (Intr c)) then Remembers c None
 
--- The socket of a connection's interrupt channel is closed, if the driver dialed a peer for the channel.
+-- The socket of a connection's interrupt channel is closed, if the driver dialed a peer for the
+-- channel.
 abbrev pub ClosesChannel : {W : Type 0} → (W → Heard → W → Type 0) → ℕ → Config → DriverView W → DriverView W → Type 0
 ClosesChannel hears c config before after = ClosesChannelOn hears c (called_of c before) config before after
 
@@ -71,7 +75,8 @@ abbrev pub ClosesIf : {W : Type 0} → (W → Heard → W → Type 0) → ℕ �
 ClosesIf hears c true = Closes hears c
 ClosesIf hears c false = Unchanged
 
--- The bytes that were read on a connection are given to the server; if reading failed, the connection is closed.
+-- The bytes that were read on a connection are given to the server; if reading failed, the
+-- connection is closed.
 abbrev pub Comes : {W : Type 0} → (W → Heard → W → Type 0) → ℕ → Answer (List ℕ) → Config → DriverView W → DriverView W → Type 0
 Comes hears c (Got bytes) = IsApplied (Bytes c bytes)
 Comes hears c Pending = Unchanged
@@ -86,20 +91,22 @@ abbrev pub Drops : {W : Type 0} → (W → Heard → W → Type 0) → ℕ → A
 Drops hears c Failed = Closes hears c
 Drops hears c answer = Unchanged
 
--- If the flag says that the connection is open: the driver asks the wire whether the connection's peer is gone, and closes the connection
--- if the peer is gone.
+-- If the flag says that the connection is open: the driver asks the wire whether the connection's
+-- peer is gone, and closes the connection if the peer is gone.
 abbrev pub ProbesIf : {W : Type 0} → (W → Heard → W → Type 0) → ℕ → Bool → Config → DriverView W → DriverView W → Type 0
 ProbesIf hears c false config before after = after ≡ before
 ProbesIf hears c true config before after = (drops : Bool) × (answer : Answer ⊤) × IsOverlong c config before drops
     × (Hears hears (WasProbed c drops answer) then Drops hears c answer) config before after
 
--- An open connection without room isn't read. Instead the driver asks the wire whether the peer is gone, and closes the connection if the
--- peer is gone. Bytes that come after a record that is too long are discarded.
+-- An open connection without room isn't read. Instead the driver asks the wire whether the peer is
+-- gone, and closes the connection if the peer is gone. Bytes that come after a record that is too
+-- long are discarded.
 abbrev pub Probes : {W : Type 0} → (W → Heard → W → Type 0) → ℕ → Config → DriverView W → DriverView W → Type 0
 Probes hears c config before after = (opened : Bool) × IsOpen (Conn c) config before opened × ProbesIf hears c opened config before after
 
--- If a connection has room for at least one byte, it is read: at most `room` bytes, and at most 16,384 bytes. If `room` is 0, the
--- connection isn't read; if it is open, the driver asks the wire whether its peer is gone (`Probes`).
+-- If a connection has room for at least one byte, it is read: at most `room` bytes, and at most
+-- 16,384 bytes. If `room` is 0, the connection isn't read; if it is open, the driver asks the wire
+-- whether its peer is gone (`Probes`).
 abbrev pub ReadsUpTo : {W : Type 0} → (W → Heard → W → Type 0) → ℕ → ℕ → Config → DriverView W → DriverView W → Type 0
 ReadsUpTo hears room c config before after = ((room ≡ 0) × Probes hears c config before after)
     ⊎ ((0 < room) × (answer : Answer (List ℕ)) × IsPiece answer (min room longest_piece)
@@ -114,7 +121,8 @@ abbrev pub RefusesIf : {W : Type 0} → ℕ → Bool → Config → DriverView W
 RefusesIf c true = IsApplied (Refuse c)
 RefusesIf c false = Unchanged
 
--- If memory is refused for the call of a Turn, the call is answered with error 9, and its connection stays open.
+-- If memory is refused for the call of a Turn, the call is answered with error 9, and its
+-- connection stays open.
 abbrev pub EndsTurn : {W : Type 0} → ℕ → Result Did Refused → Config → DriverView W → DriverView W → Type 0
 EndsTurn c (Ok did) = Unchanged
 EndsTurn c (Err refused) = RefusesIf c (is_no_memory refused)
@@ -133,40 +141,44 @@ abbrev pub is_wanted : Dial → Option Dial → Bool
 is_wanted called (Some wanted) = (called.addr == wanted.addr) && (called.port == wanted.port)
 is_wanted called None = false
 
--- If the flag is true, the driver keeps the socket of the peer that it dialed; if the flag is false, the socket is closed.
+-- If the flag is true, the driver keeps the socket of the peer that it dialed; if the flag is
+-- false, the socket is closed.
 abbrev pub KeepsCall : {W : Type 0} → (W → Heard → W → Type 0) → ℕ → Bool → Config → DriverView W → DriverView W → Type 0
 KeepsCall hears c true = Unchanged
 KeepsCall hears c false = ClosesChannel hears c
 
--- The socket of a dialed peer is closed, unless the interrupt channel is open or still has to be connected to this peer.
+-- The socket of a dialed peer is closed, unless the interrupt channel is open or still has to be
+-- connected to this peer.
 abbrev pub CancelsUnwanted : {W : Type 0} → (W → Heard → W → Type 0) → ℕ → Option Dial → Config → DriverView W → DriverView W → Type 0
 CancelsUnwanted hears c None config before after = after ≡ before
 CancelsUnwanted hears c (Some called) config before after = (channel : Bool) × (wanted : Option Dial) × IsOpen
     (Intr c) config before channel
     × Wants c config before wanted × KeepsCall hears c (channel || is_wanted called wanted) config before after
 
--- The socket of the peer that was dialed for a connection's interrupt channel is closed, unless the channel is open or still has to be
--- connected to this peer.
+-- The socket of the peer that was dialed for a connection's interrupt channel is closed, unless the
+-- channel is open or still has to be connected to this peer.
 abbrev pub LetsGo : {W : Type 0} → (W → Heard → W → Type 0) → ℕ → Config → DriverView W → DriverView W → Type 0
 LetsGo hears c config before after = CancelsUnwanted hears c (called_of c before) config before after
 
--- What follows the wire's answer to dialing a peer. If the peer is connected, the driver records that it dialed this peer, and tells
--- the server that the peer is connected. If the peer hasn't answered yet, the driver only records that it dialed this peer. If the peer
--- can't be reached, the driver tells the server that connecting failed.
+-- What follows the wire's answer to dialing a peer. If the peer is connected, the driver records
+-- that it dialed this peer, and tells the server that the peer is connected. If the peer hasn't
+-- answered yet, the driver only records that it dialed this peer. If the peer can't be reached, the
+-- driver tells the server that connecting failed.
 abbrev pub ConnectResult : {W : Type 0} → ℕ → Dial → Answer ⊤ → Config → DriverView W → DriverView W → Type 0
 ConnectResult c dial (Got all) = Remembers c (Some dial) then IsApplied (Dialed c true)
 ConnectResult c dial Pending = Remembers c (Some dial)
 ConnectResult c dial Failed = IsApplied (Dialed c false)
 
--- What follows the wire's answer about a peer that was dialed before. If the peer is connected, the server is told so. If the peer still
--- hasn't answered, nothing changes. If the peer can't be reached, its socket is closed, and the server is told that connecting failed.
+-- What follows the wire's answer about a peer that was dialed before. If the peer is connected, the
+-- server is told so. If the peer still hasn't answered, nothing changes. If the peer can't be
+-- reached, its socket is closed, and the server is told that connecting failed.
 abbrev pub PollResult : {W : Type 0} → (W → Heard → W → Type 0) → ℕ → Answer ⊤ → Config → DriverView W → DriverView W → Type 0
 PollResult hears c (Got all) = IsApplied (Dialed c true)
 PollResult hears c Pending = Unchanged
 PollResult hears c Failed = ClosesChannel hears c then IsApplied (Dialed c false)
 
--- If a channel has to be connected: its peer is dialed; or, if a peer was dialed already, the driver asks the wire whether that peer has
--- answered.
+-- If a channel has to be connected: its peer is dialed; or, if a peer was dialed already, the
+-- driver asks the wire whether that peer has answered.
 abbrev pub CallsFor : {W : Type 0} → (W → Heard → W → Type 0) → ℕ → Option Dial → Option Dial → Config → DriverView W → DriverView W
     → Type 0
 CallsFor hears c None called config before after = after ≡ before
@@ -175,15 +187,15 @@ CallsFor hears c (Some dial) None config before after =
 CallsFor hears c (Some dial) (Some called) config before after =
     (answer : Answer ⊤) × (Hears hears (PeerAnswered c answer) then PollResult hears c answer) config before after
 
--- If a connection's interrupt channel has to be connected: its peer is dialed; or, if a peer was dialed already, the driver asks the wire
--- whether that peer has answered.
+-- If a connection's interrupt channel has to be connected: its peer is dialed; or, if a peer was
+-- dialed already, the driver asks the wire whether that peer has answered.
 abbrev pub Calls : {W : Type 0} → (W → Heard → W → Type 0) → ℕ → Config → DriverView W → DriverView W → Type 0
 Calls hears c config before after =
     (wanted : Option Dial) × Wants c config before wanted × CallsFor hears c wanted (called_of c before) config before after
 
--- If a peer was dialed, its socket is closed, unless the interrupt channel is open or still has to be connected to this peer. Then,
--- if the channel has to be connected: its peer is dialed; or, if it was dialed already, the driver asks the wire whether this peer
--- has answered.
+-- If a peer was dialed, its socket is closed, unless the interrupt channel is open or still has to
+-- be connected to this peer. Then, if the channel has to be connected: its peer is dialed; or, if
+-- it was dialed already, the driver asks the wire whether this peer has answered.
 abbrev pub Dials : {W : Type 0} → (W → Heard → W → Type 0) → ℕ → Config → DriverView W → DriverView W → Type 0
 Dials hears c = LetsGo hears c then Calls hears c
 
@@ -192,8 +204,8 @@ abbrev pub BreaksOff : {W : Type 0} → (W → Heard → W → Type 0) → Port 
 BreaksOff hears (Conn c) = Closes hears c
 BreaksOff hears (Intr c) = ClosesChannel hears c then IsApplied (Close (Intr c))
 
--- The server is told how many bytes the wire took, and removes these bytes from its output. If the write failed, the
--- port is closed.
+-- The server is told how many bytes the wire took, and removes these bytes from its output. If the
+-- write failed, the port is closed.
 abbrev pub EndsWrite : {W : Type 0} → (W → Heard → W → Type 0) → Port → Answer ℕ → Config → DriverView W → DriverView W → Type 0
 EndsWrite hears port (Got n) = IsApplied (Took port n)
 EndsWrite hears port Pending = Unchanged
@@ -210,15 +222,15 @@ abbrev pub WritesTo : {W : Type 0} → (W → Heard → W → Type 0) → Port �
 WritesTo hears port config before after =
     (bytes : List ℕ) × Waits port config before bytes × WritesAll hears port bytes config before after
 
--- The connection is closed if both hold: the flag says that the connection is at fault; and no bytes wait to be
--- sent on it.
+-- The connection is closed if both hold: the flag says that the connection is at fault; and no
+-- bytes wait to be sent on it.
 abbrev pub EndsIf : {W : Type 0} → (W → Heard → W → Type 0) → ℕ → Bool → Config → DriverView W → DriverView W → Type 0
 EndsIf hears c false config before after = after ≡ before
 EndsIf hears c true config before after =
     (bytes : List ℕ) × Waits (Conn c) config before bytes × ClosesIf hears c (length bytes == 0) config before after
 
--- A connection is closed if both hold: the server says that the connection is at fault; and no bytes wait to be
--- sent on it.
+-- A connection is closed if both hold: the server says that the connection is at fault; and no
+-- bytes wait to be sent on it.
 abbrev pub Ends : {W : Type 0} → (W → Heard → W → Type 0) → ℕ → Config → DriverView W → DriverView W → Type 0
 Ends hears c config before after =
     (faulted : Bool) × IsFaulted c config before faulted × EndsIf hears c faulted config before after

@@ -7,7 +7,8 @@ use Rattle.sv_history.specs.Still.{IsStill}
 use Rattle.sv_serve.specs.DriverView.{DriverView}
 use Rattle.sv_serve.specs.Sweep.{IsNoneDue}
 
--- The answer says whether nothing becomes due within `most` milliseconds: neither at the server nor in the scenario.
+-- The answer says whether nothing becomes due within `most` milliseconds: neither at the server nor
+-- in the scenario.
 abbrev pub StaysStill : {W : Type 0} → ℕ → Config → DriverView W → Bool → Type 0
 StaysStill most config at =
     Decided (λ log. IsStill most config (device_acts log) × IsNoneDue (at.ticks + most) at.ahead) config at.history

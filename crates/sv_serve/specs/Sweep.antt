@@ -23,13 +23,14 @@ PlaysOne config before after = (entry : Entry) × (others : List Entry) × (betw
     × (entry.tick ≤ before.ticks) × Applies (stimulus_event entry.stimulus) config before between
     × (after ≡ record between { ahead = others })
 
--- When the driver has counted `ticks` milliseconds, the first of these entries of the scenario isn't due yet, or there is no entry.
+-- When the driver has counted `ticks` milliseconds, the first of these entries of the scenario
+-- isn't due yet, or there is no entry.
 abbrev pub IsNoneDue : ℕ → List Entry → Type 0
 IsNoneDue ticks [] = ⊤
 IsNoneDue ticks (entry ∷ entries) = ticks < entry.tick
 
--- If the flag is true, the scenario's next entry is due and is applied. If the flag is false, no entry
--- is due.
+-- If the flag is true, the scenario's next entry is due and is applied. If the flag is false, no
+-- entry is due.
 abbrev pub PlaysIf : {W : Type 0} → Bool → Config → DriverView W → DriverView W → Type 0
 PlaysIf true config before after = PlaysOne config before after
 PlaysIf false config before after = (after ≡ before) × IsNoneDue after.ticks after.ahead
@@ -52,7 +53,8 @@ Counts (Err refused) config before after = after ≡ before
 abbrev pub TicksOnce : {W : Type 0} → Config → DriverView W → DriverView W → Type 0
 TicksOnce config before after = (result : Result Did Refused) × (Given Tick result then Counts result) config before after
 
--- This many milliseconds pass. The scenario's entries that are due are applied before each millisecond, and after the last one.
+-- This many milliseconds pass. The scenario's entries that are due are applied before each
+-- millisecond, and after the last one.
 abbrev pub Passes : {W : Type 0} → ℕ → Config → DriverView W → DriverView W → Type 0
 Passes ticks = ForEach ticks (λ i. Plays then TicksOnce) then Plays
 
@@ -60,21 +62,24 @@ Passes ticks = ForEach ticks (λ i. Plays then TicksOnce) then Plays
 abbrev pub Stimulates : {W : Type 0} → Stimulus → Config → DriverView W → DriverView W → Type 0
 Stimulates stimulus = Plays then IsApplied (stimulus_event stimulus)
 
--- A sweep, in this order: on each of the three listening ports a connection is accepted; each connection is read; one call of each
--- connection is taken; the peers of interrupt channels are dialed; time passes; the bytes that wait are written, first those of
--- connections, then those of interrupt channels; connections at fault are closed.
+-- A sweep, in this order: on each of the three listening ports a connection is accepted; each
+-- connection is read; one call of each connection is taken; the peers of interrupt channels are
+-- dialed; time passes; the bytes that wait are written, first those of connections, then those of
+-- interrupt channels; connections at fault are closed.
 abbrev pub Sweeps : {W : Type 0} → (W → Heard → W → Type 0) → ℕ → Config → DriverView W → DriverView W → Type 0
 Sweeps hears ticks = Accepts hears Core then Accepts hears Abort then Accepts hears Portmap then ForEach 16 (ReadsFrom hears)
     then ForEach 16 Turns then ForEach 16 (Dials hears) then Passes ticks then ForEach 16 (λ c. WritesTo hears (Conn c))
     then ForEach 16 (λ c. WritesTo hears (Intr c)) then ForEach 16 (Ends hears)
 
--- What is handed to a driver: a number of milliseconds, which pass in a sweep; or a stimulus, between two sweeps.
+-- What is handed to a driver: a number of milliseconds, which pass in a sweep; or a stimulus,
+-- between two sweeps.
 pub data Handed : Type 0 where
   Passing : (ticks : ℕ) → Handed
   Stimulated : (stimulus : Stimulus) → Handed
 
--- A run of sweeps, with stimuli between them, leads from one state of the driver to another. The list has what was handed to the driver,
--- the newest first: for each sweep the number of milliseconds that pass in it; and the stimuli, which the server accepts.
+-- A run of sweeps, with stimuli between them, leads from one state of the driver to another. The
+-- list has what was handed to the driver, the newest first: for each sweep the number of
+-- milliseconds that pass in it; and the stimuli, which the server accepts.
 abbrev pub Swept : {W J : Type 0} → (W → Heard → W → Type 0) → (J → List PlainEvent → J → Type 0) → List Handed → DriverState W J
     → DriverState W J → Type 0
 Swept hears notes [] start now = now ≡ start

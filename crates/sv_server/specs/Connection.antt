@@ -1,3 +1,4 @@
--- A connection: the bytes that came, the bytes that wait to be sent, and the record that was taken but is neither answered nor dropped yet.
+-- A connection: the bytes that came, the bytes that wait to be sent, and the record that was taken
+-- but is neither answered nor dropped yet.
 pub mod Representation
 pub mod Inside

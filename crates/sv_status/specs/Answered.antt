@@ -24,7 +24,8 @@ RegisterGives acts register.ReadEvent register_answer.Done = ⊥
 RegisterGives acts _ (register_answer.Event word) = ⊥
 RegisterGives acts _ register_answer.Done = ⊤
 
--- Reading the standard event status register returns the bits that are set. No other act returns anything.
+-- Reading the standard event status register returns the bits that are set. No other act returns
+-- anything.
 abbrev pub StandardGives : List StandardAct → StandardAct → StandardAnswer → Type 0
 StandardGives acts standard.Read (standard_answer.Event word) = (k : ℕ) → (bit_at word k ≡ 1) ↔ Stands k acts
 StandardGives acts standard.Read standard_answer.Done = ⊥

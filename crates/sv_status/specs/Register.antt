@@ -1,5 +1,5 @@
--- A status register (SCPI-1999, chapter 20, STATus): its condition, filters, event bits and enable. Each is defined by a search of the
--- acts, the newest first.
+-- A status register (SCPI-1999, chapter 20, STATus): its condition, filters, event bits and enable.
+-- Each is defined by a search of the acts, the newest first.
 use Rattle.std.specs.Prelude.{◌≡◌, ◌↔◌, ◌⊎◌, ℕ, ◌%◌, ◌^◌, ⊤, List, [], ◌∷◌, Some, None}
 use Rattle.std.specs.Int.{bit_at}
 use Rattle.sv_logs.specs.Since.{Since, last_given}
@@ -29,8 +29,8 @@ fall = last_given (elim [ SetFilter up down ↦ Some (without_top_bit down) | Pr
 abbrev pub enable : ℕ → List RegisterAct → ℕ
 enable start = last_given (elim [ SetEnable word ↦ Some (without_top_bit word) | Preset ↦ Some start | _ ↦ None ]) start
 
--- At the newest act, bit k of the condition rises while bit k of the positive filter is set, or falls while bit k of the negative filter is
--- set. The filters are those before this act.
+-- At the newest act, bit k of the condition rises while bit k of the positive filter is set, or
+-- falls while bit k of the negative filter is set. The filters are those before this act.
 abbrev pub Passes : ℕ → List RegisterAct → Type 0
 Passes k [] = ⊥
 Passes k (act ∷ before) =
@@ -41,7 +41,8 @@ Passes k (act ∷ before) =
 abbrev pub NotCleared : List RegisterAct → Type 0
 NotCleared = elim [ ReadEvent ∷ acts ↦ ⊥ | Clear ∷ acts ↦ ⊥ | _ ↦ ⊤ ]
 
--- Bit k of the event register is set: after the last clearing, a change of the condition's bit k passed its filter.
+-- Bit k of the event register is set: after the last clearing, a change of the condition's bit k
+-- passed its filter.
 abbrev pub EventStands : ℕ → List RegisterAct → Type 0
 EventStands k acts = Since (Passes k) NotCleared acts
 
@@ -58,7 +59,8 @@ pub record Latches : Type 0 where
   pub enable : ℕ
   pub start : ℕ
 
--- The state of a register stands for the acts. The enable of this register is `start` at first and after a preset.
+-- The state of a register stands for the acts. The enable of this register is `start` at first and
+-- after a preset.
 pub record StandsFor (start : ℕ) (latches : Latches) (acts : List RegisterAct) : Type 0 where
   pub begins : latches.start ≡ start
   pub condition : latches.condition ≡ condition acts
@@ -67,6 +69,7 @@ pub record StandsFor (start : ℕ) (latches : Latches) (acts : List RegisterAct)
   pub enable : latches.enable ≡ enable start acts
   pub event : (k : ℕ) → (bit_at latches.event k ≡ 1) ↔ EventStands k acts
 
--- The state of the register stands for the acts. The enable at first and after a preset is the `start` that the state stores.
+-- The state of the register stands for the acts. The enable at first and after a preset is the
+-- `start` that the state stores.
 abbrev pub Stands : Latches → List RegisterAct → Type 0
 Stands latches acts = StandsFor latches.start latches acts

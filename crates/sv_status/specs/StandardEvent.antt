@@ -1,4 +1,5 @@
--- The standard event status register (IEEE 488.2, 11.5.1). It is defined by a search of the acts, the newest first.
+-- The standard event status register (IEEE 488.2, 11.5.1). It is defined by a search of the acts,
+-- the newest first.
 use Rattle.std.specs.Prelude.{◌≡◌, ◌↔◌, ℕ, ⊤, List, [], ◌∷◌, Some, None}
 use Rattle.std.specs.Int.{bit_at}
 use Rattle.sv_logs.specs.Since.{Since, last_given}

@@ -1,4 +1,5 @@
--- The status byte and requests for service (IEEE 488.2, 11.2 and 11.3). They are defined by a search of the acts, the newest first.
+-- The status byte and requests for service (IEEE 488.2, 11.2 and 11.3). They are defined by a
+-- search of the acts, the newest first.
 use Rattle.std.specs.Prelude.{◌≡◌, ◌≢◌, ◌↔◌, ◌⊎◌, ℕ, Bool, true, List, [], ◌∷◌, Some, None}
 use Rattle.std.specs.Int.{bit_at}
 use Rattle.sv_logs.specs.Since.{Since, last_given}
@@ -25,21 +26,25 @@ ServiceRequestedAt k acts = ServiceRequested k (bits acts) (enable acts)
 abbrev pub Master : List StatusAct → Type 0
 Master acts = (k : ℕ) × ServiceRequestedAt k acts
 
--- A reason for service arises at the newest act: some summary bit is both set and enabled after this act, and wasn't both before the act.
+-- A reason for service arises at the newest act: some summary bit is both set and enabled after
+-- this act, and wasn't both before the act.
 abbrev pub Reason : List StatusAct → Type 0
 Reason [] = ⊥
 Reason (act ∷ before) = (k : ℕ) × ServiceRequestedAt k (act ∷ before) × (ServiceRequestedAt k before → ⊥)
 
--- A pending request for service remains pending at the newest act: this act isn't a poll, and the master summary is set after it.
+-- A pending request for service remains pending at the newest act: this act isn't a poll, and the
+-- master summary is set after it.
 abbrev pub Lasts : List StatusAct → Type 0
 Lasts (Poll ∷ acts) = ⊥
 Lasts acts = Master acts
 
--- A request for service is pending: a reason arose, and at each moment since then the master summary was set and no poll came.
+-- A request for service is pending: a reason arose, and at each moment since then the master
+-- summary was set and no poll came.
 abbrev pub Request : List StatusAct → Type 0
 Request acts = Since Reason Lasts acts
 
--- A request for service is raised at the newest act: one is pending after this act, and none was pending before the act.
+-- A request for service is raised at the newest act: one is pending after this act, and none was
+-- pending before the act.
 abbrev pub IsRaised : List StatusAct → Type 0
 IsRaised [] = ⊥
 IsRaised (act ∷ before) = Request (act ∷ before) × (Request before → ⊥)
@@ -48,7 +53,8 @@ IsRaised (act ∷ before) = Request (act ∷ before) × (Request before → ⊥)
 abbrev pub StatusBit : ℕ → List StatusAct → Type 0
 StatusBit k acts = ((k ≢ 6) × (bit_at (bits acts) k ≡ 1)) ⊎ ((k ≡ 6) × Request acts)
 
--- Bit k of the status byte that `*STB?` returns is set (IEEE 488.2, 11.2.2.2). Bit 6 is the master summary.
+-- Bit k of the status byte that `*STB?` returns is set (IEEE 488.2, 11.2.2.2). Bit 6 is the master
+-- summary.
 abbrev pub MasterBit : ℕ → List StatusAct → Type 0
 MasterBit k acts = ((k ≢ 6) × (bit_at (bits acts) k ≡ 1)) ⊎ ((k ≡ 6) × Master acts)
 

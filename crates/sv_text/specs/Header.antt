@@ -1,5 +1,5 @@
--- The parts of a header (IEEE 488.2, 7.6.1; SCPI-1999, volume 1, chapter 6): what it begins with, its mnemonics, and the question mark of a
--- query.
+-- The parts of a header (IEEE 488.2, 7.6.1; SCPI-1999, volume 1, chapter 6): what it begins with,
+-- its mnemonics, and the question mark of a query.
 use Rattle.std.specs.Prelude.{ℕ, ◌-◌, ◌==◌, Bool, false, List, [], ◌∷◌, length, take, drop, slice_get, if◌then◌else◌}
 use Rattle.std.specs.Option.{option_map_or}
 use Rattle.sv_text.specs.Cut.{cut_at}
@@ -14,7 +14,8 @@ is_query text = option_map_or (λ b. b == 63) (slice_get text (length text - 1))
 abbrev pub unsigned : List ℕ → List ℕ
 unsigned text = if is_query text then take (length text - 1) text else text
 
--- what a header begins with: an asterisk for a common command; a colon for a header that starts at the root of the command tree; or neither
+-- what a header begins with: an asterisk for a common command; a colon for a header that starts at
+-- the root of the command tree; or neither
 abbrev pub lead : List ℕ → Lead
 lead [] = Onward
 lead (b ∷ text) = if b == 42 then Common else if b == 58 then Root else Onward

@@ -17,8 +17,8 @@ base_of letter =
 abbrev pub begins_with_digit : ℕ → List ℕ → Bool
 begins_with_digit base digits = option_map_or (λ b. is_digit b base) (slice_get digits 0) false
 
--- the value of digits in this base, or the error: -102 if the base is `None` or the first byte isn't a digit of the base; -121 if a later
--- byte isn't a digit of the base
+-- the value of digits in this base, or the error: -102 if the base is `None` or the first byte
+-- isn't a digit of the base; -121 if a later byte isn't a digit of the base
 abbrev pub read_digits : Option ℕ → List ℕ → Result ℤ Code
 read_digits None digits = Err SyntaxError
 read_digits (Some base) digits =
@@ -26,8 +26,9 @@ read_digits (Some base) digits =
     else if not (list_all (λ b. is_digit b base) digits) then Err InvalidCharacterInNumber
     else Ok (pos (digits_value base digits))
 
--- the value of `#`, a letter for the base, and digits; or the first error that applies: -102 if the letter names no base or no digit of the
--- base follows it; -121 if a later byte isn't a digit of the base
+-- the value of `#`, a letter for the base, and digits; or the first error that applies: -102 if the
+-- letter names no base or no digit of the base follows it; -121 if a later byte isn't a digit of
+-- the base
 abbrev pub read_based : List ℕ → Result ℤ Code
 read_based (sign ∷ letter ∷ digits) = read_digits (base_of letter) digits
 read_based _ = Err SyntaxError

@@ -1,5 +1,5 @@
--- Channel lists (SCPI-1999, volume 1, chapter 8): `(@`, items separated by commas, `)`. An item is a channel, or two channels with a colon
--- between them.
+-- Channel lists (SCPI-1999, volume 1, chapter 8): `(@`, items separated by commas, `)`. An item is
+-- a channel, or two channels with a colon between them.
 use Rattle.std.specs.Prelude.{ℕ, ◌+◌, ◌-◌, ◌==◌, ◌&&◌, not, Bool, false, List, [], ◌∷◌, ◌++◌, length, take, reverse, nat_le, nat_lt, slice_get, Option, Some, None, is_some, Result, Ok, Err, if◌then◌else◌}
 use Rattle.sv_text.specs.Front.{is_empty}
 use Rattle.std.specs.List.{list_all, range_with_len}
@@ -30,19 +30,21 @@ is_number text = not (is_empty (trim text)) && list_all is_ascii_digit (trim tex
 abbrev pub number : List ℕ → ℕ
 number text = digits_value 10 (trim text)
 
--- the first and the last number of an item of a channel list, such as `3:7`; both are 3 for the item `3`
+-- the first and the last number of an item of a channel list, such as `3:7`; both are 3 for the
+-- item `3`
 pub record Span : Type 0 where
   pub first : ℕ
   pub last : ℕ
 
--- the first and the last number of a channel list's item, given the item's parts between colons; `None` if the parts are neither one number
--- nor two numbers
+-- the first and the last number of a channel list's item, given the item's parts between colons;
+-- `None` if the parts are neither one number nor two numbers
 abbrev pub span_of : List (List ℕ) → Option Span
 span_of (a ∷ []) = if is_number a then Some (record { first = number a; last = number a }) else None
 span_of (a ∷ b ∷ []) = if is_number a && is_number b then Some (record { first = number a; last = number b }) else None
 span_of _ = None
 
--- the first and the last number of an item such as `3` or `3:7`; `None` if the text doesn't have the form of an item
+-- the first and the last number of an item such as `3` or `3:7`; `None` if the text doesn't have
+-- the form of an item
 abbrev pub span : List ℕ → Option Span
 span item = span_of (cut_at 58 item)
 
@@ -51,9 +53,10 @@ abbrev pub channel_range : ℕ → ℕ → List ℕ
 channel_range first last = if nat_le first last then range_with_len first (last - first + 1) else reverse
     (range_with_len last (first - last + 1))
 
--- One step of reading a channel list: the channels of the next item are appended to `before`, and `others` reads the remaining items. The
--- result is the list, or the first error that applies: -171 for an item of the wrong form (`None`); -222 if the item's first or last number
--- isn't a channel; -223 if the list becomes longer than the limit; the error of `others`.
+-- One step of reading a channel list: the channels of the next item are appended to `before`, and
+-- `others` reads the remaining items. The result is the list, or the first error that applies: -171
+-- for an item of the wrong form (`None`); -222 if the item's first or last number isn't a channel;
+-- -223 if the list becomes longer than the limit; the error of `others`.
 abbrev pub next : Option Span → List ℕ → (List ℕ → Result (List ℕ) Code) → Result (List ℕ) Code
 next None before others = Err InvalidExpression
 next (Some ends) before others =
@@ -66,8 +69,8 @@ abbrev pub list_channels : List ℕ → List (List ℕ) → Result (List ℕ) Co
 list_channels before [] = Ok before
 list_channels before (item ∷ items) = next (span item) before (λ so_far. list_channels so_far items)
 
--- the channels of all items, given the text between the parentheses; or the first error: -171 if a text between commas isn't an item; else
--- the error of the first item that has one
+-- the channels of all items, given the text between the parentheses; or the first error: -171 if a
+-- text between commas isn't an item; else the error of the first item that has one
 abbrev pub read_items : List ℕ → Result (List ℕ) Code
 read_items text = if list_all (λ item. is_some (span item)) (cut_at 44 text) then list_channels []
     (cut_at 44 text) else Err InvalidExpression

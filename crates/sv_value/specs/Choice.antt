@@ -8,8 +8,8 @@ use Rattle.sv_errors.specs.declared.source.Source.{Source}
 use Rattle.sv_errors.specs.declared.source.Source.TheVariants.{Immediate, Bus, External}
 use Rattle.sv_lexer.specs.Spelled.{is_word_byte}
 
--- the boolean for which the word ON or OFF stands, in upper or lower case; or the error: -141 for a byte that character data can't have,
--- -224 for any other word
+-- the boolean for which the word ON or OFF stands, in upper or lower case; or the error: -141 for a
+-- byte that character data can't have, -224 for any other word
 abbrev pub read_switch : List ℕ → Result Bool Code
 read_switch text =
     if not (list_all is_word_byte text) then Err InvalidCharacterData
@@ -17,8 +17,8 @@ read_switch text =
     else if is_same text (codes "OFF") then Ok false
     else Err IllegalParameterValue
 
--- the trigger source that a word names, in short or long form, in upper or lower case; or the error: -141 for a byte that character data
--- can't have, -224 for any other word
+-- the trigger source that a word names, in short or long form, in upper or lower case; or the
+-- error: -141 for a byte that character data can't have, -224 for any other word
 abbrev pub read_keyword : List ℕ → Result Source Code
 read_keyword text =
     if not (list_all is_word_byte text) then Err InvalidCharacterData

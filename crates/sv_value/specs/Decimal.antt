@@ -1,4 +1,5 @@
--- The parts of a decimal number (IEEE 488.2, 7.7.2 and 7.7.3): a sign, digits with a point, an exponent, and a suffix.
+-- The parts of a decimal number (IEEE 488.2, 7.7.2 and 7.7.3): a sign, digits with a point, an
+-- exponent, and a suffix.
 use Rattle.std.specs.Prelude.{ℕ, ◌==◌, ◌&&◌, ◌||◌, not, Bool, true, List, [], ◌∷◌, take, drop, slice_get, if◌then◌else◌}
 use Rattle.sv_text.specs.Front.{is_empty, has_minus}
 use Rattle.std.specs.Option.{option_map_or}
@@ -28,21 +29,25 @@ abbrev pub fraction_in : List ℕ → List ℕ
 fraction_in [] = []
 fraction_in (b ∷ text) = if b == 46 then digits_in text else []
 
--- the text after a leading point and the digits that follow the point; the whole text if it doesn't begin with a point
+-- the text after a leading point and the digits that follow the point; the whole text if it doesn't
+-- begin with a point
 abbrev pub behind_fraction : List ℕ → List ℕ
 behind_fraction [] = []
 behind_fraction (b ∷ text) = if b == 46 then behind_digits text else b ∷ text
 
--- the text that follows a leading E and the white space after this E; empty if the text doesn't begin with an E
+-- the text that follows a leading E and the white space after this E; empty if the text doesn't
+-- begin with an E
 abbrev pub behind_letter : List ℕ → List ℕ
 behind_letter [] = []
 behind_letter (b ∷ text) = if b == 69 || b == 101 then trim_start text else []
 
--- the text after leading white space, an E and more white space; empty if no E follows the leading white space
+-- the text after leading white space, an E and more white space; empty if no E follows the leading
+-- white space
 abbrev pub behind_mark : List ℕ → List ℕ
 behind_mark text = behind_letter (trim_start text)
 
--- the digits of the exponent with which the text begins; empty if it begins with no exponent. An E without digits is no exponent.
+-- the digits of the exponent with which the text begins; empty if it begins with no exponent. An E
+-- without digits is no exponent.
 abbrev pub exponent_in : List ℕ → List ℕ
 exponent_in text = digits_in (behind_sign (behind_mark text))
 
@@ -67,7 +72,8 @@ pub record Parts : Type 0 where
 abbrev pub behind_whole : List ℕ → List ℕ
 behind_whole text = behind_digits (behind_sign text)
 
--- the text that remains after the mantissa: after an optional sign, digits, and an optional point with digits
+-- the text that remains after the mantissa: after an optional sign, digits, and an optional point
+-- with digits
 abbrev pub behind_mantissa : List ℕ → List ℕ
 behind_mantissa text = behind_fraction (behind_whole text)
 
@@ -86,6 +92,7 @@ number_parts text = record {
 abbrev pub begins_well : List ℕ → Bool
 begins_well suffix = option_map_or is_ascii_alphabetic (slice_get suffix 0) true
 
--- whether the parts are those of a number: the mantissa has a digit, and the suffix is empty or begins with a letter
+-- whether the parts are those of a number: the mantissa has a digit, and the suffix is empty or
+-- begins with a letter
 abbrev pub is_spelled : Parts → Bool
 is_spelled number = not (is_empty number.whole && is_empty number.fraction) && begins_well number.suffix

@@ -19,8 +19,8 @@ plain number = record {
   suffix = number.suffix.now;
 }
 
--- `answer` is a number and not an error, and `amount` represents this number: `amount` has the number's sign, and the number's magnitude,
--- capped at 10 ^ 18.
+-- `answer` is a number and not an error, and `amount` represents this number: `amount` has the
+-- number's sign, and the number's magnitude, capped at 10 ^ 18.
 abbrev pub StandsFor : Amount → Result ℤ Code → Type 0
 StandsFor amount answer = (magnitude : ℕ) × (answer ≡ Ok (signed amount.negative magnitude))
     × (amount.magnitude ≡ min magnitude 1000000000000000000)
@@ -29,7 +29,8 @@ StandsFor amount answer = (magnitude : ℕ) × (answer ≡ Ok (signed amount.neg
 abbrev pub number_up_to : List ℕ → Option ℕ
 number_up_to text = if is_number text then Some (min (number text) 1000000000000000000) else None
 
--- the first and the last number of an item of a channel list, each capped at 10 ^ 18; `None` if the text wasn't an item
+-- the first and the last number of an item of a channel list, each capped at 10 ^ 18; `None` if the
+-- text wasn't an item
 abbrev pub ends_up_to : Option Ends → Option Span
 ends_up_to None = None
 ends_up_to (Some ends) = Some (record { first = min ends.first 1000000000000000000; last = min ends.last 1000000000000000000 })

@@ -16,6 +16,7 @@ six_digits n = replicate (6 - length (decimal n)) 48 ++ decimal n
 abbrev pub voltage_text : ℤ → List ℕ
 voltage_text value = sign value ∷ (decimal (unsigned_abs value / 1000000) ++ 46 ∷ six_digits (unsigned_abs value % 1000000))
 
--- If a voltage of at most 1,000 V in magnitude is printed, and the text is read as a parameter, the result is the same voltage.
+-- If a voltage of at most 1,000 V in magnitude is printed, and the text is read as a parameter, the
+-- result is the same voltage.
 abbrev pub PrintedIsRead : Type 0
 PrintedIsRead = (value : ℤ) → unsigned_abs value ≤ 1000000000 → read_voltage (kind_of (voltage_text value)) (voltage_text value) ≡ Ok value

@@ -7,7 +7,8 @@ use Rattle.sv_errors.specs.declared.code.Code.{Code}
 use Rattle.sv_errors.specs.declared.source.Source.{Source}
 use Rattle.sv_errors.specs.declared.source.Source.TheVariants.{Immediate, Bus, External}
 
--- how an overload is printed: -9.9E+37 for a voltage below the range, +9.9E+37 for one above it (SCPI-1999, volume 1, 7.2.1.5)
+-- how an overload is printed: -9.9E+37 for a voltage below the range, +9.9E+37 for one above it
+-- (SCPI-1999, volume 1, 7.2.1.5)
 abbrev pub overload_text : Bool → List ℕ
 overload_text below = if below then codes "-9.9E+37" else codes "+9.9E+37"
 
@@ -15,11 +16,13 @@ overload_text below = if below then codes "-9.9E+37" else codes "+9.9E+37"
 abbrev pub whole_text : ℕ → List ℕ
 whole_text number = decimal number
 
--- how a channel list is printed: channels in decimal, separated by commas, between `(@` and `)` (SCPI-1999, volume 1, chapter 8)
+-- how a channel list is printed: channels in decimal, separated by commas, between `(@` and `)`
+-- (SCPI-1999, volume 1, chapter 8)
 abbrev pub channels_text : List ℕ → List ℕ
 channels_text channels = codes "(@" ++ (join_by decimal (codes ",") channels ++ codes ")")
 
--- how an entry of the error queue is printed: its number, a comma, and its text in double quotes (SCPI-1999, volume 2, section 21.8)
+-- how an entry of the error queue is printed: its number, a comma, and its text in double quotes
+-- (SCPI-1999, volume 2, section 21.8)
 abbrev pub error_text : Code → List ℕ
 error_text code = signed_decimal (number_of code) ++ (codes ",\"" ++ (text_of code ++ codes "\""))
 

@@ -1,4 +1,5 @@
--- The arguments of the calls (VXI-11 revision 1.0, sections B.5 and B.6), as a relation between bytes and arguments.
+-- The arguments of the calls (VXI-11 revision 1.0, sections B.5 and B.6), as a relation between
+-- bytes and arguments.
 use Rattle.std.specs.Prelude.{◌≡◌, ◌==◌, ℕ, ◌≤◌, ℤ, Bool, true, false, List, [], ◌∷◌, length, Option, Some, None, Result, Ok, Err}
 use Rattle.std.specs.Int.{bit_at}
 use Rattle.std.specs.List.{list_any}
@@ -9,8 +10,8 @@ use Rattle.sv_xdr.specs.declared.garbage.Garbage.{Garbage}
 use Rattle.sv_xdr.specs.Spelling.{Field, Unsigned, Signed, Boolean, Opaque, BeginsAll}
 pub use Rattle.sv_vxi.specs.Limits.{max_handle}
 
--- the arguments of a call on a link, without the link itself, as plain data. Timeouts are in milliseconds. `Generic` has
--- Device_GenericParms, the arguments that five of the calls share.
+-- the arguments of a call on a link, without the link itself, as plain data. Timeouts are in
+-- milliseconds. `Generic` has Device_GenericParms, the arguments that five of the calls share.
 pub data LinkCall : Type 0 where
   DeviceAbort : LinkCall
   DeviceWrite : (io_timeout lock_timeout flags : ℕ) (bytes : List ℕ) → LinkCall
@@ -92,8 +93,8 @@ InBounds _ = Unit {0}
 abbrev pub BeginsWith : List ℕ → Arguments → List ℕ → Type 0
 BeginsWith bytes arguments after = InBounds arguments × BeginsAll bytes (argument_fields arguments) after
 
--- If the bytes are read as arguments of the call with this number, this is the result: the arguments, or `Garbage`. Bytes after
--- the last field are ignored.
+-- If the bytes are read as arguments of the call with this number, this is the result: the
+-- arguments, or `Garbage`. Bytes after the last field are ignored.
 abbrev pub ArgumentsAre : ℕ → List ℕ → Result Arguments Garbage → Type 0
 ArgumentsAre proc bytes (Ok arguments) = (procedure_of arguments ≡ proc) × (after : List ℕ) × BeginsWith bytes arguments after
 ArgumentsAre proc bytes (Err garbage) = (arguments : Arguments) (after : List ℕ) → procedure_of arguments ≡ proc
@@ -104,12 +105,13 @@ abbrev pub link : Arguments → Option ℤ
 link (OnLink lid call) = Some lid
 link _ = None
 
--- what the flags of a call and the lock timeout (in milliseconds) say: the call waits for the lock if bit 0 (waitlock) of the flags is
--- set
+-- what the flags of a call and the lock timeout (in milliseconds) say: the call waits for the lock
+-- if bit 0 (waitlock) of the flags is set
 abbrev pub lock_wait_of : ℕ → ℕ → Option LockWait
 lock_wait_of flags timeout = Some (record { waits = bit_at flags 0 == 1; timeout = timeout })
 
--- what a call does while another link holds the lock (section B.4.4); `None` if the call is executed nevertheless
+-- what a call does while another link holds the lock (section B.4.4); `None` if the call is
+-- executed nevertheless
 abbrev pub lock_wait : LinkCall → Option LockWait
 lock_wait (DeviceWrite io_timeout lock_timeout flags bytes) = lock_wait_of flags lock_timeout
 lock_wait (DeviceRead request_size io_timeout lock_timeout flags term_char) = lock_wait_of flags lock_timeout

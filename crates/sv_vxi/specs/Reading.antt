@@ -29,8 +29,9 @@ Makes (unsigned ∷ kinds) A = ℕ → Makes kinds A
 Makes (boolean ∷ kinds) A = Bool → Makes kinds A
 Makes (opaque most ∷ kinds) A = List ℕ → Makes kinds A
 
--- Reads fields of these kinds from bytes, in order. The result is what the function `makes` returns for the values of the fields, or
--- `Garbage` if a field can't be read. Bytes after the last field are ignored.
+-- Reads fields of these kinds from bytes, in order. The result is what the function `makes` returns
+-- for the values of the fields, or `Garbage` if a field can't be read. Bytes after the last field
+-- are ignored.
 abbrev pub read : {A : Type 0} → (kinds : List Kind) → Makes kinds A → List ℕ → Result A Garbage
 read [] value bytes = Ok value
 read (signed ∷ kinds) makes bytes = signed_at bytes >>= λ x. read kinds (makes x.0) x.1

@@ -48,7 +48,8 @@ data_of (Read error reason bytes) = unless_error error bytes []
 data_of (Data error bytes) = unless_error error bytes []
 data_of _ = []
 
--- Two results have the same form: a call that can be answered with one can be answered with the other.
+-- Two results have the same form: a call that can be answered with one can be answered with the
+-- other.
 abbrev pub SameShape : Outcome → Outcome → Type 0
 SameShape (Link error lid abort_port max_recv_size) (Link error' lid' abort_port' max_recv_size') = Unit {0}
 SameShape (Size error size) (Size error' size') = Unit {0}

@@ -10,8 +10,9 @@ SameKind (Boolean b) (Boolean c) = Unit {0}
 SameKind (Opaque s) (Opaque t) = Unit {0}
 SameKind _ _ = ⊥
 
--- Suppose that x and y are fields of the same kind. If the same bytes begin with the encoding of x and with the encoding of y, both
--- encodings are equal, and so are both fields. So within one kind, no encoding is a proper prefix of another.
+-- Suppose that x and y are fields of the same kind. If the same bytes begin with the encoding of x
+-- and with the encoding of y, both encodings are equal, and so are both fields. So within one kind,
+-- no encoding is a proper prefix of another.
 abbrev pub PrefixFree : Type 0
 PrefixFree = (x y : Field) (a b after behind : List ℕ) → SameKind x y → Spells a x → Spells b y → a ++ after ≡ b ++ behind
     → (a ≡ b) × (x ≡ y)

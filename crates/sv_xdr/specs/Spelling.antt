@@ -15,18 +15,19 @@ abbrev pub IsWord : List ℕ → ℕ → Type 0
 IsWord (a ∷ b ∷ c ∷ d ∷ []) n = (a < 256) × (b < 256) × (c < 256) × (d < 256) × (n ≡ ((a * 256 + b) * 256 + c) * 256 + d)
 IsWord _ n = ⊥
 
--- The 32-bit number n encodes a signed integer in two's complement (4.1): n is the integer itself, or, if the integer is negative, the
--- integer plus 2 ^ 32.
+-- The 32-bit number n encodes a signed integer in two's complement (4.1): n is the integer itself,
+-- or, if the integer is negative, the integer plus 2 ^ 32.
 abbrev pub IsTwosComplement : ℕ → ℤ → Type 0
 IsTwosComplement n (pos k) = (k < 2 ^ 31) × (n ≡ k)
 IsTwosComplement n (negsuc k) = (k < 2 ^ 31) × (n + (k + 1) ≡ 2 ^ 32)
 
--- `pad` is the padding after n bytes of data: 0 to 3 zero bytes, which make the total length a multiple of four (sections 3 and 4.10).
+-- `pad` is the padding after n bytes of data: 0 to 3 zero bytes, which make the total length a
+-- multiple of four (sections 3 and 4.10).
 abbrev pub IsPad : ℕ → List ℕ → Type 0
 IsPad n pad = (length pad < 4) × ((n + length pad) % 4 ≡ 0) × AllByRecursion (λ byte. byte ≡ 0) pad
 
--- The bytes encode the field. A boolean is encoded as the number 0 or 1 (4.4), and opaque data as their length, the data and the padding
--- (4.10).
+-- The bytes encode the field. A boolean is encoded as the number 0 or 1 (4.4), and opaque data as
+-- their length, the data and the padding (4.10).
 abbrev pub Spells : List ℕ → Field → Type 0
 Spells bytes (Unsigned n) = IsWord bytes n
 Spells bytes (Signed z) = (n : ℕ) × IsWord bytes n × IsTwosComplement n z

@@ -20,8 +20,8 @@ pub record Appends (bytes : List ℕ) (old new : Writer) : Type 0 where
   pub rest : rest_of old ≡ take (length bytes) (rest_of old) ++ rest_of new
   pub fits : length bytes ≤ length (rest_of old)
 
--- The write appended the encoding of this field to what was written before. The buffer behind the encoding is
--- unchanged.
+-- The write appended the encoding of this field to what was written before. The buffer behind the
+-- encoding is unchanged.
 abbrev pub AppendsField : Field → Writer → Writer → Type 0
 AppendsField field old new = (bytes : List ℕ) × Spells bytes field × Appends bytes old new
 
@@ -30,7 +30,8 @@ pub record Stays (old new : Writer) : Type 0 where
   pub text : text_of new ≡ text_of old
   pub rest : rest_of new ≡ rest_of old
 
--- The bytes are written exactly if they fit. Else the result is the fault `NoRoom`, and nothing is written.
+-- The bytes are written exactly if they fit. Else the result is the fault `NoRoom`, and nothing is
+-- written.
 abbrev pub Writes : List ℕ → Result Unit XdrFault → Writer → Writer → Type 0
 Writes bytes (Ok done) old new = Appends bytes old new
 Writes bytes (Err fault) old new = (fault ≡ NoRoom) × (length (rest_of old) < length bytes) × Stays old new

@@ -1,4 +1,5 @@
--- The tree of header nodes. The code stores the tree as a list: a node, then all nodes below it, then the next sibling of the node.
+-- The tree of header nodes. The code stores the tree as a list: a node, then all nodes below it,
+-- then the next sibling of the node.
 use Rattle.std.specs.Prelude.{◌≡◌, ℕ, zero, suc, ◌≤◌, Bool, true, false, length, List, [], ◌∷◌, ◌++◌, map, take, drop, Option, Some, None}
 use Rattle.sv_header.specs.declared.command.CommandId.{CommandId}
 use Rattle.sv_header.specs.declared.branch.Branch.{Branch}
@@ -6,19 +7,22 @@ use Rattle.sv_header.specs.Pattern.{Part, Row, row}
 use Rattle.sv_header.specs.Plain.{part}
 use Rattle.sv_header.specs.Table.{common_commands, other_commands}
 
--- the command of the header that ends at this node: for `true` with a question mark, for `false` without a question mark
+-- the command of the header that ends at this node: for `true` with a question mark, for `false`
+-- without a question mark
 abbrev pub command_of : Bool → Branch → Option CommandId
 command_of false branch = branch.plain
 command_of true branch = branch.query
 
--- A list of sibling nodes is split into `branch`, its first node; `children`, the nodes below `branch`; and `siblings`, the later siblings.
+-- A list of sibling nodes is split into `branch`, its first node; `children`, the nodes below
+-- `branch`; and `siblings`, the later siblings.
 abbrev pub IsParted : List Branch → Branch → List Branch → List Branch → Type 0
 IsParted [] branch children siblings = ⊥
 IsParted (first ∷ behind) branch children siblings =
     (branch ≡ first) × (children ≡ take first.below behind) × (siblings ≡ drop first.below behind)
 
--- the table's row for the header that ends at a node. `query` says whether the header has a question mark. The result is a list with this
--- row, or the empty list if no command has this header.
+-- the table's row for the header that ends at a node. `query` says whether the header has a
+-- question mark. The result is a list with this row, or the empty list if no command has this
+-- header.
 abbrev pub ending_row : Bool → Bool → Option CommandId → List Row
 ending_row common query None = []
 ending_row common query (Some command) = row common query [] command ∷ []
@@ -50,8 +54,8 @@ rows_with false = other_commands
 abbrev pub common_nodes : ℕ
 common_nodes = 11
 
--- The tree's nodes give exactly the rows of the command table. The first `common_nodes` nodes give the rows of the common commands. The
--- remaining nodes give the rows of all other commands.
+-- The tree's nodes give exactly the rows of the command table. The first `common_nodes` nodes give
+-- the rows of the common commands. The remaining nodes give the rows of all other commands.
 pub record IsTree (branches : List Branch) : Type 0 where
   pub size : common_nodes ≤ length branches
   pub common : tree_rows true (take common_nodes branches) ≡ rows_with true

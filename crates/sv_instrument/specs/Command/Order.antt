@@ -1,4 +1,5 @@
--- The order of each command, with or without a parameter (IEEE 488.2, chapter 10; SCPI-1999, volume 2).
+-- The order of each command, with or without a parameter (IEEE 488.2, chapter 10; SCPI-1999, volume
+-- 2).
 use Rattle.std.specs.Prelude.{ℕ, List, [], ◌∷◌, Option, Some, None, Result, Ok, Err, bit_and}
 use Rattle.sv_errors.specs.declared.code.Code.{Code}
 use Rattle.sv_errors.specs.Limits.{most_scans}
@@ -26,21 +27,22 @@ abbrev pub then_value : {A B : Type 0} → (A → B) → Result A Code → Resul
 then_value make (Ok value) = Ok (make value)
 then_value make (Err code) = Err code
 
--- the channels in the parameter, which is a channel list; or the error of this list. `None` if there is no
--- parameter.
+-- the channels in the parameter, which is a channel list; or the error of this list. `None` if
+-- there is no parameter.
 abbrev pub channels_in : Option Parameter → Result (Option (List ℕ)) Code
 channels_in None = Ok None
 channels_in (Some parameter) = then_value Some (read_channels parameter.kind parameter.text)
 
--- the channel of a channel list that has to have exactly one channel; -223 if the list has more channels
+-- the channel of a channel list that has to have exactly one channel; -223 if the list has more
+-- channels
 abbrev pub only_channel : Result (List ℕ) Code → Result ℕ Code
 only_channel (Ok []) = Err InvalidExpression
 only_channel (Ok (channel ∷ [])) = Ok channel
 only_channel (Ok (channel ∷ other ∷ others)) = Err TooMuchData
 only_channel (Err code) = Err code
 
--- the order of a command that sets a value, given the kind and the text of its parameter; or the error of the parameter. Bit 6 of the
--- mask for the service request enable is dropped.
+-- the order of a command that sets a value, given the kind and the text of its parameter; or the
+-- error of the parameter. Bit 6 of the mask for the service request enable is dropped.
 abbrev pub set_order : SettingName → Kind → List ℕ → Result Order Code
 set_order name.StandardEnable kind text = then_value (λ mask. order.Apply (EnableStandard mask)) (read_whole 0 255 kind text)
 set_order name.ServiceEnable kind text = then_value (λ mask. order.Apply (EnableService (bit_and mask 191))) (read_whole 0 255 kind text)
@@ -56,8 +58,9 @@ set_order name.Limits kind text = then_value (λ on. order.Set (setting.Limits o
 set_order name.Source kind text = then_value (λ source. order.Set (setting.Source source)) (read_source kind text)
 set_order name.Count kind text = then_value (λ scans. order.Set (setting.Count scans)) (read_whole 1 most_scans kind text)
 
--- The order of a command with this parameter, or without a parameter (`None`); or the error. A command that sets a value needs a
--- parameter (else -109). A command that configures a measurement can have a channel list or no parameter.
+-- The order of a command with this parameter, or without a parameter (`None`); or the error. A
+-- command that sets a value needs a parameter (else -109). A command that configures a measurement
+-- can have a channel list or no parameter.
 abbrev pub order_of : CommandId → Option Parameter → Result Order Code
 order_of (id.Do action) parameter_of = Ok (order.Do action)
 order_of (id.Ask question) parameter_of = Ok (order.Ask question)

@@ -36,7 +36,8 @@ use Rattle.sv_laws.proofs.Alone.Quiet.{Same, same_start, quiet_same, earlier_log
 
 -- ---- a Turn
 
--- After the log `start` a Turn comes that isn't refused: its own acts lead to `log`, once all steps that are due then were done.
+-- After the log `start` a Turn comes that isn't refused: its own acts lead to `log`, once all steps
+-- that are due then were done.
 pub record Turns (c : ℕ) (config : Config) (start log : List Act) : Type 0 where
   pub polled : ℕ
   pub said : IsPolled polled (device_acts start)

@@ -52,7 +52,8 @@ use Rattle.sv_laws.proofs.Alone.Moves.{happened_one, finishes, rests_now}
 
 -- ---- the unit
 
--- From the first log to the second one, a unit was done. No unit is held, and no query error was reported.
+-- From the first log to the second one, a unit was done. No unit is held, and no query error was
+-- reported.
 abbrev IsDone : List InstrumentAct → List InstrumentAct → Type 0
 IsDone log new = (exchange_acts new ≡ UnitDone ∷ exchange_acts log) × (held_unit new ≡ None) × (query_errors new ≡ query_errors log)
 
@@ -122,7 +123,8 @@ module _ (config : Config) (lines : ℕ) (message unit : List ℕ) (links : List
   abbrev parts : List (List ℕ)
   parts = message ∷ [] ∷ replicate lines []
 
-  -- First the unit is done. Then its message is finished, and after it the empty messages of the new lines that follow.
+  -- First the unit is done. Then its message is finished, and after it the empty messages of the
+  -- new lines that follow.
   data State (log : List Act) : Type 0 where
     Did : (acts : List ExchangeAct) → exchange_acts (inside log) ≡ UnitDone ∷ acts → Left parts acts → response acts ≡ [] → State log
     Ended : (k : ℕ) → Left ([] ∷ replicate k []) (exchange_acts (inside log)) → response (exchange_acts (inside log)) ≡ [] → State log

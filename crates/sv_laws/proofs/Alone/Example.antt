@@ -1,4 +1,5 @@
--- Two messages that are one query each, and message exchange at power on: so the premises of the law can be met.
+-- Two messages that are one query each, and message exchange at power on: so the premises of the
+-- law can be met.
 use Rattle.std.proofs.Common.{◌≡◌, true, false, [], ◌∷◌, Some, refl, inl, inr, arith}
 use Rattle.std.specs.Prelude.{codes}
 use Rattle.sv_header.specs.declared.command.Question.TheVariants as question

@@ -1,4 +1,5 @@
--- A query that waits for the end of the measurement is answered as soon as no measurement is under way.
+-- A query that waits for the end of the measurement is answered as soon as no measurement is under
+-- way.
 use Rattle.std.proofs.Common.{◌≡◌, ℕ, zero, suc, ◌+◌, ◌≤◌, Bool, true, false, List, [], ◌∷◌, ◌++◌, length, Option, Some, None, Ok, refl, sym, ap, subst, ◌∙◌, inl, inr, append_assoc, arith, eq-eqb}
 use Rattle.std.specs.Prelude.{map, replicate, pos, not, codes, drop}
 use Rattle.std.proofs.lemmas.Bool.{ne_eqb}
@@ -59,7 +60,8 @@ use Rattle.sv_laws.proofs.Alone.Moves.{never_answered, Holds, Gone, Live, Phase,
 
 -- ---- the unit begins
 
--- The query's unit is held after these acts of the scanner. If the unit answers with readings, the newest of them initiates a measurement.
+-- The query's unit is held after these acts of the scanner. If the unit answers with readings, the
+-- newest of them initiates a measurement.
 begins : (query : Order) (what : Awaited) (acts : List InstrumentAct) → holds query ≡ Some what → hold_fault query acts ≡ None
     → (scans : List ScanAct) × Performs query acts (Held what ∷ map Scanned scans ++ acts)
     × (what ≡ awaited.Readings → (older : List ScanAct) × (scans ≡ scan.Init ∷ older))

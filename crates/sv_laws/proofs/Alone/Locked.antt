@@ -1,4 +1,5 @@
--- While a link holds the lock, the laws about queries on its connection hold whatever other connections do.
+-- While a link holds the lock, the laws about queries on its connection hold whatever other
+-- connections do.
 use Rattle.std.proofs.Common.{◌≡◌, ℕ, List, [], ◌∷◌, ◌++◌, Option, refl, sym, ap, subst, ◌∙◌, append_assoc}
 use Rattle.sv_layers.specs.Act.{Act as InstrumentAct, exchange_acts as exchanged}
 use Rattle.sv_history.specs.declared.event.Config.{Config}
@@ -15,7 +16,8 @@ use Rattle.sv_laws.proofs.Alone.Asked.{query_alone, both_told, no_error}
 use Rattle.sv_laws.proofs.Alone.Held.{held_alone}
 use Rattle.sv_laws.proofs.Alone.Rounds.{rounds}
 
--- After all events, the connection and the instrument have the same acts as after the connection's own events alone.
+-- After all events, the connection and the instrument have the same acts as after the connection's
+-- own events alone.
 alone_same : (c lid : ℕ) (config : Config) (past events : List PlainEvent) (log : List Act) → IsLocked c lid config past events
     → IsLogOf config (events ++ past) log
     → (other : List Act) × IsLogOf config (own_events c events ++ past) other × (of c log ≡ of c other)

@@ -1,4 +1,5 @@
--- A query that waits for the end of the measurement: its phases, and what each step and each quiet event makes of them.
+-- A query that waits for the end of the measurement: its phases, and what each step and each quiet
+-- event makes of them.
 use Rattle.std.proofs.Common.{append_assoc, ◌≡◌, ◌≢◌, ℕ, zero, suc, ◌+◌, ◌≤◌, Bool, true, false, List, [], ◌∷◌, ◌++◌, length, Option, Some, None, refl, sym, ap, subst, ◌∙◌, inl, inr, ◌⊎◌, arith, eq-eqb}
 use Rattle.std.specs.Prelude.{map, replicate, pos, not, ◌&&◌}
 use Rattle.std.proofs.lemmas.Bool.{cases_eq}
@@ -90,7 +91,8 @@ answers_if : (answer : List ℕ) (acts : List InstrumentAct) → fits_response (
     → after_answering answer (done acts) ≡ Exchanged (Answered answer) ∷ Exchanged UnitDone ∷ acts
 answers_if answer acts fits = rw fits refl
 
--- While the message hasn't been executed to its end and there is no response, no read can be answered.
+-- While the message hasn't been executed to its end and there is no response, no read can be
+-- answered.
 pub never_answered : (log : List Act) → response (exchange_acts (inside log)) ≡ [] → has_ended (exchange_acts (inside log)) ≡ true
     → is_answerable (inside log) ≡ false
 never_answered log none ended = rw (none, ended) (and_false _)
@@ -118,13 +120,13 @@ module _ (config : Config) (c lid xid most io_timeout lock_timeout flags term_ch
   abbrev pub My : Status → List Act → Type 0
   My s log = Mine c limit call replies s (of c log) (wait_acts (device_acts log))
 
-  -- The instrument's log before the write is a part of this log. For a unit that answers with readings, a measurement was initiated after
-  -- it.
+  -- The instrument's log before the write is a part of this log. For a unit that answers with
+  -- readings, a measurement was initiated after it.
   abbrev pub Since : List InstrumentAct → Type 0
   Since acts = (newer : List InstrumentAct) × (acts ≡ newer ++ base) × Initiated what newer
 
-  -- `Holds`: the unit is held. `Gave`: it gave its answer. `Shows`: its message is finished, and the response can be read. `Gone`: the
-  -- response was read.
+  -- `Holds`: the unit is held. `Gave`: it gave its answer. `Shows`: its message is finished, and
+  -- the response can be read. `Gone`: the response was read.
   pub data State (taken : Bool) (log : List Act) : Type 0 where
     Holds : Left parts (exchange_acts (inside log)) → held_unit (inside log) ≡ Some what → response (exchange_acts (inside log)) ≡ []
         → Since (inside log) → My (At taken) log → State taken log
@@ -139,15 +141,16 @@ module _ (config : Config) (c lid xid most io_timeout lock_timeout flags term_ch
         → Left ([] ∷ replicate k []) (exchange_acts (inside log)) → response (exchange_acts (inside log)) ≡ []
         → held_unit (inside log) ≡ None → My (Told (reply_of (answer_of (inside log) e))) log → State taken log
 
-  -- The query is in one of these states. Since the write, nothing happened to the links, no error was reported, and no suspended call of
-  -- another connection can resume.
+  -- The query is in one of these states. Since the write, nothing happened to the links, no error
+  -- was reported, and no suspended call of another connection can resume.
   pub record Live (taken : Bool) (log : List Act) : Type 0 where
     pub state : State taken log
     pub linked : link_acts (device_acts log) ≡ links
     pub others : Others c links (wait_acts (device_acts log))
     pub codes : reported (inside log) ≡ errors
 
-  -- The law says nothing of this case: the read's deadline came, or the answer is too long for one read.
+  -- The law says nothing of this case: the read's deadline came, or the answer is too long for one
+  -- read.
   abbrev pub Escaped : List Act → Type 0
   Escaped log = (limit ≤ config.clock + ticks (device_acts log))
       ⊎ ((e : UnitEnd what base (inside log)) × (OneRead (term_of flags term_char) most (held_answer what e.done) → ⊥))

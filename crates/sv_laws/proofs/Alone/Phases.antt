@@ -1,4 +1,5 @@
--- A query that waits for the end of the measurement: what is known of its connection and of the other ones, and which events leave it.
+-- A query that waits for the end of the measurement: what is known of its connection and of the
+-- other ones, and which events leave it.
 use Rattle.std.proofs.Common.{◌≡◌, ◌≢◌, ℕ, Bool, true, false, List, [], ◌∷◌, ◌++◌, length, Option, Some, None, refl, sym, ap, subst, ◌∙◌, inl, inr, ◌⊎◌, append_assoc, arith}
 use Rattle.std.specs.Prelude.{◌==◌}
 use Rattle.std.specs.List.{AllByRecursion}
@@ -33,15 +34,16 @@ pub data Status : Type 0 where
   At : (taken : Bool) → Status
   Told : (reply : List ℕ) → Status
 
--- Before the read is taken, no call of the connection is suspended. After that, the read waits for the response. After the reply, again no
--- call is suspended.
+-- Before the read is taken, no call of the connection is suspended. After that, the read waits for
+-- the response. After the reply, again no call is suspended.
 abbrev pub Mine : (c limit : ℕ) → CoreCall → List ℕ → Status → List ConnAct → List WaitAct → Type 0
 Mine c limit call replies (At false) own calls = (waits c calls ≡ None) × (all_replies own ≡ replies)
 Mine c limit call replies (At true) own calls = (waits c calls ≡ Some ForResponse) × (deadline c calls ≡ Some limit)
     × (core_call_in (pending_call own) ≡ Some call) × (all_replies own ≡ replies)
 Mine c limit call replies (Told reply) own calls = (waits c calls ≡ None) × (all_replies own ≡ replies ++ reply)
 
--- No suspended call of another connection can resume, whether or not the device accepts a write or answers a read.
+-- No suspended call of another connection can resume, whether or not the device accepts a write or
+-- answers a read.
 abbrev pub Others : ℕ → List LinkAct → List WaitAct → Type 0
 Others c links calls = (d : ℕ) → d ≢ c → (writes reads : Bool) → IsAble (holder links) writes reads calls d → ⊥
 
@@ -98,8 +100,9 @@ one_read_or term most answer = elim (cases_lt (length answer) most) [
 abbrev pub inside : List Act → List InstrumentAct
 inside log = instrument_acts (device_acts log)
 
--- The new log differs from the log before only in acts that don't concern the query: it gives the same message exchange, held unit, errors
--- and links, and what was known of the suspended calls still holds.
+-- The new log differs from the log before only in acts that don't concern the query: it gives the
+-- same message exchange, held unit, errors and links, and what was known of the suspended calls
+-- still holds.
 pub record Alike (c limit : ℕ) (call : CoreCall) (replies : List ℕ) (links : List LinkAct) (log new : List Act) : Type 0 where
   pub adds : List InstrumentAct
   pub is : inside new ≡ adds ++ inside log

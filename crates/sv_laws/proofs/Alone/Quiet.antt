@@ -1,5 +1,5 @@
--- While nothing is due, quiet events change neither message exchange nor the links. If message exchange is at rest, no read or write waits
--- for the device.
+-- While nothing is due, quiet events change neither message exchange nor the links. If message
+-- exchange is at rest, no read or write waits for the device.
 use Rattle.std.proofs.Common.{◌≡◌, ℕ, Bool, true, false, List, [], ◌∷◌, ◌++◌, Option, Some, None, refl, sym, ap, subst, ◌∙◌, inl, inr}
 use Rattle.std.specs.Prelude.{map, not, ◌==◌, ◌||◌, ◌&&◌}
 use Rattle.std.specs.List.{AllByRecursion}
@@ -55,7 +55,8 @@ left_able holds writes reads c d acts h = elim (cases_Bool (c == d)) [
 abbrev pub can_read : List ExchangeAct → Bool
 can_read acts = is_something (response acts) || (not (is_held None) && not (has_ended acts))
 
--- These are the acts of message exchange, the acts on links and the reported errors. No unit is held, and no suspended call can resume.
+-- These are the acts of message exchange, the acts on links and the reported errors. No unit is
+-- held, and no suspended call can resume.
 pub record Same (acts : List ExchangeAct) (links : List LinkAct) (errors : List Code) (log : List Act) : Type 0 where
   pub exchange : exchange_acts (device_acts log) ≡ acts
   pub linked : link_acts (device_acts log) ≡ links

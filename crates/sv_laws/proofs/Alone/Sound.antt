@@ -1,5 +1,5 @@
--- Before a message has ended, no unit of it is executed. Each act of a call or an event keeps this, and so does each step of the
--- instrument.
+-- Before a message has ended, no unit of it is executed. Each act of a call or an event keeps this,
+-- and so does each step of the instrument.
 use Rattle.std.proofs.Common.{◌≡◌, ℕ, ◌+◌, ◌<◌, ◌≤◌, Bool, true, false, cond, List, [], ◌∷◌, ◌++◌, length, map, Option, Some, None, Result, Ok, Err, refl, sym, subst, ◌∙◌, inl, inr, ◌⊎◌, arith, lt-ltb}
 use Rattle.std.specs.Prelude.{not, codes, ⊤, ◌&&◌, ◌==◌}
 use Rattle.std.specs.List.{onto_first as onto}
@@ -81,7 +81,8 @@ Going acts = IsEnded acts × IsLong acts
 sound_going : (acts : List InstrumentAct) → Going acts → Sound acts
 sound_going acts g = (inl g.0, g.1)
 
--- An act that can't begin, answer or finish a unit or a message: one of a call or an event, and not of a step of message exchange.
+-- An act that can't begin, answer or finish a unit or a message: one of a call or an event, and not
+-- of a step of message exchange.
 abbrev pub IsTame : InstrumentAct → Type 0
 IsTame (Exchanged Overran) = ⊥
 IsTame (Exchanged UnitDone) = ⊥

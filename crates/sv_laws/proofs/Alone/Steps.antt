@@ -69,7 +69,8 @@ stands_over k act log plain = since_over (standard.Occurs k) standard.NotCleared
 
 -- ---- a step
 
--- These are all acts of the instrument. Since the log `base`, the links, the suspended calls, the clock and the scanner are the same.
+-- These are all acts of the instrument. Since the log `base`, the links, the suspended calls, the
+-- clock and the scanner are the same.
 pub record Stage (base log : List Act) (acts : List InstrumentAct) : Type 0 where
   pub calm : Calm (device_acts log) (device_acts base)
   pub is : instrument_acts (device_acts log) ≡ acts
@@ -111,7 +112,8 @@ finish_step acts held finish = step_of acts (Exchanged Finished ∷ acts) None F
 
 -- ---- all that is left is finished
 
--- The steps that are due lead to a log with this response, and with no more text. The standard events and the error queue are the same.
+-- The steps that are due lead to a log with this response, and with no more text. The standard
+-- events and the error queue are the same.
 pub record Ends (c : ℕ) (config : Config) (base log : List Act) (acts : List InstrumentAct) (bytes : List ℕ) : Type 0 where
   pub end : List Act
   pub last : List InstrumentAct

@@ -60,7 +60,8 @@ first_short (b ∷ sent) part more e = at (b == 10) e (first_short sent)
 
 -- ---- the messages that are left
 
--- After these acts, these messages aren't finished yet. No unit of the first one was done, and it has no answers.
+-- After these acts, these messages aren't finished yet. No unit of the first one was done, and it
+-- has no answers.
 pub record Left (parts : List (List ℕ)) (acts : List ExchangeAct) : Type 0 where
   pub left : drop (messages_finished acts) (messages (text acts)) ≡ parts
   pub done : units_done (current acts) ≡ 0
@@ -139,7 +140,8 @@ finish_due part other unit answer more acts l short one =
 
 -- ---- once the message is finished
 
--- So many empty messages that have ended are left. No unit of the first one was done, and the response is this.
+-- So many empty messages that have ended are left. No unit of the first one was done, and the
+-- response is this.
 pub record Over (lines : ℕ) (bytes : List ℕ) (acts : List ExchangeAct) : Type 0 where
   pub left : drop (messages_finished acts) (messages (text acts)) ≡ [] ∷ replicate lines []
   pub fresh : current acts ≡ []

@@ -1,4 +1,5 @@
--- The two Turns of a query that is asked alone: the write is accepted, and the read returns the response.
+-- The two Turns of a query that is asked alone: the write is accepted, and the read returns the
+-- response.
 use Rattle.std.proofs.Common.{◌≡◌, ◌≢◌, ℕ, ◌+◌, ◌-◌, ◌≤◌, Bool, true, false, cond, List, [], ◌∷◌, ◌++◌, length, Option, Some, None, refl, ap, ◌∙◌, arith, eq-eqb, lt-ltb}
 use Rattle.std.specs.Prelude.{pos, take, nat_lt, is_some, slice_get, ◌==◌}
 use Rattle.std.specs.Int.{bit_at}

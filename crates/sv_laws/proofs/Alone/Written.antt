@@ -71,7 +71,8 @@ accepted sent acts = Exchanged (Accepted sent true) ∷ acts
 abbrev pub answer_acts : Question → List ℕ → List InstrumentAct
 answer_acts asked answer = Exchanged (Answered answer) ∷ Exchanged UnitDone ∷ taken_acts asked
 
--- Message exchange is at rest. The query fits in one write, can be answered, and has this answer, which fits in a response.
+-- Message exchange is at rest. The query fits in one write, can be answered, and has this answer,
+-- which fits in a response.
 pub record Ready (asked : Question) (sent answer : List ℕ) (acts : List InstrumentAct) : Type 0 where
   pub left : Left ([] ∷ []) (exchange_acts acts)
   pub held : held_unit acts ≡ None

@@ -1,5 +1,5 @@
--- Behind a call that was answered no whole record is left, and so as many records came to their end as there are: whatever comes next is
--- read on from the tail alone.
+-- Behind a call that was answered no whole record is left, and so as many records came to their end
+-- as there are: whatever comes next is read on from the tail alone.
 use Rattle.std.proofs.Common.{◌≡◌, ℕ, suc, ◌<◌, Bool, true, false, cond, List, [], ◌∷◌, ◌++◌, length, drop, Some, None, slice_get, sym, ap, ◌∙◌, append_assoc, append-nil, arith}
 use Rattle.std.specs.Prelude.{◌||◌, is_some}
 use Rattle.std.proofs.lemmas.List.{length-append, length-drop, append_cancel_right}

@@ -1,5 +1,5 @@
--- Two logs, in one of which a write was accepted whole, and in the other in two parts: they are the same but for that, and stay so over
--- the same steps.
+-- Two logs, in one of which a write was accepted whole, and in the other in two parts: they are the
+-- same but for that, and stay so over the same steps.
 use Rattle.std.proofs.Common.{◌≡◌, ◌≢◌, ℕ, Bool, false, List, ◌∷◌, ◌++◌, None, sym, ap, subst, ◌∙◌, inl, inr}
 use Rattle.std.proofs.lemmas.Bool.{cases_eq}
 use Rattle.sv_errors.specs.declared.code.Code.TheVariants.{InputBufferOverrun}
@@ -58,7 +58,8 @@ parts_shared x y ended acts =
     (told_back (accepts y ended ∷ accepts x false ∷ acts) acts parts) in
     assumption (sym (text_cut x y ended (exchanged (instrument_acts acts))))
 
--- and where it is reported behind the first part, and behind the whole, that the message is too long
+-- and where it is reported behind the first part, and behind the whole, that the message is too
+-- long
 abbrev pub reports : List DeviceAct → List DeviceAct
 reports acts = Applied (Reported InputBufferOverrun) ∷ Applied (Exchanged Overran) ∷ acts
 

@@ -1,4 +1,5 @@
--- Events that feed a connection: bytes come, or its next call is taken, and each call that is taken shows in its acts.
+-- Events that feed a connection: bytes come, or its next call is taken, and each call that is taken
+-- shows in its acts.
 use Rattle.std.proofs.Common.{◌≡◌, ℕ, ◌+◌, ◌≤◌, List, [], ◌∷◌, ◌++◌, length, Option, Some, refl, sym, ap, subst, ◌∙◌, inl, inr, ◌⊎◌, arith}
 use Rattle.std.specs.List.{AllByRecursion}
 use Rattle.std.proofs.lemmas.List.{length-append}

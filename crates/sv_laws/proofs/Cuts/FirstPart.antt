@@ -1,5 +1,5 @@
--- Behind a log at which nothing is due a write is accepted that ends no message: then nothing is due, but that a message which has become
--- too long is reported.
+-- Behind a log at which nothing is due a write is accepted that ends no message: then nothing is
+-- due, but that a message which has become too long is reported.
 use Rattle.std.proofs.Common.{◌≡◌, ◌≢◌, ℕ, zero, suc, ◌+◌, ◌≤◌, Bool, true, false, List, [], ◌∷◌, ◌++◌, Option, Some, None, refl, sym, ap, subst, ◌∙◌, inl, inr, ◌⊎◌, append_assoc}
 use Rattle.std.specs.Prelude.{map, not, ◌&&◌}
 use Rattle.std.specs.List.{AllByRecursion}

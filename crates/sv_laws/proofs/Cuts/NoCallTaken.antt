@@ -1,4 +1,5 @@
--- What follows a call in its event takes no call: neither what the call does, nor the steps that are due then.
+-- What follows a call in its event takes no call: neither what the call does, nor the steps that
+-- are due then.
 use Rattle.std.proofs.Common.{◌≡◌, ℕ, true, false, List, [], ◌∷◌, ◌++◌, Option, Some, None, refl, sym, ap, subst, ◌∙◌, inl, inr, append_assoc}
 use Rattle.std.specs.Prelude.{map, ⊤, ◌==◌}
 use Rattle.std.specs.List.{AllByRecursion}

@@ -1,4 +1,5 @@
--- Two connections that took a different number of calls, and are the same ahead of these: the same calls come next, whatever comes.
+-- Two connections that took a different number of calls, and are the same ahead of these: the same
+-- calls come next, whatever comes.
 use Rattle.std.proofs.Common.{inl, inr, ◌≡◌, ℕ, zero, suc, ◌+◌, List, [], ◌∷◌, ◌++◌, drop, slice_get, refl, sym, ap, ◌∙◌, append_assoc, append-nil, drop-drop, arith}
 use Rattle.std.specs.Prelude.{◌==◌}
 use Rattle.std.proofs.lemmas.Bool.{cases_Bool}

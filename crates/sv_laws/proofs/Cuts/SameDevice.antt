@@ -1,4 +1,5 @@
--- What all connections share is the same in two logs but for where program text was accepted: a call comes to the same in both.
+-- What all connections share is the same in two logs but for where program text was accepted: a
+-- call comes to the same in both.
 use Rattle.std.proofs.Common.{◌≡◌, ℕ, ◌+◌, Bool, true, false, List, [], ◌∷◌, ◌++◌, refl, sym, ap, subst, ◌∙◌}
 use Rattle.std.specs.Prelude.{◌↔◌}
 use Rattle.sv_links.specs.Links.{LinkAct}

@@ -1,4 +1,5 @@
--- A step of the instrument adds the same acts to two logs that are the same but for where program text was accepted.
+-- A step of the instrument adds the same acts to two logs that are the same but for where program
+-- text was accepted.
 use Rattle.std.proofs.Common.{◌≡◌, ℕ, Bool, true, false, List, [], ◌∷◌, ◌++◌, Option, Some, None, Result, Ok, Err, refl, sym, ap, subst, ◌∙◌, append_assoc}
 use Rattle.std.specs.Prelude.{◌↔◌, codes, pos, length, decimal, if◌then◌else◌}
 use Rattle.sv_errors.specs.declared.code.Code.{Code}

@@ -1,4 +1,5 @@
--- Two logs of the instrument that are the same but for where program text was accepted: no search of its status tells them apart.
+-- Two logs of the instrument that are the same but for where program text was accepted: no search
+-- of its status tells them apart.
 use Rattle.std.proofs.Common.{◌≡◌, ℕ, Bool, true, false, List, [], ◌∷◌, refl, sym, ap, ◌∙◌, inl, inr, arith}
 use Rattle.std.specs.Prelude.{◌↔◌, ◌&&◌, ◌||◌}
 use Rattle.std.specs.Int.{bit_at}

@@ -1,5 +1,5 @@
--- Two logs that are the same but for the pieces in which bytes came, and the fragments of records: over the same acts, and over other
--- pieces.
+-- Two logs that are the same but for the pieces in which bytes came, and the fragments of records:
+-- over the same acts, and over other pieces.
 use Rattle.std.proofs.Common.{◌≡◌, ℕ, suc, List, [], ◌∷◌, ◌++◌, refl, sym, ap, ◌∙◌, inl, inr, append_assoc, append-nil}
 use Rattle.std.specs.Prelude.{map, ◌==◌}
 use Rattle.std.proofs.lemmas.Bool.{cases_eq, cases_Bool}

@@ -1,4 +1,5 @@
--- An event adds the same acts to two logs that are the same but for where program text was accepted.
+-- An event adds the same acts to two logs that are the same but for where program text was
+-- accepted.
 use Rattle.std.proofs.Common.{◌≡◌, ℕ, List, [], ◌∷◌, ◌++◌, Option, Some, None, refl, ap, ◌∙◌}
 use Rattle.std.specs.Prelude.{map, Bool, true, false, ◌==◌, if◌then◌else◌}
 use Rattle.sv_vxi.specs.declared.error_code.ErrorCode.TheVariants.{Abort}

@@ -1,5 +1,5 @@
--- Behind two histories whose logs are the same but for where text was accepted, and for calls that came before, the same events add the
--- same.
+-- Behind two histories whose logs are the same but for where text was accepted, and for calls that
+-- came before, the same events add the same.
 use Rattle.std.proofs.Common.{◌≡◌, ℕ, List, [], ◌∷◌, ◌++◌, refl, sym, ap, subst, ◌∙◌}
 use Rattle.std.specs.Prelude.{◌↔◌}
 use Rattle.std.proofs.lemmas.List.{append_cancel_left}

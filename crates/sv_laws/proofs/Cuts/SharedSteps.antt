@@ -1,4 +1,5 @@
--- A step that is due adds the same acts to two logs that are the same but for where program text was accepted.
+-- A step that is due adds the same acts to two logs that are the same but for where program text
+-- was accepted.
 use Rattle.std.proofs.Common.{◌≡◌, ℕ, ◌+◌, List, [], ◌∷◌, ◌++◌, Option, Some, None, refl, sym, ap, subst, ◌∙◌, inl, inr}
 use Rattle.std.specs.Prelude.{map, pos, negsuc}
 use Rattle.std.proofs.lemmas.List.{append_cancel_right}

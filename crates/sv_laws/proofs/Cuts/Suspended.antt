@@ -1,4 +1,5 @@
--- Behind a log at which nothing is due a call is suspended, and what it waits for isn't there: nothing is due but that it times out.
+-- Behind a log at which nothing is due a call is suspended, and what it waits for isn't there:
+-- nothing is due but that it times out.
 use Rattle.std.proofs.Common.{◌≡◌, ◌≢◌, ℕ, ◌+◌, Bool, true, false, eqb, List, ◌∷◌, ◌++◌, Option, Some, None, refl, sym, ap, subst, ◌∙◌, inl, inr, eq-eqb}
 use Rattle.std.specs.Prelude.{map, not}
 use Rattle.std.proofs.lemmas.Bool.{cases_eq, ne_eqb}

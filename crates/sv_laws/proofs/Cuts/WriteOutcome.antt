@@ -1,5 +1,5 @@
--- What a call of the core program is on a connection, and what a write comes to: it fails, or waits for what isn't there, or its bytes are
--- accepted.
+-- What a call of the core program is on a connection, and what a write comes to: it fails, or waits
+-- for what isn't there, or its bytes are accepted.
 use Rattle.std.proofs.Common.{◌≡◌, ◌≢◌, ℕ, suc, Bool, false, eqb, List, [], ◌∷◌, length, Option, Some, None, refl, sym, ap, subst, ◌∙◌, inl, inr, ◌⊎◌, arith}
 use Rattle.std.specs.Prelude.{not, pos, nat_lt, ◌==◌, Result, Ok, Err}
 use Rattle.std.specs.Int.{bit_at}

@@ -1,4 +1,5 @@
--- A write, and the same bytes in two writes: what comes behind them adds the same, and so do they to each port but the connection.
+-- A write, and the same bytes in two writes: what comes behind them adds the same, and so do they
+-- to each port but the connection.
 use Rattle.std.proofs.Common.{◌≡◌, ◌≢◌, ℕ, zero, suc, Bool, true, false, Some, List, [], ◌∷◌, ◌++◌, length, refl, sym, ap, subst, ◌∙◌, inl, inr, append-nil, arith}
 use Rattle.std.specs.Prelude.{◌↔◌, pos}
 use Rattle.std.specs.Int.{bit_at}
@@ -46,7 +47,8 @@ settles_behind zero config log mid new next settles = absurd (settles.0 mid next
 settles_behind (suc n) config log mid new next (middle, also, more) =
     (n, subst (λ (l : List Act). SettlesIn n config l new) (next_once config log middle mid also next) more)
 
--- A write of both parts, from the first log to the second; and writes of the one and then of the other, with bytes that come between them.
+-- A write of both parts, from the first log to the second; and writes of the one and then of the
+-- other, with bytes that come between them.
 record Parts (c : ℕ) (x y : List ℕ) (ended : Bool) (config : Config) (before whole last : List Act) : Type 0 where
   single : List Act
   first : List Act

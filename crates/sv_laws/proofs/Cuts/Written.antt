@@ -1,4 +1,5 @@
--- A write that was taken, and answered without an error and with all its bytes: its bytes were accepted, and nothing else was done.
+-- A write that was taken, and answered without an error and with all its bytes: its bytes were
+-- accepted, and nothing else was done.
 use Rattle.std.proofs.Common.{◌≡◌, ◌≢◌, ℕ, zero, suc, Bool, true, false, List, [], ◌∷◌, ◌++◌, length, Option, Some, None, refl, sym, ap, subst, ◌∙◌, inl, inr, arith, eq-eqb}
 use Rattle.std.specs.Prelude.{pos, ◌==◌, ◌↔◌, slice_index_or}
 use Rattle.std.specs.Int.{bit_at}
@@ -69,7 +70,8 @@ is_served xid other n same =
 abbrev pub wrote : ℕ → List ℕ → List ℕ → List ℕ → Bool → List Act → List Act
 wrote c call reply bytes ended base = On c (Replied reply) ∷ OnDevice (accepts bytes ended) ∷ On c (CallTaken call) ∷ base
 
--- A write of these bytes is taken in the first log, they are accepted, and that leads to the second.
+-- A write of these bytes is taken in the first log, they are accepted, and that leads to the
+-- second.
 pub record Wrote (c : ℕ) (bytes : List ℕ) (ended : Bool) (config : Config) (base log : List Act) : Type 0 where
   pub call : List ℕ
   pub reply : List ℕ

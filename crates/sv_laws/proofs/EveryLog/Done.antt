@@ -22,8 +22,9 @@ use Rattle.sv_history.specs.CoreChannel.{owns, own_call}
 use Rattle.sv_history.specs.Interrupts.{has_channel}
 use Rattle.sv_history.specs.Admission.{Stop, Fails, Awaits, stop_of}
 
--- An act that a call of a connection, with these arguments, adds where it is done: only a create_link makes a link, and its number is the
--- next; a link that begins to ask is the connection's; no call begins or ends to wait, no channel opens, and no peer takes bytes.
+-- An act that a call of a connection, with these arguments, adds where it is done: only a
+-- create_link makes a link, and its number is the next; a link that begins to ask is the
+-- connection's; no call begins or ends to wait, no channel opens, and no peer takes bytes.
 abbrev pub IsDone : ℕ → Arguments → List DeviceAct → DeviceAct → Type 0
 IsDone c arguments acts (Linked (Made lid conn)) = (lid ≡ links_made (link_acts acts) + 1) × (conn ≡ c) × (is_create_link arguments ≡ true)
 IsDone c arguments acts (Waited act) = ⊥

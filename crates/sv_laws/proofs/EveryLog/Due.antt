@@ -1,6 +1,5 @@
--- Of the calls that wait on sixteen connections, one whose deadline has come came first, or there is none; and a call that leaves makes
--- those
--- that wait fewer.
+-- Of the calls that wait on sixteen connections, one whose deadline has come came first, or there
+-- is none; and a call that leaves makes those that wait fewer.
 use Rattle.std.proofs.Common.{◌≡◌, ℕ, zero, suc, ◌+◌, ◌<◌, ◌≤◌, Bool, true, false, cond, eqb, ltb, List, ◌∷◌, Option, Some, None, refl, sym, ap, subst, ◌∙◌, inl, inr, eq-eqb, arith}
 use Rattle.std.specs.Prelude.{is_some, ◌&&◌}
 use Rattle.std.proofs.lemmas.Bool.{cases_Bool, cases_eq, ne_eqb, leb-true, le-leb, ltb-true, ltb-false}

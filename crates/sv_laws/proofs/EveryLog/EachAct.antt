@@ -1,4 +1,5 @@
--- In every log each act of a connection came when it could: while the connection is open, each reply for the call that had no answer.
+-- In every log each act of a connection came when it could: while the connection is open, each
+-- reply for the call that had no answer.
 use Rattle.std.proofs.Common.{◌≡◌, ℕ, Bool, true, false, cond, List, [], ◌∷◌, ◌++◌, nat_lt, Option, Some, None, refl, sym, ap, subst, ◌∙◌, append_assoc}
 use Rattle.std.specs.Prelude.{map, not, ◌||◌, ⊤, Result, Ok, Err}
 use Rattle.sv_xdr.specs.declared.garbage.Garbage.{Garbage}
@@ -52,8 +53,8 @@ abbrev pub IsReplyTo : List ℕ → List ℕ → Type 0
 IsReplyTo call reply = (xid : ℕ) × (answer : Reply) × (fields : List Field) × (xid_of (call_at call) ≡ Some xid)
     × (reply ≡ reply_record xid answer fields)
 
--- An act can come behind these: bytes, and calls in their order, while the connection is open; a fault or a reply for the call that has
--- none.
+-- An act can come behind these: bytes, and calls in their order, while the connection is open; a
+-- fault or a reply for the call that has none.
 abbrev pub CanCome : ConnAct → List ConnAct → Type 0
 CanCome (Opened role) acts = ⊤
 CanCome (Piece bytes) acts = (is_open acts ≡ true) × IsBytes bytes

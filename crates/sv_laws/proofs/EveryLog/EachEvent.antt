@@ -1,4 +1,5 @@
--- What holds of nothing and is kept by each event's own acts, and by each step, holds of the log of every history.
+-- What holds of nothing and is kept by each event's own acts, and by each step, holds of the log of
+-- every history.
 use Rattle.std.proofs.Common.{◌≡◌, ◌≢◌, ℕ, zero, suc, ◌<◌, Bool, true, false, cond, List, [], ◌∷◌, ◌++◌, nat_lt, Option, Some, None, refl, sym, ap, subst, ◌∙◌, inl, inr, eq-eqb, append_assoc}
 use Rattle.std.specs.Prelude.{map, is_some}
 use Rattle.std.proofs.lemmas.Bool.{cases_eq}
@@ -65,7 +66,8 @@ each_log config IsSo empty acts step (event ∷ history) log (before, polled, ch
 
 -- ---- steps, and calls
 
--- What happens to the instrument keeps it, and so does a call that resumes, and one that ends with an error.
+-- What happens to the instrument keeps it, and so does a call that resumes, and one that ends with
+-- an error.
 pub record StepsKeep (config : Config) (IsSo : List Act → Type 0) : Type 0 where
   pub happened : (adds : List InstrumentAct) (log : List Act) → IsSo log → IsSo (map OnDevice (map Applied adds) ++ log)
   pub resumed : (polled c : ℕ) (wait : Wait) (log : List Act) → waits c (wait_acts (device_acts log)) ≡ Some wait → IsSo log

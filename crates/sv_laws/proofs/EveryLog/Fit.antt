@@ -1,4 +1,5 @@
--- What holds in every log of a history of each act and of each call that waits; and acts that keep it.
+-- What holds in every log of a history of each act and of each call that waits; and acts that keep
+-- it.
 use Rattle.std.proofs.Common.{◌≡◌, ◌≢◌, ℕ, ◌+◌, ◌<◌, true, List, [], ◌∷◌, ◌++◌, Option, Some, None, refl, sym, ap, subst, ◌∙◌, inl, inr, ◌⊎◌}
 use Rattle.std.specs.Prelude.{map, ⊤}
 use Rattle.std.proofs.lemmas.Bool.{cases_eq}
@@ -19,8 +20,9 @@ use Rattle.sv_history.specs.Request.{core_call_in}
 use Rattle.sv_history.specs.Effect.{Effect, acts_of}
 use Rattle.sv_history.proofs.Projections.{of_shared, device_shared, of_effect, others_effect, device_effect}
 
--- An act suits those before it: a link that is made has the next number; a call that begins to wait is of one of sixteen connections, and
--- the link that it names is that connection's; so is a link that begins to ask for service requests.
+-- An act suits those before it: a link that is made has the next number; a call that begins to wait
+-- is of one of sixteen connections, and the link that it names is that connection's; so is a link
+-- that begins to ask for service requests.
 abbrev pub Suits : List DeviceAct → DeviceAct → Type 0
 Suits acts (Linked (Made lid conn)) = lid ≡ links_made (link_acts acts) + 1
 Suits acts (Waited (Entered conn named wait last)) = (conn < 16) × ((n : ℕ) → named ≡ Some n → owner n (link_acts acts) ≡ Some conn)
@@ -31,9 +33,8 @@ abbrev pub AllSuit : List DeviceAct → Type 0
 AllSuit [] = ⊤
 AllSuit (act ∷ acts) = Suits acts act × AllSuit acts
 
--- If the call of a connection waits, the connection is open as a core channel, and has a call without an answer; if that is a create_link
--- it
--- waits for the lock, and names no link.
+-- If the call of a connection waits, the connection is open as a core channel, and has a call
+-- without an answer; if that is a create_link it waits for the lock, and names no link.
 abbrev pub IsCall : Wait → Option ℕ → List ConnAct → Type 0
 IsCall wait named acts = (call : CoreCall) × (core_call_in (pending_call acts) ≡ Some call)
     × (is_create_link call.arguments ≡ true → (wait ≡ Lock) × (named ≡ None))
@@ -56,7 +57,8 @@ held_none c own acts none = λ wait is. absurd (let z : None ≡ Some wait = sym
 
 -- ---- acts of one connection
 
--- An act that suits, of this connection where it makes a link, for which this has to hold, or where a call of its begins or ends to wait.
+-- An act that suits, of this connection where it makes a link, for which this has to hold, or where
+-- a call of its begins or ends to wait.
 abbrev pub IsBy : ℕ → Type 0 → List DeviceAct → DeviceAct → Type 0
 IsBy c May acts (Linked (Made lid conn)) = (lid ≡ links_made (link_acts acts) + 1) × (conn ≡ c) × May
 IsBy c May acts (Waited (Entered conn named wait last)) =

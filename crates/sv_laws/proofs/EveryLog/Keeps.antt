@@ -1,4 +1,5 @@
--- What each act of the device keeps in every log, and what follows: which link holds the lock, and which links the suspended calls name.
+-- What each act of the device keeps in every log, and what follows: which link holds the lock, and
+-- which links the suspended calls name.
 use Rattle.std.proofs.Common.{◌≡◌, ◌≢◌, ℕ, Bool, true, false, eqb, List, [], ◌∷◌, ◌++◌, Option, Some, None, refl, sym, ap, subst, ◌∙◌, inl, inr, ◌⊎◌, eq-eqb}
 use Rattle.std.specs.Prelude.{map, not, ◌&&◌, ◌||◌, ⊤, option_map}
 use Rattle.std.proofs.lemmas.Bool.{cases_Bool, cases_eq, eqb-true, ne_eqb}
@@ -30,16 +31,17 @@ IsFree lid acts = (d : ℕ) × (owner lid (link_acts acts) ≡ Some d) × (waits
 abbrev pub IsEarliest : ℕ → List DeviceAct → Type 0
 IsEarliest c acts = IsOldest (wait_acts acts) (WaitsForLock acts) (Some c)
 
--- A link may take the lock: it holds the lock; or the lock is free, and no call waits for it, or the call of the link's connection, which
--- waited for the lock until now, was suspended first.
+-- A link may take the lock: it holds the lock; or the lock is free, and no call waits for it, or
+-- the call of the link's connection, which waited for the lock until now, was suspended first.
 abbrev pub MayTake : ℕ → List DeviceAct → Type 0
 MayTake lid acts = (holder (link_acts acts) ≡ Some lid)
     ⊎ ((holder (link_acts acts) ≡ None) × (((c : ℕ) → WaitsForLock acts c → ⊥)
     ⊎ ((c : ℕ) × (made : List LinkAct) × (before : List DeviceAct) × (acts ≡ map Linked made ++ Waited (Left c) ∷ before)
     × (owner lid (link_acts acts) ≡ Some c) × IsEarliest c before)))
 
--- A link is destroyed that no suspended call names; a link gets the lock that may get it; a call begins to wait for the lock while another
--- link holds it; and a call that stops to wait for the lock while it is free is the oldest.
+-- A link is destroyed that no suspended call names; a link gets the lock that may get it; a call
+-- begins to wait for the lock while another link holds it; and a call that stops to wait for the
+-- lock while it is free is the oldest.
 abbrev pub Keeps : List DeviceAct → DeviceAct → Type 0
 Keeps acts (Linked (Destroyed lid)) = NamesNone lid acts
 Keeps acts (Linked (Locked lid)) = IsFree lid acts × MayTake lid acts

@@ -1,4 +1,5 @@
--- What follows for links, for calls that wait, and for links that ask for service requests, where each act suits those before it.
+-- What follows for links, for calls that wait, and for links that ask for service requests, where
+-- each act suits those before it.
 use Rattle.std.proofs.Common.{◌≡◌, ◌≢◌, ℕ, ◌+◌, ◌<◌, ◌≤◌, Bool, true, false, eqb, List, [], ◌∷◌, Option, Some, None, refl, sym, ap, subst, ◌∙◌, inl, inr, eq-eqb, arith}
 use Rattle.std.specs.Prelude.{option_map, find}
 use Rattle.std.proofs.lemmas.Bool.{cases_Bool, cases_eq, eqb-true, ne_eqb}

@@ -1,4 +1,5 @@
--- Two logs that are alike for a connection whose link holds the lock, over acts of others and over the same acts.
+-- Two logs that are alike for a connection whose link holds the lock, over acts of others and over
+-- the same acts.
 use Rattle.std.proofs.Common.{◌≡◌, ◌≢◌, ℕ, ◌+◌, Bool, true, false, eqb, List, [], ◌∷◌, ◌++◌, Option, Some, refl, sym, ap, subst, ◌∙◌, inl, inr}
 use Rattle.std.specs.Prelude.{⊤, ◌↔◌, ◌==◌, if◌then◌else◌}
 use Rattle.std.proofs.lemmas.Bool.{cases_Bool, ne_eqb}
@@ -24,7 +25,8 @@ use Rattle.sv_laws.proofs.EveryLog.Known.{asks_elsewhere}
 
 -- ---- what all connections share
 
--- What acts of the connection rest on is the same in both; its link holds the lock in both, and no other connection waits for the device.
+-- What acts of the connection rest on is the same in both; its link holds the lock in both, and no
+-- other connection waits for the device.
 pub record View (c lid : ℕ) (acts other : List DeviceAct) : Type 0 where
   pub instrument : instrument_acts acts ≡ instrument_acts other
   pub clock : ticks acts ≡ ticks other
@@ -41,7 +43,8 @@ pub mine_also : (c lid : ℕ) (acts other : List DeviceAct) → View c lid acts 
 mine_also c lid acts other view = owner_is_of c (owner lid (link_acts other))
     (sym (view.owns lid) ∙ is_of_owner c lid (link_acts acts) view.mine)
 
--- an act of another connection: on its own links, of its own call, which doesn't wait for the device, or of its own channel
+-- an act of another connection: on its own links, of its own call, which doesn't wait for the
+-- device, or of its own channel
 abbrev pub IsForeign : ℕ → List DeviceAct → DeviceAct → Type 0
 IsForeign c acts (Linked act) = IsForeignLink c act (link_acts acts)
 IsForeign c acts (Waited (Entered conn named wait last)) = (conn ≢ c) × (wait ≢ ForInput) × (wait ≢ Response)

@@ -1,4 +1,5 @@
--- Where nothing but giving up is due, the calls of other connections whose deadline has come before this one's are given up.
+-- Where nothing but giving up is due, the calls of other connections whose deadline has come before
+-- this one's are given up.
 use Rattle.std.proofs.Common.{◌≡◌, ◌≢◌, ℕ, zero, suc, ◌+◌, ◌<◌, ◌≤◌, List, ◌∷◌, ◌++◌, Option, Some, None, refl, sym, ap, subst, ◌∙◌, inl, inr, ◌⊎◌, arith}
 use Rattle.std.specs.Prelude.{map, ◌↔◌}
 use Rattle.std.specs.Int.{bit_at}

@@ -1,5 +1,5 @@
--- While a link holds the lock, the events without those of other connections are possible too, and add the same bytes to its connection and
--- to its interrupt channel.
+-- While a link holds the lock, the events without those of other connections are possible too, and
+-- add the same bytes to its connection and to its interrupt channel.
 use Rattle.std.proofs.Common.{◌≡◌, ℕ, true, false, List, [], ◌∷◌, ◌++◌, Some, None, refl, sym, ap, subst, ◌∙◌, inl, inr, append_assoc}
 use Rattle.std.specs.List.{concat}
 use Rattle.std.proofs.lemmas.Bool.{cases_Bool}

@@ -1,4 +1,5 @@
--- While a link holds the lock, the acts of another connection's event, and of its call that ends, are of others.
+-- While a link holds the lock, the acts of another connection's event, and of its call that ends,
+-- are of others.
 use Rattle.std.proofs.Common.{◌≡◌, ◌≢◌, ℕ, true, eqb, eq-eqb, List, [], ◌∷◌, ◌++◌, Option, Some, None, sym, ap, subst, inl, inr}
 use Rattle.std.specs.Prelude.{map, not, is_some, ◌&&◌}
 use Rattle.std.proofs.lemmas.Bool.{cases_Bool}

@@ -1,5 +1,5 @@
--- An event of the connection whose link holds the lock, or of none: it is refused in both logs or in neither, and adds the same acts to
--- both.
+-- An event of the connection whose link holds the lock, or of none: it is refused in both logs or
+-- in neither, and adds the same acts to both.
 use Rattle.std.proofs.Common.{◌≡◌, ℕ, Bool, true, false, eqb, List, [], ◌∷◌, ◌++◌, Option, Some, None, refl, sym, ap, subst, ◌∙◌, inl, inr, append_assoc}
 use Rattle.std.specs.Prelude.{map, not, ℤ}
 use Rattle.std.proofs.lemmas.Bool.{cases_Bool, eqb-true}
@@ -70,7 +70,8 @@ refusal_same config c lid channel_log also log other _ pair same own = refl
 
 -- ---- effects of a connection
 
--- Such are all acts of this connection, and those of what all share that are such there; so are the acts with which a call ends.
+-- Such are all acts of this connection, and those of what all share that are such there; so are the
+-- acts with which a call ends.
 pub record IsOf (d : ℕ) (IsSuch : List Act → Act → Type 0) (IsShared : List DeviceAct → DeviceAct → Type 0) : Type 0 where
   pub own : (log : List Act) (act : ConnAct) → IsSuch log (On d act)
   pub shared : (log : List Act) (act : DeviceAct) → IsShared (device_acts log) act → IsSuch log (OnDevice act)

@@ -1,4 +1,5 @@
--- While a link holds the lock, a call of another connection adds nothing of the instrument's, takes no lock, and speaks of its own links.
+-- While a link holds the lock, a call of another connection adds nothing of the instrument's, takes
+-- no lock, and speaks of its own links.
 use Rattle.std.proofs.Common.{◌≡◌, ◌≢◌, ℕ, Bool, true, false, List, length, nat_lt, Option, Some, None, refl, sym, ap, ◌∙◌, inl, inr}
 use Rattle.std.specs.Prelude.{ℤ, pos, negsuc, codes, is_some, ◌==◌}
 use Rattle.std.specs.Str.{bytes_eq}

@@ -1,7 +1,8 @@
--- How the instrument's acts determine the log of each layer. An act first changes its own layer. Then each status register is updated: it
--- gets its new condition, whose transitions pass the filters as they were before the act; then the act itself changes the register, if it
--- is an act on this register. A nested register is updated before the register above it, whose condition contains the summary of the nested
--- register.
+-- How the instrument's acts determine the log of each layer. An act first changes its own layer.
+-- Then each status register is updated: it gets its new condition, whose transitions pass the
+-- filters as they were before the act; then the act itself changes the register, if it is an act on
+-- this register. A nested register is updated before the register above it, whose condition
+-- contains the summary of the nested register.
 use Rattle.std.specs.Prelude.{◌≡◌, ℕ, Bool, true, false, not, ◌&&◌, List, [], ◌∷◌, if◌then◌else◌}
 use Rattle.sv_errors.specs.Code.{standard_event_of}
 use Rattle.sv_errors.specs.ErrorQueue.{is_full}
@@ -40,8 +41,8 @@ abbrev pub resets : ScanAct → Bool
 resets scan.Reset = true
 resets _ = false
 
--- the log of the standard events after an error is reported: the event of the error's class occurs; if the error queue overflows, the event
--- of bit 3 also occurs
+-- the log of the standard events after an error is reported: the event of the error's class occurs;
+-- if the error queue overflows, the event of bit 3 also occurs
 abbrev pub report_bits : Code → Bool → List StandardAct → List StandardAct
 report_bits code overflow acts = standard.Occur (bit 3 overflow) ∷ standard.Occur (standard_event_of code) ∷ acts
 
@@ -64,8 +65,8 @@ after_begin _ at = at
 abbrev pub idles : LayerLogs → Bool
 idles at = is_idle (state (effective at.scanner))
 
--- the logs of the layers after the part of an act that checks whether an `*OPC` is pending: a pending `*OPC` completes if no
--- measurement is under way
+-- the logs of the layers after the part of an act that checks whether an `*OPC` is pending: a
+-- pending `*OPC` completes if no measurement is under way
 abbrev pub after_complete : LayerLogs → LayerLogs
 after_complete at = record at {
   standard = standard.Occur (bit 0 (at.waits && idles at)) ∷ at.standard;
@@ -83,29 +84,32 @@ register_act (Enable mask) acts = register.SetEnable mask
 register_act (SetRise mask) acts = register.SetFilter mask (fall acts)
 register_act (SetFall mask) acts = register.SetFilter (rise acts) mask
 
--- the acts of a register, with one more act in front if the instrument's act changes this register directly: it sets, presets, clears or
--- reads the register. A change of the register's condition isn't direct.
+-- the acts of a register, with one more act in front if the instrument's act changes this register
+-- directly: it sets, presets, clears or reads the register. A change of the register's condition
+-- isn't direct.
 abbrev pub own : RegisterName → Act → List RegisterAct → List RegisterAct
 own name Cleared acts = register.Clear ∷ acts
 own name Preset acts = register.Preset ∷ acts
 own name (StatusChanged (Register other change)) acts = where_same name other (register_act change acts) acts
 own name _ acts = acts
 
--- the acts of the standard events, with one more act in front if the instrument's act clears or reads the standard events or sets their
--- enable
+-- the acts of the standard events, with one more act in front if the instrument's act clears or
+-- reads the standard events or sets their enable
 abbrev pub own_standard : Act → List StandardAct → List StandardAct
 own_standard Cleared acts = standard.Clear ∷ acts
 own_standard (StatusChanged ReadStandard) acts = standard.Read ∷ acts
 own_standard (StatusChanged (EnableStandard mask)) acts = standard.SetEnable mask ∷ acts
 own_standard _ acts = acts
 
--- The acts `other` and `act` of the instrument have the same direct effect on each register, and on the standard events.
+-- The acts `other` and `act` of the instrument have the same direct effect on each register, and on
+-- the standard events.
 abbrev pub EndsAs : Act → Act → Type 0
 EndsAs other act = ((name : RegisterName) (acts : List RegisterAct) → own name other acts ≡ own name act acts)
     × ((acts : List StandardAct) → own_standard other acts ≡ own_standard act acts)
 
--- the logs of the layers after the last part of an act: a pending `*OPC` is checked; each register gets its new condition; then the act
--- changes registers and standard events directly, if it is an act on them
+-- the logs of the layers after the last part of an act: a pending `*OPC` is checked; each register
+-- gets its new condition; then the act changes registers and standard events directly, if it is an
+-- act on them
 abbrev pub after_end : Act → List Act → LayerLogs → LayerLogs
 after_end act log at = record (after_complete at) {
   registers = λ name. own name act (register.Condition (condition name (act ∷ log)) ∷ at.registers name);

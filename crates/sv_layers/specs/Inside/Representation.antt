@@ -41,8 +41,8 @@ pub record LayerState : Type 0 where
   pub waits : Bool
   pub requests : ℕ
 
--- The summary bits that are set in the status byte `word` are exactly those that these logs of the layers
--- require.
+-- The summary bits that are set in the status byte `word` are exactly those that these logs of the
+-- layers require.
 pub record IsSummary (word : ℕ) (at : LayerLogs) : Type 0 where
   pub operates : Bool
   pub happened : Bool
@@ -58,18 +58,21 @@ abbrev pub own_status : Act → List StatusAct → List StatusAct
 own_status Polled acts = Poll ∷ acts
 own_status _ acts = acts
 
--- `acts` are the acts of the status byte that a log of the instrument determines. Each act of the instrument updates the summary bits and
--- the service request enable in the status byte. If the instrument's act is a poll, the status byte is polled before this update.
+-- `acts` are the acts of the status byte that a log of the instrument determines. Each act of the
+-- instrument updates the summary bits and the service request enable in the status byte. If the
+-- instrument's act is a poll, the status byte is polled before this update.
 abbrev pub IsStatus : List Act → List StatusAct → Type 0
 IsStatus [] acts = acts ≡ []
 IsStatus (act ∷ log) acts = (word : ℕ) × (before : List StatusAct) × IsSummary word (layer_logs (act ∷ log)) × IsStatus log before
     × (acts ≡ Update word (layer_logs (act ∷ log)).service ∷ own_status act before)
 
--- The newest act of the instrument raises a request for service, according to the status byte's own acts.
+-- The newest act of the instrument raises a request for service, according to the status byte's own
+-- acts.
 abbrev pub RaisedAt : List Act → Type 0
 RaisedAt log = (acts : List StatusAct) × IsStatus log acts × IsRaisedAsTold acts
 
--- The state of each layer stands for the layer's own log, and the state of the status byte stands for `status_log`.
+-- The state of each layer stands for the layer's own log, and the state of the status byte stands
+-- for `status_log`.
 pub record Represents (layered : LayerState) (at : LayerLogs) (status_log : List StatusAct) : Type 0 where
   pub exchange : Exchanges layered.exchange at.exchange
   pub errors : Queues layered.errors at.errors
@@ -86,14 +89,16 @@ pub record StandsFor (layered : LayerState) (log : List Act) : Type 0 where
   pub are : IsStatus log status_log
   pub joined : Represents layered (layer_logs log) status_log
 
--- The state of the layers is the one after the first part of `act`, the act that follows `log`. The act has changed its own layer and, if
--- it is a poll, has polled the status byte. It hasn't changed the other layers yet.
+-- The state of the layers is the one after the first part of `act`, the act that follows `log`. The
+-- act has changed its own layer and, if it is a poll, has polled the status byte. It hasn't changed
+-- the other layers yet.
 pub record Begun (layered : LayerState) (act : Act) (log : List Act) : Type 0 where
   pub status_log : List StatusAct
   pub are : IsStatus log status_log
   pub joined : Represents layered (after_begin act (layer_logs log)) (own_status act status_log)
 
--- The state of the layers stands for the log, and the counter of requests for service in `layered` is 0, because it was read.
+-- The state of the layers stands for the log, and the counter of requests for service in `layered`
+-- is 0, because it was read.
 pub record AllRead (layered : LayerState) (log : List Act) : Type 0 where
   pub stands : StandsFor layered log
   pub none : layered.requests ≡ 0
@@ -102,8 +107,9 @@ pub record AllRead (layered : LayerState) (log : List Act) : Type 0 where
 abbrev pub max_count : ℕ
 max_count = 255
 
--- The state of the layers stands for the log. The layers' counter of requests for service had the value `before` when the newest act came.
--- If the newest act raised a request, the counter is now one higher, but at most `max_count`.
+-- The state of the layers stands for the log. The layers' counter of requests for service had the
+-- value `before` when the newest act came. If the newest act raised a request, the counter is now
+-- one higher, but at most `max_count`.
 pub record IsApplied (before : ℕ) (layered : LayerState) (log : List Act) : Type 0 where
   pub stands : StandsFor layered log
   pub raised : Bool

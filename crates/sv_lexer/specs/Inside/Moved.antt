@@ -8,8 +8,9 @@ use Rattle.sv_lexer.specs.Partial.{Progress}
 abbrev pub one_more : ℕ → ℕ
 one_more n = min (n + 1) (2 ^ 64 - 1)
 
--- This function and the next five each give the new value of one field of `Progress` after one more byte. The first argument is the stage
--- that the byte leads to, the last argument is the old value of the field. `size` is the new size of the unit.
+-- This function and the next five each give the new value of one field of `Progress` after one more
+-- byte. The first argument is the stage that the byte leads to, the last argument is the old value
+-- of the field. `size` is the new size of the unit.
 abbrev pub header_start_in : Stage → ℕ → ℕ → ℕ
 header_start_in WhiteSpace size before = size
 header_start_in _ size before = before

@@ -1,4 +1,5 @@
--- The stages of reading a unit: how one more byte changes the stage that was reached (IEEE 488.2, 7.3 and 7.6).
+-- The stages of reading a unit: how one more byte changes the stage that was reached (IEEE 488.2,
+-- 7.3 and 7.6).
 use Rattle.std.specs.Prelude.{ℕ, ◌==◌, if◌then◌else◌}
 use Rattle.std.specs.Char.{is_ascii_graphic, is_ascii_alphabetic as is_letter}
 use Rattle.sv_text.specs.White.{is_white}
@@ -20,7 +21,8 @@ behind_space DataSpace = DataSpace
 behind_space Misspelled = Misspelled
 behind_space Illegal = Illegal
 
--- the stage after a byte at which a mnemonic has to begin: `mnemonic` if the byte is a letter; otherwise `Misspelled`
+-- the stage after a byte at which a mnemonic has to begin: `mnemonic` if the byte is a letter;
+-- otherwise `Misspelled`
 abbrev pub letter_stage : Stage → ℕ → Stage
 letter_stage mnemonic b = if is_letter b then mnemonic else Misspelled
 

@@ -7,13 +7,15 @@ use Rattle.sv_serve.specs.DriverView.{DriverState}
 use Rattle.sv_net.specs.Sleep.{MaySleep}
 use Rattle.sv_net.specs.Serving.{Doing, Waited, time_of, swept_at, ticks_between, sweeps_in, is_fresh, is_told, Serves, Waits}
 
--- whether the loop's last action was a wait in which nothing was reported, and all earlier reports were passed to the sockets
+-- whether the loop's last action was a wait in which nothing was reported, and all earlier reports
+-- were passed to the sockets
 abbrev pub is_quiet : {W : Type 0} → List (Doing W) → Bool
 is_quiet (Waited limit false ended ∷ doings) = is_told doings
 is_quiet _ = false
 
--- A loop is to make `sweeps` sweeps, and made `many` sweeps so far. The machine made the loop's waits, with the results that the loop's
--- actions record. The last sweep began at `swept`, the time is now `time`, and the condition `is_so` holds of the loop's actions.
+-- A loop is to make `sweeps` sweeps, and made `many` sweeps so far. The machine made the loop's
+-- waits, with the results that the loop's actions record. The last sweep began at `swept`, the time
+-- is now `time`, and the condition `is_so` holds of the loop's actions.
 pub record Running {W J M : Type 0} (hears : W → Heard → W → Type 0) (notes : J → List PlainEvent → J → Type 0)
     (answers : M → Doing W → M → Type 0) (is_so : List (Doing W) → Bool)
     (sweeps many swept time : ℕ) (old new : DriverState W J) (first now : M) : Type 0 where
@@ -40,8 +42,9 @@ pub record Hands {W J M : Type 0} (hears : W → Heard → W → Type 0) (notes 
       → Running hears notes answers is_fresh sweeps many swept time start old machine first
       → Running hears notes answers is_fresh sweeps many swept time start new machine now
 
--- The loop waits, and makes no sweep. `left` sweeps remain. Before the waits the time was `began`, and the condition `was` held of the
--- loop's actions. After the waits the time is `time`, and the condition `is_so` holds of the loop's actions.
+-- The loop waits, and makes no sweep. `left` sweeps remain. Before the waits the time was `began`,
+-- and the condition `was` held of the loop's actions. After the waits the time is `time`, and the
+-- condition `is_so` holds of the loop's actions.
 pub record Pauses {W J M : Type 0} (hears : W → Heard → W → Type 0) (notes : J → List PlainEvent → J → Type 0)
     (answers : M → Doing W → M → Type 0) (driver : DriverState W J)
     (was is_so : List (Doing W) → Bool) (left swept began time : ℕ) (old now : M) : Type 0 where
@@ -49,8 +52,8 @@ pub record Pauses {W J M : Type 0} (hears : W → Heard → W → Type 0) (notes
       → Running hears notes answers was sweeps many swept began start driver first old
       → Running hears notes answers is_so sweeps many swept time start driver first now
 
--- The loop waits, until a wait fails; `left` sweeps remain. Before the waits the time was `began`, and the condition `was` held of the
--- loop's actions.
+-- The loop waits, until a wait fails; `left` sweeps remain. Before the waits the time was `began`,
+-- and the condition `was` held of the loop's actions.
 pub record Fails {W J M : Type 0} (hears : W → Heard → W → Type 0) (notes : J → List PlainEvent → J → Type 0)
     (answers : M → Doing W → M → Type 0)
     (fails : M → Option Duration → M → Type 0)

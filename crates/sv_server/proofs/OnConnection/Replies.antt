@@ -34,7 +34,8 @@ text_is_short words bytes h = omega (
   length-replicate {A = ℕ} (pad_len (length bytes)) 0,
 )
 
--- a result with data is error, reason, length and the data's words; one without has four words at most
+-- a result with data is error, reason, length and the data's words; one without has four words at
+-- most
 result_is_short : (words : ℕ) (outcome : Outcome) → length (data_of outcome) ≤ 4 * words + 4
     → length (concat (map spelling (result_fields outcome))) ≤ 4 * words + 16
 result_is_short words (Read error reason bytes) h =

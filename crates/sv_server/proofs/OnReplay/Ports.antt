@@ -88,7 +88,8 @@ shown_other n m (byte ∷ bytes) channel_log log less = elim (cases_lt n 16) [
       (took_other (m - 16) (n - 16) (length (byte ∷ bytes)) channel_log (λ e. omega (arith, e, beyond, less)))
 ]
 
--- The lines of the first ports were written, and what they show was taken; what waits on the others is as it was.
+-- The lines of the first ports were written, and what they show was taken; what waits on the others
+-- is as it was.
 abbrev pub SoFar : Config → List PlainEvent → List ChannelAct → List Act → ℕ → State → List ℕ → Type 0
 SoFar config history channel_log log n new text = (text ≡ lines_of channel_log (first_ports n) log)
     × (after : List ChannelAct) × (now : List Act) × StandsBy new config (with_tooks channel_log (first_ports n) log history) after now

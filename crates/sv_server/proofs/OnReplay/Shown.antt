@@ -1,4 +1,5 @@
--- What waits on a port is shown and taken: that is never refused, and changes nothing of another port.
+-- What waits on a port is shown and taken: that is never refused, and changes nothing of another
+-- port.
 use Rattle.std.proofs.Common.{◌≡◌, ◌≢◌, ℕ, ◌<◌, ◌≤◌, ◌||◌, not, Bool, true, false, cond, List, [], ◌∷◌, ◌++◌, length, nat_lt, Some, None, refl, sym, ap, inl, inr, subst, ◌∙◌, arith}
 use Rattle.std.specs.Prelude.{Option, Result, Ok, Err, IsErr, ⊤}
 use Rattle.std.proofs.lemmas.Bool.{le-ltb, cases_lt}

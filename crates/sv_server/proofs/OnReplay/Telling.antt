@@ -23,8 +23,8 @@ use Rattle.sv_server.specs.Explain.Inside.Steps.{Goes, Ends, lines_before, tick_
 use Rattle.sv_server.proofs.OnServer.Naming.{nothing_line}
 use Rattle.sv_server.proofs.OnServer.Steps.{goes_none, goes_more, goes_then, goes_settled}
 
--- Some steps of any log were taken and told: the contents of the writer, and whether it has failed, were `old` and `f`, and are `new` and
--- `g`.
+-- Some steps of any log were taken and told: the contents of the writer, and whether it has failed,
+-- were `old` and `f`, and are `new` and `g`.
 abbrev pub AnyTold : State → State → Shown → Shown → Option (List ℕ) → Bool → Option (List ℕ) → Bool → Type 0
 AnyTold first now shown next old f new g = (config : Config) (log : List Act) → Represents first config log → IsShown shown log
     → (text : List ℕ) × Goes config log shown next text now × Prints old f new g text

@@ -1,4 +1,5 @@
--- An event that was done, and the steps that are due after it, leave what stands for the longer history; and a history has one log.
+-- An event that was done, and the steps that are due after it, leave what stands for the longer
+-- history; and a history has one log.
 use Rattle.std.proofs.Common.{◌≡◌, ℕ, zero, suc, ap, Bool, true, false, List, [], ◌∷◌, ◌++◌, None, Some, inl, inr, refl, sym, subst, ◌∙◌}
 use Rattle.std.specs.Prelude.{Option, Result, Ok, Err, IsErr, IsErrAnd}
 use Rattle.sv_history.specs.declared.event.Config.{Config}

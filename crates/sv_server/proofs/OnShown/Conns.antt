@@ -68,7 +68,8 @@ upto_quiet f n (suc m) le quiet =
 abbrev lines_at : List ConnShown → List ConnShown → ℕ → List ℕ
 lines_at old new c = conn_lines c (at old c) (at new c)
 
--- The lines of the connections below `n` are written; the list `now` tells of them what is new, and of the others what `old` told.
+-- The lines of the connections below `n` are written; the list `now` tells of them what is new, and
+-- of the others what `old` told.
 pub record Written (old now : List ConnShown) (n : ℕ) (first last : Option (List ℕ)) (f g : Bool) : Type 0 where
   pub reached : n ≤ length now
   pub rest : (c : ℕ) → n ≤ c → at now c ≡ at old c

@@ -1,4 +1,5 @@
--- Only the contracts of private functions use these definitions. A reader who trusts the prover needn't check them.
+-- Only the contracts of private functions use these definitions. A reader who trusts the prover
+-- needn't check them.
 pub mod NextCall
 pub mod Requests
 pub mod Replies

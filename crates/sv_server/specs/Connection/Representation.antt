@@ -5,8 +5,9 @@ use Rattle.sv_history.specs.declared.event.Role.{Role}
 use Rattle.sv_history.specs.Act.{ConnAct}
 use Rattle.sv_history.specs.Connection.{bytes_left, records_ended, bytes_taken, open_role, bytes_sent, stream, took_no_call, is_busy, pending_call}
 
--- the state of a connection: its role; the records that came and that the server hasn't finished with; the bytes that wait to be sent;
--- whether the connection took a record that isn't a call; whether the first of these records is a call that was taken already
+-- the state of a connection: its role; the records that came and that the server hasn't finished
+-- with; the bytes that wait to be sent; whether the connection took a record that isn't a call;
+-- whether the first of these records is a call that was taken already
 pub record Connection : Type 0 where
   pub role : Option Role
   pub input : Records

@@ -1,2 +1,3 @@
--- Only the contracts of private functions use these definitions. A reader who trusts the prover needn't check them.
+-- Only the contracts of private functions use these definitions. A reader who trusts the prover
+-- needn't check them.
 pub mod Showing

@@ -15,10 +15,12 @@ use Rattle.sv_history.specs.History.{IsLogOf, Answers, history_after}
 use Rattle.sv_history.specs.Print.{head_of, ports_after, lines_of, with_tooks, print_of}
 use Rattle.sv_print.specs.TakenByWriter.{IsFront}
 
--- On success, all lines for the event were written, and the peers took all bytes that these lines show. If memory was refused, the line of
--- the refusal was written, and the peers took nothing. If the writer failed in the line of the refusal, the peers took nothing. If the
--- writer failed later: the lines of the ports `shown` (perhaps none) were written, and the peers of these ports took the bytes that the
--- lines show; then a prefix of the lines of the ports `others` was written, and the peers of the ports `others` took nothing.
+-- On success, all lines for the event were written, and the peers took all bytes that these lines
+-- show. If memory was refused, the line of the refusal was written, and the peers took nothing. If
+-- the writer failed in the line of the refusal, the peers took nothing. If the writer failed later:
+-- the lines of the ports `shown` (perhaps none) were written, and the peers of these ports took the
+-- bytes that the lines show; then a prefix of the lines of the ports `others` was written, and the
+-- peers of the ports `others` took nothing.
 abbrev pub IsReplayWritten : Result Did Refused → List ChannelAct → List Act → List PlainEvent → Result ⊤ ReplayFault → List ℕ
     → List PlainEvent
     → Type 0
@@ -30,8 +32,8 @@ IsReplayWritten did channel_log log history (Err Write) text after = (IsFront te
     ⊎ ((shown others : List Port) × (part : List ℕ) × (ports_after did ≡ shown ++ others) × IsFront part (lines_of channel_log others log)
     × (text ≡ head_of did ++ (lines_of channel_log shown log ++ part)) × (after ≡ with_tooks channel_log shown log history))
 
--- What a replay does with an event. The event is applied or refused, as the history determines. Then the lines for the event are
--- written. The log after the event determines these lines.
+-- What a replay does with an event. The event is applied or refused, as the history determines.
+-- Then the lines for the event are written. The log after the event determines these lines.
 pub record Replays (config : Config) (history : List PlainEvent) (event : PlainEvent) (result : Result ⊤ ReplayFault) (text : List ℕ)
     (after : List PlainEvent) : Type 0 where
   pub before : List Act

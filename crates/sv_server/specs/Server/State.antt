@@ -15,15 +15,15 @@ use Rattle.sv_history.specs.Settling.{IsSettled}
 use Rattle.sv_history.specs.Queries.{IsUsed}
 use Rattle.sv_history.specs.History.{IsLogOf}
 
--- the state of the server: sixteen connections; the device; and the highest number of a connection that was ever opened, plus 1 (0 if no
--- connection was ever opened)
+-- the state of the server: sixteen connections; the device; and the highest number of a connection
+-- that was ever opened, plus 1 (0 if no connection was ever opened)
 pub record State : Type 0 where
   pub connections : List Connection
   pub device : Device
   pub connections_used : ℕ
 
--- The suspended call that this entry of the queue stands for was taken and has no reply yet. If the call is create_link, the entry says
--- that the call waits for the lock.
+-- The suspended call that this entry of the queue stands for was taken and has no reply yet. If the
+-- call is create_link, the entry says that the call waits for the lock.
 abbrev pub IsTaken : List Act → Entry → Type 0
 IsTaken log entry = (call : List ℕ) × (pending_call (of entry.conn log) ≡ Some call)
     × (creates_link (core_call call) ≡ true → creates entry ≡ true)
@@ -36,7 +36,8 @@ pub record Represents (state : State) (config : Config) (log : List Act) : Type 
   pub device : IsDevice state.device config (device_acts log)
   pub taken : AllByRecursion (IsTaken log) state.device.waiting
 
--- The server stands for a history: it has the state that the log of the history determines, and no step is due.
+-- The server stands for a history: it has the state that the log of the history determines, and no
+-- step is due.
 pub record StandsFor (state : State) (config : Config) (history : List PlainEvent) : Type 0 where
   pub log : List Act
   pub is_log : IsLogOf config history log

@@ -1,4 +1,5 @@
--- One turn is counted. The call that is refused keeps nothing, and any other answers what the inner allocator answers. Assumes `Logic`.
+-- One turn is counted. The call that is refused keeps nothing, and any other answers what the inner
+-- allocator answers. Assumes `Logic`.
 use Rattle.std.proofs.Common.{◌≡◌, ℕ, ◌+◌, ◌^◌, ◌<◌, Bool, true, false, [], ◌∷◌, Ok, Err, refl, w64, Bor}
 use Rattle.std.proofs.VecSteps.Shapes.{after}
 use seplogic.Ra.Ura.{Ura}

@@ -30,7 +30,8 @@ abbrev pub Ends : Config → List Act → Shown → List ℕ → State → Type 
 Ends config log shown text new = (last : List Act) × (n : ℕ) × TellsIn n config log shown text last × Settles config log last
     × Represents new config last
 
--- The server took steps up to one in which a call went on (true), or all steps that were due (false).
+-- The server took steps up to one in which a call went on (true), or all steps that were due
+-- (false).
 abbrev pub TellsSome : Bool → Config → List Act → Shown → Shown → List ℕ → State → Type 0
 TellsSome true config log shown next text new = Goes config log shown next text new
 TellsSome false config log shown next text new = Ends config log shown text new
@@ -47,7 +48,8 @@ abbrev pub tick_line : ℕ → ℕ → PlainEvent → List ℕ
 tick_line line clock Tick = head_line line clock
 tick_line line clock _ = []
 
--- The event was applied, and all steps that were due after it are taken; or it was refused, and the server is as it was.
+-- The event was applied, and all steps that were due after it are taken; or it was refused, and the
+-- server is as it was.
 abbrev pub IsActed : Config → PlainEvent → List Act → Result Did Refused → State → State → Type 0
 IsActed config event log (Ok what) old new = IsRefusal config event log None × (what ≡ did event log)
     × ((polled : ℕ) → IsPolled polled (device_acts log) → Settled config (own_acts config polled event log ++ log) new)

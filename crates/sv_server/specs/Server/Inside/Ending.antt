@@ -1,4 +1,5 @@
--- How a connection and the device change when a record that was taken is finished, or when a suspended call continues.
+-- How a connection and the device change when a record that was taken is finished, or when a
+-- suspended call continues.
 use Rattle.std.specs.Prelude.{◌≡◌, ℕ, ◌<◌, List, [], ◌∷◌, ◌++◌, Bool, true, false, Option, None, Result, ⊤}
 use Rattle.sv_vxi.specs.Arguments.{is_create_link}
 use Rattle.sv_vxi.specs.Results.{plain_result, data_of}
@@ -30,8 +31,8 @@ use Rattle.sv_server.specs.Device.Inside.Outcome.{IsBrief, MayWait, MayWaitAnew,
 
 -- ---- how a call or a record ends
 
--- A call for which the code returns this `Outcome` has this effect. If the call reads the response, the bytes aren't read yet: the device
--- still has the whole response.
+-- A call for which the code returns this `Outcome` has this effect. If the call reads the response,
+-- the bytes aren't read yet: the device still has the whole response.
 abbrev pub CallEndsAs : Outcome → ℕ → Device → Config → List DeviceAct → Effect → Type 0
 CallEndsAs (outcomes.Result given) xid device config acts effect = (effect.own ≡ Replied (answer_bytes xid (Told given)) ∷ [])
     × IsDevice device config (effect.adds ++ acts)
@@ -61,7 +62,8 @@ abbrev pub aborted_by : Executed → Option ℕ
 aborted_by (executions.Aborts aborted) = aborted.conn
 aborted_by _ = None
 
--- The call that was taken had this effect: the effect's acts were added to the acts of the connection and of the device.
+-- The call that was taken had this effect: the effect's acts were added to the acts of the
+-- connection and of the device.
 abbrev pub Concludes : Effect → Config → List ConnAct → List DeviceAct → Connection → Device → Type 0
 Concludes effect config acts before connection device =
     IsConnection connection (effect.own ++ acts) × IsDevice device config (effect.adds ++ before)
@@ -98,8 +100,8 @@ taken_up (causes.Able wait) config polled c call acts = resume_effect config pol
 taken_up (causes.Dialed ok) config polled c call acts = connect_effect c ok call
 taken_up (causes.Failed error) config polled c call acts = failure_effect error c call
 
--- The suspended call of connection `c` was resumed, with this effect. Now this call either has left the queue of suspended calls, or
--- waits in the queue again.
+-- The suspended call of connection `c` was resumed, with this effect. Now this call either has left
+-- the queue of suspended calls, or waits in the queue again.
 abbrev pub ConcludesResumed : Effect → ℕ → Option CoreCall → Config → List ConnAct → List DeviceAct → List Entry → Connection → Device
     → Type 0
 ConcludesResumed effect c call config acts before old connection device =
