@@ -21,7 +21,7 @@ use Rattle.sv_serve.specs.declared.wire.Answer.TheVariants.{Got, Pending, Failed
 use Rattle.sv_serve.specs.Heard.{Heard, WasAccepted, WasRead, WasProbed, WasWritten, WasDialed, PeerAnswered, WasClosed, Through}
 use Rattle.sv_serve.specs.DriverView.{DriverView, ForEach, ◌then◌}
 use Rattle.sv_serve.specs.Asked.{IsLowest}
-use Rattle.sv_serve.specs.Steps.{Hears, IsApplied, Remembers, called_of, is_wanted, Opens, Accepts, ClosesChannelOn, ClosesChannel, Closes, ClosesIf, Comes, Drops, ProbesIf, ReadsUpTo, ReadsFrom, KeepsCall, CancelsUnwanted, ConnectResult, PollResult, CallsFor, Calls, Dials, EndsWrite, WritesAll, WritesTo, EndsIf, Ends, longest_piece}
+use Rattle.sv_serve.specs.Steps.{Hears, IsApplied, Remembers, dialed_of, is_wanted, Opens, Accepts, ClosesChannelOn, ClosesChannel, Closes, ClosesIf, Comes, Drops, ProbesIf, ReadsUpTo, ReadsFrom, KeepsDial, CancelsUnwanted, ConnectResult, PollResult, DialsFor, Connects, Dials, EndsWrite, WritesAll, WritesTo, EndsIf, Ends, longest_piece}
 use Rattle.sv_driver_laws.specs.Served.{event_of, is_outer}
 use Rattle.sv_driver_laws.proofs.Keeps.{Keeps}
 use Rattle.sv_driver_laws.proofs.Reasons.{told_more}
@@ -274,7 +274,7 @@ same_closes n config a b c x y =
     same_then (Hears Records (WasClosed (Conn n))) (ClosesChannel Records n then IsApplied (Close (Conn n))) config a b c
     (λ m k. same_closed (WasClosed (Conn n)) config a m k)
     (λ m b c. same_then (ClosesChannel Records n) (IsApplied (Close (Conn n))) config m b c
-    (λ k l. same_hangs n (called_of n m) config m k l) (λ k b c. same_applied (Close (Conn n)) config k b c)) x y
+    (λ k l. same_hangs n (dialed_of n m) config m k l) (λ k b c. same_applied (Close (Conn n)) config k b c)) x y
 
 same_comes : (n : ℕ) (answer : Answer (List ℕ)) (config : Config) (a b c : View) → Comes Records n answer config a b
     → Comes Records n answer config a c → b ≡ c
@@ -288,20 +288,20 @@ same_drops n (Got all) config a b c x y = x ∙ sym y
 same_drops n Pending config a b c x y = x ∙ sym y
 same_drops n Failed config a b c x y = same_closes n config a b c x y
 
-same_keeps_call : (n : ℕ) (so : Bool) (config : Config) (a b c : View) → KeepsCall Records n so config a b
-    → KeepsCall Records n so config a c → b ≡ c
+same_keeps_call : (n : ℕ) (so : Bool) (config : Config) (a b c : View) → KeepsDial Records n so config a b
+    → KeepsDial Records n so config a c → b ≡ c
 same_keeps_call n true config a b c x y = x ∙ sym y
-same_keeps_call n false config a b c x y = same_hangs n (called_of n a) config a b c x y
+same_keeps_call n false config a b c x y = same_hangs n (dialed_of n a) config a b c x y
 
-same_cancels : (n : ℕ) (called : Option Dial) (config : Config) (a b c : View) → CancelsUnwanted Records n called config a b
-    → CancelsUnwanted Records n called config a c → b ≡ c
+same_cancels : (n : ℕ) (dialed : Option Dial) (config : Config) (a b c : View) → CancelsUnwanted Records n dialed config a b
+    → CancelsUnwanted Records n dialed config a c → b ≡ c
 same_cancels n None config a b c x y = x ∙ sym y
-same_cancels n (Some called) config a b c (channel, wanted, opened, wants, h) (other, wish, is_open, wishes, k) =
+same_cancels n (Some dialed) config a b c (channel, wanted, opened, wants, h) (other, wish, is_open, wishes, k) =
     let one = same_answer _ config a.history channel other opened is_open in
     let two = same_answer _ config a.history wanted wish wants wishes in
-    same_keeps_call n (channel || is_wanted called wanted) config a b c h
-    (subst (λ (so : Bool). KeepsCall Records n so config a c)
-    (sym (ap (λ (so : Bool). so || is_wanted called wanted) one ∙ ap (λ (d : Option Dial). other || is_wanted called d) two)) k)
+    same_keeps_call n (channel || is_wanted dialed wanted) config a b c h
+    (subst (λ (so : Bool). KeepsDial Records n so config a c)
+    (sym (ap (λ (so : Bool). so || is_wanted dialed wanted) one ∙ ap (λ (d : Option Dial). other || is_wanted dialed d) two)) k)
 
 same_rings : (n : ℕ) (dial : Dial) (answer : Answer ⊤) (config : Config) (a b c : View) → ConnectResult n dial answer config a b
     → ConnectResult n dial answer config a c → b ≡ c
@@ -315,7 +315,7 @@ same_picks : (n : ℕ) (answer : Answer ⊤) (config : Config) (a b c : View) �
 same_picks n (Got all) config a b c x y = same_applied (Dialed n true) config a b c x y
 same_picks n Pending config a b c x y = x ∙ sym y
 same_picks n Failed config a b c x y = same_then (ClosesChannel Records n) (IsApplied (Dialed n false)) config a b c
-    (λ k l. same_hangs n (called_of n a) config a k l) (λ k b c. same_applied (Dialed n false) config k b c) x y
+    (λ k l. same_hangs n (dialed_of n a) config a k l) (λ k b c. same_applied (Dialed n false) config k b c) x y
 
 same_ends_write : (port : Port) (answer : Answer ℕ) (config : Config) (a b c : View) → EndsWrite Records port answer config a b
     → EndsWrite Records port answer config a c → b ≡ c
@@ -323,7 +323,7 @@ same_ends_write port (Got n) config a b c x y = same_applied (Took port n) confi
 same_ends_write port Pending config a b c x y = x ∙ sym y
 same_ends_write (Conn n) Failed config a b c x y = same_closes n config a b c x y
 same_ends_write (Intr n) Failed config a b c x y = same_then (ClosesChannel Records n) (IsApplied (Close (Intr n))) config a b c
-    (λ k l. same_hangs n (called_of n a) config a k l) (λ k b c. same_applied (Close (Intr n)) config k b c) x y
+    (λ k l. same_hangs n (dialed_of n a) config a k l) (λ k b c. same_applied (Close (Intr n)) config k b c) x y
 
 same_closes_if : (n : ℕ) (so : Bool) (config : Config) (a b c : View) → ClosesIf Records n so config a b → ClosesIf Records n so config a c
     → b ≡ c
@@ -387,32 +387,32 @@ reads_alike n config a b c told (room, has, h) (other, had, k) =
         (λ x m b h. extends_by (Comes Records n x) config m b (lift_comes Records n x config m b [] h)
         (comes_grows Any Records n x config m b (λ bytes. tt) tt h)) a b c told h k
 
-calls_alike_for : (n : ℕ) (wanted called : Option Dial) (config : Config) (a b c : View) → Told a
-    → CallsFor Records n wanted called config a b
-    → CallsFor Records n wanted called config a c → Outcome b c
-calls_alike_for n None called config a b c told x y = inl (x ∙ sym y)
+calls_alike_for : (n : ℕ) (wanted dialed : Option Dial) (config : Config) (a b c : View) → Told a
+    → DialsFor Records n wanted dialed config a b
+    → DialsFor Records n wanted dialed config a c → Outcome b c
+calls_alike_for n None dialed config a b c told x y = inl (x ∙ sym y)
 calls_alike_for n (Some dial) None config a b c told (answer, h) (also, k) =
     asks (λ x. WasDialed n dial x) (ConnectResult n dial) config answer also (cases_all answer also) refl (λ e. cc)
     (λ x m b c. same_rings n dial x config m b c)
     (λ x m b h. extends_by (ConnectResult n dial x) config m b (lift_rings Records n dial x config m b [] h)
     (rings_grows Any n dial x config m b (λ ok. tt) h)) a b c told h k
-calls_alike_for n (Some dial) (Some called) config a b c told (answer, h) (also, k) =
+calls_alike_for n (Some dial) (Some dialed) config a b c told (answer, h) (also, k) =
     asks (λ x. PeerAnswered n x) (PollResult Records n) config answer also (cases_all answer also) refl (λ e. cc)
     (λ x m b c. same_picks n x config m b c)
     (λ x m b h. extends_by (PollResult Records n x) config m b (lift_picks Records n x config m b [] h)
     (picks_grows Any Records n x config m b (λ ok. tt) h)) a b c told h k
 
-calls_alike : (n : ℕ) (config : Config) (a b c : View) → Told a → Calls Records n config a b → Calls Records n config a c → Outcome b c
-calls_alike n config a b c told (wanted, wants, h) (other, wishes, k) = calls_alike_for n wanted (called_of n a) config a b c told h
-    (subst (λ (w : Option Dial). CallsFor Records n w (called_of n a) config a c)
+calls_alike : (n : ℕ) (config : Config) (a b c : View) → Told a → Connects Records n config a b → Connects Records n config a c → Outcome b c
+calls_alike n config a b c told (wanted, wants, h) (other, wishes, k) = calls_alike_for n wanted (dialed_of n a) config a b c told h
+    (subst (λ (w : Option Dial). DialsFor Records n w (dialed_of n a) config a c)
     (sym (same_answer _ config a.history wanted other wants wishes)) k)
 
 pub dials_alike : (n : ℕ) (config : Config) (a b c : View) → Told a → Dials Records n config a b → Dials Records n config a c → Outcome b c
-dials_alike n config a b c told (m, h, s) (k, g, t) = next_of (Calls Records n) config m k b c (calls_alike n config)
-    (λ x y h. extends_by (Calls Records n) config x y (lift_calls Records n config x y [] h)
-    (calls_grows Any Records n h.0 (called_of n x) config x y (λ ok. tt) h.2))
-    (told_by config a m (lets_go_of Records (λ s. ⊤) config n tt (called_of n a) a m h) told)
-    (inl (same_cancels n (called_of n a) config a m k h g)) s t
+dials_alike n config a b c told (m, h, s) (k, g, t) = next_of (Connects Records n) config m k b c (calls_alike n config)
+    (λ x y h. extends_by (Connects Records n) config x y (lift_calls Records n config x y [] h)
+    (calls_grows Any Records n h.0 (dialed_of n x) config x y (λ ok. tt) h.2))
+    (told_by config a m (lets_go_of Records (λ s. ⊤) config n tt (dialed_of n a) a m h) told)
+    (inl (same_cancels n (dialed_of n a) config a m k h g)) s t
 
 pub writes_alike : (port : Port) (config : Config) (a b c : View) → Told a → WritesTo Records port config a b
     → WritesTo Records port config a c

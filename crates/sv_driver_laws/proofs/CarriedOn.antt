@@ -252,17 +252,17 @@ same_until one two (inl same) = inl (ap (λ v. v.wire) same, ap (λ v. v.history
 same_until one two (inr forks) = inr forks
 
 abbrev start_at : List (Option Dial) → List Entry → ℕ → View
-start_at called ahead ticks = record { wire = []; history = []; called = called; ahead = ahead; ticks = ticks }
+start_at dialed ahead ticks = record { wire = []; history = []; dials = dialed; ahead = ahead; ticks = ticks }
 
 pub determined : {W V J K : Type 0} (hears : W → Heard → W → Type 0) (notes : J → List PlainEvent → J → Type 0)
     (hearing : V → Heard → V → Type 0) (noting : K → List PlainEvent → K → Type 0) → Determined hears notes hearing noting
-determined hears notes hearing noting config handed start now begin end stands begun called ahead ticks swept sweeps =
+determined hears notes hearing noting config handed start now begin end stands begun dialed ahead ticks swept sweeps =
     let one = over hears notes config handed start now stands swept in
     let two = over hearing noting config handed begin end begun sweeps in
     let same : onto (driver_view start []) [] ≡ onto (driver_view begin []) [] =
-    ap (λ (c : List (Option Dial)). start_at c start.ahead start.ticks) called
-    ∙ ap (λ (l : List Entry). start_at begin.called l start.ticks) ahead
-    ∙ ap (λ (n : ℕ). start_at begin.called begin.ahead n) ticks in
+    ap (λ (c : List (Option Dial)). start_at c start.ahead start.ticks) dialed
+    ∙ ap (λ (l : List Entry). start_at begin.dials l start.ticks) ahead
+    ∙ ap (λ (n : ℕ). start_at begin.dials begin.ahead n) ticks in
     let end_one = onto (driver_view now one.history) one.trace in
     let end_two = onto (driver_view end two.history) two.trace in (
       one.trace,

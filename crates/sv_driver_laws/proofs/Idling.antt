@@ -16,7 +16,7 @@ use Rattle.sv_serve.specs.declared.wire.Answer.{Answer}
 use Rattle.sv_serve.specs.declared.wire.Answer.TheVariants.{Got, Pending, Failed}
 use Rattle.sv_serve.specs.Heard.{Heard, WasClosed}
 use Rattle.sv_serve.specs.DriverView.{DriverView, ForEach}
-use Rattle.sv_serve.specs.Steps.{Hears, Given, IsApplied, Remembers, called_of, Opens, Accepts, ClosesChannelOn, Closes, ClosesIf, Comes, Drops, ProbesIf, ReadsFrom, RefusesIf, EndsTurn, TurnsIf, Turns, KeepsCall, CancelsUnwanted, ConnectResult, PollResult, CallsFor, Dials, EndsWrite, WritesTo, EndsIf, Ends}
+use Rattle.sv_serve.specs.Steps.{Hears, Given, IsApplied, Remembers, dialed_of, Opens, Accepts, ClosesChannelOn, Closes, ClosesIf, Comes, Drops, ProbesIf, ReadsFrom, RefusesIf, EndsTurn, TurnsIf, Turns, KeepsDial, CancelsUnwanted, ConnectResult, PollResult, DialsFor, Dials, EndsWrite, WritesTo, EndsIf, Ends}
 use Rattle.sv_driver_laws.specs.Timed.{is_timed}
 
 -- what is to come, how many milliseconds passed, and what time brought, is as before
@@ -82,7 +82,7 @@ hangs_idles hears c (Some dial) config a b (m, heard, notes) =
 closes_idles : {W : Type 0} (hears : W → Heard → W → Type 0) (c : ℕ) (config : Config) (a b : DriverView W) → Closes hears c config a b
     → Idles a b
 closes_idles hears c config a b (m, heard, (n, hangs, applies)) = idles_then a m b (hears_idles hears (WasClosed (Conn c)) config a m heard)
-    (idles_then m n b (hangs_idles hears c (called_of c m) config m n hangs) (happens_idles (Close (Conn c)) config n b refl refl applies))
+    (idles_then m n b (hangs_idles hears c (dialed_of c m) config m n hangs) (happens_idles (Close (Conn c)) config n b refl refl applies))
 
 comes_idles : {W : Type 0} (hears : W → Heard → W → Type 0) (c : ℕ) (answer : Answer (List ℕ)) (config : Config) (a b : DriverView W)
     → Comes hears c answer config a b → Idles a b
@@ -126,14 +126,14 @@ pub turns_idles : {W : Type 0} (c : ℕ) (config : Config) (a b : DriverView W) 
 turns_idles c config a b (ready, is, h) = turns_if_idles c ready config a b h
 
 keeps_call_idles : {W : Type 0} (hears : W → Heard → W → Type 0) (c : ℕ) (so : Bool) (config : Config) (a b : DriverView W)
-    → KeepsCall hears c so config a b → Idles a b
+    → KeepsDial hears c so config a b → Idles a b
 keeps_call_idles hears c true config a b is = idles_same a b is
-keeps_call_idles hears c false config a b h = hangs_idles hears c (called_of c a) config a b h
+keeps_call_idles hears c false config a b h = hangs_idles hears c (dialed_of c a) config a b h
 
-lets_go_idles : {W : Type 0} (hears : W → Heard → W → Type 0) (c : ℕ) (called : Option Dial) (config : Config) (a b : DriverView W)
-    → CancelsUnwanted hears c called config a b → Idles a b
+lets_go_idles : {W : Type 0} (hears : W → Heard → W → Type 0) (c : ℕ) (dialed : Option Dial) (config : Config) (a b : DriverView W)
+    → CancelsUnwanted hears c dialed config a b → Idles a b
 lets_go_idles hears c None config a b is = idles_same a b is
-lets_go_idles hears c (Some called) config a b (channel, wanted, opened, wants, h) = keeps_call_idles hears c _ config a b h
+lets_go_idles hears c (Some dialed) config a b (channel, wanted, opened, wants, h) = keeps_call_idles hears c _ config a b h
 
 rings_idles : {W : Type 0} (c : ℕ) (dial : Dial) (answer : Answer ⊤) (config : Config) (a b : DriverView W)
     → ConnectResult c dial answer config a b → Idles a b
@@ -147,20 +147,20 @@ picks_idles : {W : Type 0} (hears : W → Heard → W → Type 0) (c : ℕ) (ans
 picks_idles hears c (Got all) config a b applies = happens_idles (Dialed c true) config a b refl refl applies
 picks_idles hears c Pending config a b is = idles_same a b is
 picks_idles hears c Failed config a b (m, hangs, applies) =
-    idles_then a m b (hangs_idles hears c (called_of c a) config a m hangs) (happens_idles (Dialed c false) config m b refl refl applies)
+    idles_then a m b (hangs_idles hears c (dialed_of c a) config a m hangs) (happens_idles (Dialed c false) config m b refl refl applies)
 
-calls_idles : {W : Type 0} (hears : W → Heard → W → Type 0) (c : ℕ) (wanted called : Option Dial) (config : Config) (a b : DriverView W)
-    → CallsFor hears c wanted called config a b → Idles a b
-calls_idles hears c None called config a b is = idles_same a b is
+calls_idles : {W : Type 0} (hears : W → Heard → W → Type 0) (c : ℕ) (wanted dialed : Option Dial) (config : Config) (a b : DriverView W)
+    → DialsFor hears c wanted dialed config a b → Idles a b
+calls_idles hears c None dialed config a b is = idles_same a b is
 calls_idles hears c (Some dial) None config a b (answer, (m, heard, h)) =
     idles_then a m b (hears_idles hears _ config a m heard) (rings_idles c dial answer config m b h)
-calls_idles hears c (Some dial) (Some called) config a b (answer, (m, heard, h)) =
+calls_idles hears c (Some dial) (Some dialed) config a b (answer, (m, heard, h)) =
     idles_then a m b (hears_idles hears _ config a m heard) (picks_idles hears c answer config m b h)
 
 pub dials_idles : {W : Type 0} (hears : W → Heard → W → Type 0) (c : ℕ) (config : Config) (a b : DriverView W) → Dials hears c config a b
     → Idles a b
-dials_idles hears c config a b (m, goes, (wanted, wants, h)) = idles_then a m b (lets_go_idles hears c (called_of c a) config a m goes)
-    (calls_idles hears c wanted (called_of c m) config m b h)
+dials_idles hears c config a b (m, goes, (wanted, wants, h)) = idles_then a m b (lets_go_idles hears c (dialed_of c a) config a m goes)
+    (calls_idles hears c wanted (dialed_of c m) config m b h)
 
 ends_write_idles : {W : Type 0} (hears : W → Heard → W → Type 0) (port : Port) (answer : Answer ℕ) (config : Config) (a b : DriverView W)
     → EndsWrite hears port answer config a b → Idles a b
@@ -168,7 +168,7 @@ ends_write_idles hears port (Got n) config a b h = happens_idles (Took port n) c
 ends_write_idles hears port Pending config a b is = idles_same a b is
 ends_write_idles hears (Conn c) Failed config a b h = closes_idles hears c config a b h
 ends_write_idles hears (Intr c) Failed config a b (m, hangs, applies) =
-    idles_then a m b (hangs_idles hears c (called_of c a) config a m hangs) (happens_idles (Close (Intr c)) config m b refl refl applies)
+    idles_then a m b (hangs_idles hears c (dialed_of c a) config a m hangs) (happens_idles (Close (Intr c)) config m b refl refl applies)
 
 pub writes_idles : {W : Type 0} (hears : W → Heard → W → Type 0) (port : Port) (config : Config) (a b : DriverView W)
     → WritesTo hears port config a b

@@ -19,7 +19,7 @@ use Rattle.sv_laws.specs.Laws.{Suits}
 use Rattle.sv_laws.proofs.Brought.{brings, tells}
 use Rattle.sv_serve.specs.Heard.{Heard, WasAccepted, WasRead, WasProbed, WasWritten, WasClosed, Through}
 use Rattle.sv_serve.specs.DriverView.{DriverView, ForEach}
-use Rattle.sv_serve.specs.Steps.{Given, IsApplied, called_of, ClosesChannelOn, ClosesChannel}
+use Rattle.sv_serve.specs.Steps.{Given, IsApplied, dialed_of, ClosesChannelOn, ClosesChannel}
 use Rattle.sv_serve.specs.Sweep.{Applies}
 use Rattle.sv_driver_laws.specs.Served.{event_of, is_outer}
 use Rattle.sv_driver_laws.specs.Carried.{ClosesAtOnce}
@@ -216,7 +216,7 @@ hangs_on hears May config may c (Some dial) before after (between, (wire, was, i
 pub hangs_up : {W : Type 0} (hears : W → Heard → W → Type 0) (May : Subject
     → Type 0) (config : Config) (may : May OfNone) (c : ℕ) (before after : DriverView W)
     → ClosesChannel hears c config before after → Quiet hears May (Some c) before after
-hangs_up hears May config may c before after h = hangs_on hears May config may c (called_of c before) before after h
+hangs_up hears May config may c before after h = hangs_on hears May config may c (dialed_of c before) before after h
 
 -- ---- an event of the wire
 

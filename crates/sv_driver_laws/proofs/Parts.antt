@@ -22,7 +22,7 @@ use Rattle.sv_serve.specs.declared.wire.Answer.{Answer}
 use Rattle.sv_serve.specs.declared.wire.Answer.TheVariants.{Got, Pending, Failed}
 use Rattle.sv_serve.specs.Heard.{Heard, WasClosed}
 use Rattle.sv_serve.specs.DriverView.{DriverView, ForEach, ◌then◌}
-use Rattle.sv_serve.specs.Steps.{Hears, Given, IsApplied, called_of, Opens, Accepts, ClosesChannelOn, Closes, ClosesIf, Comes, Drops, ProbesIf, ReadsFrom, RefusesIf, EndsTurn, TurnsIf, Turns, KeepsCall, CancelsUnwanted, ConnectResult, PollResult, CallsFor, Dials, EndsWrite, WritesTo, EndsIf, Ends}
+use Rattle.sv_serve.specs.Steps.{Hears, Given, IsApplied, dialed_of, Opens, Accepts, ClosesChannelOn, Closes, ClosesIf, Comes, Drops, ProbesIf, ReadsFrom, RefusesIf, EndsTurn, TurnsIf, Turns, KeepsDial, CancelsUnwanted, ConnectResult, PollResult, DialsFor, Dials, EndsWrite, WritesTo, EndsIf, Ends}
 use Rattle.sv_serve.specs.Sweep.{PlaysOne, Plays, Counts, TicksOnce, Passes}
 use Rattle.sv_driver_laws.specs.Served.{takes_call, is_taking}
 
@@ -98,7 +98,7 @@ closes_grows : {W : Type 0} (P : PlainEvent → Type 0) (hears : W → Heard →
     → P (Close (Conn c)) → Closes hears c config a b → Grows P a b
 closes_grows P hears c config a b so (m, heard, (n, hangs, applies)) =
     grows_then P a m b (hears_grows P hears (WasClosed (Conn c)) config a m heard)
-    (grows_then P m n b (hangs_grows P hears c (called_of c m) config m n hangs) (happens_grows P (Close (Conn c)) config n b so applies))
+    (grows_then P m n b (hangs_grows P hears c (dialed_of c m) config m n hangs) (happens_grows P (Close (Conn c)) config n b so applies))
 
 pub comes_grows : {W : Type 0} (P : PlainEvent → Type 0) (hears : W → Heard → W
     → Type 0) (c : ℕ) (answer : Answer (List ℕ)) (config : Config)
@@ -127,14 +127,14 @@ reads_grows P hears c config a b so close (most, room, inr (some, answer, few, (
     grows_then P a m b (hears_grows P hears _ config a m heard) (comes_grows P hears c answer config m b so close comes)
 
 keeps_call_grows : {W : Type 0} (P : PlainEvent → Type 0) (hears : W → Heard → W → Type 0) (c : ℕ) (so : Bool) (config : Config)
-    (a b : DriverView W) → KeepsCall hears c so config a b → Grows P a b
+    (a b : DriverView W) → KeepsDial hears c so config a b → Grows P a b
 keeps_call_grows P hears c true config a b is = grows_same P a b is
-keeps_call_grows P hears c false config a b h = hangs_grows P hears c (called_of c a) config a b h
+keeps_call_grows P hears c false config a b h = hangs_grows P hears c (dialed_of c a) config a b h
 
-pub lets_go_grows : {W : Type 0} (P : PlainEvent → Type 0) (hears : W → Heard → W → Type 0) (c : ℕ) (called : Option Dial) (config : Config)
-    (a b : DriverView W) → CancelsUnwanted hears c called config a b → Grows P a b
+pub lets_go_grows : {W : Type 0} (P : PlainEvent → Type 0) (hears : W → Heard → W → Type 0) (c : ℕ) (dialed : Option Dial) (config : Config)
+    (a b : DriverView W) → CancelsUnwanted hears c dialed config a b → Grows P a b
 lets_go_grows P hears c None config a b is = grows_same P a b is
-lets_go_grows P hears c (Some called) config a b (channel, wanted, opened, wants, h) = keeps_call_grows P hears c _ config a b h
+lets_go_grows P hears c (Some dialed) config a b (channel, wanted, opened, wants, h) = keeps_call_grows P hears c _ config a b h
 
 pub rings_grows : {W : Type 0} (P : PlainEvent → Type 0) (c : ℕ) (dial : Dial) (answer : Answer ⊤) (config : Config) (a b : DriverView W)
     → ((ok : Bool) → P (Dialed c ok)) → ConnectResult c dial answer config a b → Grows P a b
@@ -148,21 +148,21 @@ pub picks_grows : {W : Type 0} (P : PlainEvent → Type 0) (hears : W → Heard 
 picks_grows P hears c (Got all) config a b so applies = happens_grows P (Dialed c true) config a b (so true) applies
 picks_grows P hears c Pending config a b so is = grows_same P a b is
 picks_grows P hears c Failed config a b so (m, hangs, applies) = grows_then P a m b
-    (hangs_grows P hears c (called_of c a) config a m hangs) (happens_grows P (Dialed c false) config m b (so false) applies)
+    (hangs_grows P hears c (dialed_of c a) config a m hangs) (happens_grows P (Dialed c false) config m b (so false) applies)
 
-pub calls_grows : {W : Type 0} (P : PlainEvent → Type 0) (hears : W → Heard → W → Type 0) (c : ℕ) (wanted called : Option Dial)
-    (config : Config) (a b : DriverView W) → ((ok : Bool) → P (Dialed c ok)) → CallsFor hears c wanted called config a b → Grows P a b
-calls_grows P hears c None called config a b so is = grows_same P a b is
+pub calls_grows : {W : Type 0} (P : PlainEvent → Type 0) (hears : W → Heard → W → Type 0) (c : ℕ) (wanted dialed : Option Dial)
+    (config : Config) (a b : DriverView W) → ((ok : Bool) → P (Dialed c ok)) → DialsFor hears c wanted dialed config a b → Grows P a b
+calls_grows P hears c None dialed config a b so is = grows_same P a b is
 calls_grows P hears c (Some dial) None config a b so (answer, (m, heard, h)) =
     grows_then P a m b (hears_grows P hears _ config a m heard) (rings_grows P c dial answer config m b so h)
-calls_grows P hears c (Some dial) (Some called) config a b so (answer, (m, heard, h)) =
+calls_grows P hears c (Some dial) (Some dialed) config a b so (answer, (m, heard, h)) =
     grows_then P a m b (hears_grows P hears _ config a m heard) (picks_grows P hears c answer config m b so h)
 
 pub dials_grows : {W : Type 0} (P : PlainEvent → Type 0) (hears : W → Heard → W → Type 0) (c : ℕ) (config : Config) (a b : DriverView W)
     → ((ok : Bool) → P (Dialed c ok)) → Dials hears c config a b → Grows P a b
 dials_grows P hears c config a b so (m, goes, (wanted, wants, h)) =
-    grows_then P a m b (lets_go_grows P hears c (called_of c a) config a m goes)
-    (calls_grows P hears c wanted (called_of c m) config m b so h)
+    grows_then P a m b (lets_go_grows P hears c (dialed_of c a) config a m goes)
+    (calls_grows P hears c wanted (dialed_of c m) config m b so h)
 
 -- ---- time
 
@@ -210,7 +210,7 @@ ends_write_grows P hears port (Got n) config a b so h = happens_grows P (Took po
 ends_write_grows P hears port Pending config a b so is = grows_same P a b is
 ends_write_grows P hears (Conn c) Failed config a b so h = closes_grows P hears c config a b so.1 h
 ends_write_grows P hears (Intr c) Failed config a b so (m, hangs, applies) =
-    grows_then P a m b (hangs_grows P hears c (called_of c a) config a m hangs)
+    grows_then P a m b (hangs_grows P hears c (dialed_of c a) config a m hangs)
     (happens_grows P (Close (Intr c)) config m b so.1 applies)
 
 pub writes_grows : {W : Type 0} (P : PlainEvent → Type 0) (hears : W → Heard → W → Type 0) (port : Port) (config : Config)

@@ -1,4 +1,4 @@
--- What calling peers carries, and time.
+-- What dialing peers carries over, and time.
 use Rattle.std.proofs.Common.{eq-eqb, ◌≡◌, ℕ, eqb, Bool, true, false, cond, List, [], ◌∷◌, ◌++◌, Option, Some, None, Result, Ok, Err, refl, sym, ap, subst, ◌∙◌}
 use Rattle.std.specs.Prelude.{⊤}
 use Rattle.sv_links.specs.declared.request.Peer.{Peer}
@@ -28,7 +28,7 @@ use Rattle.sv_serve.specs.declared.wire.Answer.{Answer}
 use Rattle.sv_serve.specs.declared.wire.Answer.TheVariants.{Got, Pending, Failed}
 use Rattle.sv_serve.specs.Heard.{Heard, WasDialed, PeerAnswered, WasClosed, Through}
 use Rattle.sv_serve.specs.DriverView.{DriverView, ◌then◌}
-use Rattle.sv_serve.specs.Steps.{IsApplied, called_of, is_wanted, KeepsCall, CancelsUnwanted, ConnectResult, PollResult, CallsFor, Dials}
+use Rattle.sv_serve.specs.Steps.{IsApplied, dialed_of, is_wanted, KeepsDial, CancelsUnwanted, ConnectResult, PollResult, DialsFor, Dials}
 use Rattle.sv_serve.specs.Sweep.{PlaysOne, Plays, Counts, TicksOnce, Passes, Stimulates}
 use Rattle.sv_driver_laws.specs.Served.{event_of, is_outer}
 use Rattle.sv_driver_laws.specs.Carried.{begins, read, taken_bytes}
@@ -173,38 +173,38 @@ picks hears May config c may dial Failed wire before between after log was wante
     (λ port. refl)) applied
 
 abbrev pub calls_for : {W : Type 0} (hears : W → Heard → W → Type 0) (May : Subject
-    → Type 0) (config : Config) (c : ℕ) (may : May OfNone) (wanted called : Option Dial)
+    → Type 0) (config : Config) (c : ℕ) (may : May OfNone) (wanted dialed : Option Dial)
     (before after : DriverView W) (log : List Act) → IsLogOf config before.history log → wanted ≡ dial_of c log
-    → CallsFor hears c wanted called config before after → Keeps hears May config before after
-calls_for hears May config c may None called before after log was wants same = keeps_none hears May config before after same
+    → DialsFor hears c wanted dialed config before after → Keeps hears May config before after
+calls_for hears May config c may None dialed before after log was wants same = keeps_none hears May config before after same
 calls_for hears May config c may (Some dial) None before after log was wants (answer, (between, (wire, heard, is), h)) =
     rings hears May config c may dial answer wire before between after log was wants heard is h
-calls_for hears May config c may (Some dial) (Some called) before after log was wants (answer, (between, (wire, heard, is), h)) =
+calls_for hears May config c may (Some dial) (Some dialed) before after log was wants (answer, (between, (wire, heard, is), h)) =
     picks hears May config c may dial answer wire before between after log was wants heard is h
 
 pub keeps_call : {W : Type 0} (hears : W → Heard → W → Type 0) (May : Subject
     → Type 0) (config : Config) (c : ℕ) (may : May OfNone) (so : Bool) (before after : DriverView W)
     → (so ≡ false → (log : List Act) × IsLogOf config before.history log × (is_port_shut (Intr c) log ≡ true))
-    → KeepsCall hears c so config before after → Keeps hears May config before after
+    → KeepsDial hears c so config before after → Keeps hears May config before after
 keeps_call hears May config c may true before after shut same = keeps_none hears May config before after same
 keeps_call hears May config c may false before after shut hangs =
     let at = shut refl in quiet_keeps hears May config (Some c) before after (hangs_up hears May config may c before after hangs)
     (λ trace so d e. end_shut c d config before.history trace at.0 at.1 at.2 so e)
 
 pub lets_go_of : {W : Type 0} (hears : W → Heard → W → Type 0) (May : Subject
-    → Type 0) (config : Config) (c : ℕ) (may : May OfNone) (called : Option Dial) (before after : DriverView W)
-    → CancelsUnwanted hears c called config before after → Keeps hears May config before after
+    → Type 0) (config : Config) (c : ℕ) (may : May OfNone) (dialed : Option Dial) (before after : DriverView W)
+    → CancelsUnwanted hears c dialed config before after → Keeps hears May config before after
 lets_go_of hears May config c may None before after same = keeps_none hears May config before after same
-lets_go_of hears May config c may (Some called) before after (channel, wanted, is_open, wants, h) =
+lets_go_of hears May config c may (Some dialed) before after (channel, wanted, is_open, wants, h) =
     keeps_call hears May config c may _ before after
-    (λ e. (is_open.0, is_open.1, cancel_unwanted channel (is_wanted called wanted) (is_port_shut (Intr c) is_open.0) e is_open.2)) h
+    (λ e. (is_open.0, is_open.1, cancel_unwanted channel (is_wanted dialed wanted) (is_port_shut (Intr c) is_open.0) e is_open.2)) h
 
 pub dials : {W : Type 0} (hears : W → Heard → W → Type 0) (May : Subject
     → Type 0) (config : Config) (c : ℕ) (may : May OfNone) (before after : DriverView W)
     → Dials hears c config before after → Keeps hears May config before after
 dials hears May config c may before after (between, goes, (wanted, (log, was, wants), h)) = keeps_then hears May config before between after
-    (lets_go_of hears May config c may (called_of c before) before between goes)
-    (calls_for hears May config c may wanted (called_of c between) between after log was wants h)
+    (lets_go_of hears May config c may (dialed_of c before) before between goes)
+    (calls_for hears May config c may wanted (dialed_of c between) between after log was wants h)
 
 -- ---- time passes
 

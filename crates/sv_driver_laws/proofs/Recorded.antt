@@ -19,7 +19,7 @@ use Rattle.sv_serve.specs.declared.wire.Answer.TheVariants.{Got, Pending, Failed
 use Rattle.sv_serve.specs.Heard.{Heard, WasClosed, Through}
 use Rattle.sv_serve.specs.DriverView.{DriverView, ForEach, ◌then◌}
 use Rattle.sv_serve.specs.Asked.{IsLowest}
-use Rattle.sv_serve.specs.Steps.{Hears, Given, IsApplied, Remembers, called_of, is_wanted, Opens, Accepts, ClosesChannelOn, ClosesChannel, Closes, ClosesIf, Comes, Drops, ProbesIf, ReadsFrom, RefusesIf, EndsTurn, TurnsIf, Turns, KeepsCall, CancelsUnwanted, LetsGo, ConnectResult, PollResult, CallsFor, Calls, Dials, BreaksOff, EndsWrite, WritesTo, EndsIf, Ends}
+use Rattle.sv_serve.specs.Steps.{Hears, Given, IsApplied, Remembers, dialed_of, is_wanted, Opens, Accepts, ClosesChannelOn, ClosesChannel, Closes, ClosesIf, Comes, Drops, ProbesIf, ReadsFrom, RefusesIf, EndsTurn, TurnsIf, Turns, KeepsDial, CancelsUnwanted, LetsGo, ConnectResult, PollResult, DialsFor, Connects, Dials, BreaksOff, EndsWrite, WritesTo, EndsIf, Ends}
 use Rattle.sv_serve.specs.Sweep.{PlaysOne, Plays, Counts, TicksOnce, Passes, Stimulates, Sweeps}
 use Rattle.sv_driver_laws.proofs.Keeps.{through_join}
 
@@ -32,7 +32,7 @@ Step W = Config → DriverView W → DriverView W → Type 0
 
 -- the state with this trace in place of the wire
 abbrev pub onto : {W : Type 0} → DriverView W → List Heard → DriverView (List Heard)
-onto a trace = record { wire = trace; history = a.history; called = a.called; ahead = a.ahead; ticks = a.ticks }
+onto a trace = record { wire = trace; history = a.history; dials = a.dials; ahead = a.ahead; ticks = a.ticks }
 
 -- From one trace to the other one goes what was heard from one wire to the other.
 abbrev pub Along : {W : Type 0} → (W → Heard → W → Type 0) → List Heard → W → List Heard → W → Type 0
@@ -125,7 +125,7 @@ lift_closes hears c config a b trace (m, heard, (n, hangs, applies)) =
     lift_then hears (Hears Records (WasClosed (Conn c))) (ClosesChannel Records c then IsApplied (Close (Conn c))) config a m b trace
     (lift_heard hears _ config a m trace heard)
     (λ t. lift_then hears (ClosesChannel Records c) (IsApplied (Close (Conn c))) config m n b t
-    (lift_hangs hears c (called_of c m) config m n t hangs) (λ u. lift_given hears _ (Ok Done) config n b u applies))
+    (lift_hangs hears c (dialed_of c m) config m n t hangs) (λ u. lift_given hears _ (Ok Done) config n b u applies))
 
 pub lift_comes : {W : Type 0} (hears : W → Heard → W → Type 0) (c : ℕ) (answer : Answer (List ℕ)) (config : Config) (a b : DriverView W)
     (trace : List Heard) → Comes hears c answer config a b → Lifts hears (Comes Records c answer) config a b trace
@@ -181,15 +181,15 @@ lift_turns hears c config a b trace (ready, is, h) =
     let (later, along, k) = lift_turns_if hears c ready config a b trace h in (later, along, (ready, is, k))
 
 pub lift_keeps_call : {W : Type 0} (hears : W → Heard → W → Type 0) (c : ℕ) (so : Bool) (config : Config) (a b : DriverView W)
-    (trace : List Heard) → KeepsCall hears c so config a b → Lifts hears (KeepsCall Records c so) config a b trace
+    (trace : List Heard) → KeepsDial hears c so config a b → Lifts hears (KeepsDial Records c so) config a b trace
 lift_keeps_call hears c true config a b trace is = lift_same hears config a b trace is
-lift_keeps_call hears c false config a b trace h = lift_hangs hears c (called_of c a) config a b trace h
+lift_keeps_call hears c false config a b trace h = lift_hangs hears c (dialed_of c a) config a b trace h
 
-pub lift_cancels : {W : Type 0} (hears : W → Heard → W → Type 0) (c : ℕ) (called : Option Dial) (config : Config) (a b : DriverView W)
-    (trace : List Heard) → CancelsUnwanted hears c called config a b → Lifts hears (CancelsUnwanted Records c called) config a b trace
+pub lift_cancels : {W : Type 0} (hears : W → Heard → W → Type 0) (c : ℕ) (dialed : Option Dial) (config : Config) (a b : DriverView W)
+    (trace : List Heard) → CancelsUnwanted hears c dialed config a b → Lifts hears (CancelsUnwanted Records c dialed) config a b trace
 lift_cancels hears c None config a b trace is = lift_same hears config a b trace is
-lift_cancels hears c (Some called) config a b trace (channel, wanted, opened, wants, h) =
-    let (later, along, k) = lift_keeps_call hears c (channel || is_wanted called wanted) config a b trace h in
+lift_cancels hears c (Some dialed) config a b trace (channel, wanted, opened, wants, h) =
+    let (later, along, k) = lift_keeps_call hears c (channel || is_wanted dialed wanted) config a b trace h in
     (later, along, (channel, wanted, opened, wants, k))
 
 pub lift_rings : {W : Type 0} (hears : W → Heard → W → Type 0) (c : ℕ) (dial : Dial) (answer : Answer ⊤) (config : Config)
@@ -207,37 +207,37 @@ lift_picks hears c (Got all) config a b trace applies = lift_given hears _ (Ok D
 lift_picks hears c Pending config a b trace is = lift_same hears config a b trace is
 lift_picks hears c Failed config a b trace (m, hangs, applies) =
     lift_then hears (ClosesChannel Records c) (IsApplied (Dialed c false)) config a m b trace
-    (lift_hangs hears c (called_of c a) config a m trace hangs) (λ t. lift_given hears _ (Ok Done) config m b t applies)
+    (lift_hangs hears c (dialed_of c a) config a m trace hangs) (λ t. lift_given hears _ (Ok Done) config m b t applies)
 
-pub lift_calls_for : {W : Type 0} (hears : W → Heard → W → Type 0) (c : ℕ) (wanted called : Option Dial) (config : Config)
-    (a b : DriverView W) (trace : List Heard) → CallsFor hears c wanted called config a b
-    → Lifts hears (CallsFor Records c wanted called) config a b trace
-lift_calls_for hears c None called config a b trace is = lift_same hears config a b trace is
+pub lift_calls_for : {W : Type 0} (hears : W → Heard → W → Type 0) (c : ℕ) (wanted dialed : Option Dial) (config : Config)
+    (a b : DriverView W) (trace : List Heard) → DialsFor hears c wanted dialed config a b
+    → Lifts hears (DialsFor Records c wanted dialed) config a b trace
+lift_calls_for hears c None dialed config a b trace is = lift_same hears config a b trace is
 lift_calls_for hears c (Some dial) None config a b trace (answer, (m, heard, h)) =
     let (later, along, k) = lift_then hears (Hears Records _) (ConnectResult c dial answer) config a m b trace
     (lift_heard hears _ config a m trace heard) (λ t. lift_rings hears c dial answer config m b t h) in
     (later, along, (answer, k))
-lift_calls_for hears c (Some dial) (Some called) config a b trace (answer, (m, heard, h)) =
+lift_calls_for hears c (Some dial) (Some dialed) config a b trace (answer, (m, heard, h)) =
     let (later, along, k) = lift_then hears (Hears Records _) (PollResult Records c answer) config a m b trace
     (lift_heard hears _ config a m trace heard) (λ t. lift_picks hears c answer config m b t h) in
     (later, along, (answer, k))
 
 pub lift_calls : {W : Type 0} (hears : W → Heard → W → Type 0) (c : ℕ) (config : Config) (a b : DriverView W) (trace : List Heard)
-    → Calls hears c config a b → Lifts hears (Calls Records c) config a b trace
+    → Connects hears c config a b → Lifts hears (Connects Records c) config a b trace
 lift_calls hears c config a b trace (wanted, wants, h) =
-    let (later, along, k) = lift_calls_for hears c wanted (called_of c a) config a b trace h in (later, along, (wanted, wants, k))
+    let (later, along, k) = lift_calls_for hears c wanted (dialed_of c a) config a b trace h in (later, along, (wanted, wants, k))
 
 pub lift_dials : {W : Type 0} (hears : W → Heard → W → Type 0) (c : ℕ) (config : Config) (a b : DriverView W) (trace : List Heard)
     → Dials hears c config a b → Lifts hears (Dials Records c) config a b trace
-lift_dials hears c config a b trace (m, goes, calls) = lift_then hears (LetsGo Records c) (Calls Records c) config a m b trace
-    (lift_cancels hears c (called_of c a) config a m trace goes) (λ t. lift_calls hears c config m b t calls)
+lift_dials hears c config a b trace (m, goes, calls) = lift_then hears (LetsGo Records c) (Connects Records c) config a m b trace
+    (lift_cancels hears c (dialed_of c a) config a m trace goes) (λ t. lift_calls hears c config m b t calls)
 
 pub lift_breaks : {W : Type 0} (hears : W → Heard → W → Type 0) (port : Port) (config : Config) (a b : DriverView W) (trace : List Heard)
     → BreaksOff hears port config a b → Lifts hears (BreaksOff Records port) config a b trace
 lift_breaks hears (Conn c) config a b trace h = lift_closes hears c config a b trace h
 lift_breaks hears (Intr c) config a b trace (m, hangs, applies) =
     lift_then hears (ClosesChannel Records c) (IsApplied (Close (Intr c))) config a m b trace
-    (lift_hangs hears c (called_of c a) config a m trace hangs) (λ t. lift_given hears _ (Ok Done) config m b t applies)
+    (lift_hangs hears c (dialed_of c a) config a m trace hangs) (λ t. lift_given hears _ (Ok Done) config m b t applies)
 
 pub lift_ends_write : {W : Type 0} (hears : W → Heard → W → Type 0) (port : Port) (answer : Answer ℕ) (config : Config) (a b : DriverView W)
     (trace : List Heard) → EndsWrite hears port answer config a b → Lifts hears (EndsWrite Records port answer) config a b trace

@@ -27,7 +27,7 @@ use Rattle.sv_serve.specs.declared.wire.Answer.{Answer}
 use Rattle.sv_serve.specs.declared.wire.Answer.TheVariants.{Got, Pending, Failed}
 use Rattle.sv_serve.specs.Heard.{Heard, WasWritten, WasDialed, PeerAnswered, IsWithin}
 use Rattle.sv_serve.specs.DriverView.{DriverView, ForEach}
-use Rattle.sv_serve.specs.Steps.{called_of, ConnectResult, PollResult, CallsFor, Dials, EndsWrite, WritesTo}
+use Rattle.sv_serve.specs.Steps.{dialed_of, ConnectResult, PollResult, DialsFor, Dials, EndsWrite, WritesTo}
 use Rattle.sv_driver_laws.specs.Timed.{is_timed}
 use Rattle.sv_driver_laws.specs.Served.{is_taking, IsDialed}
 use Rattle.sv_driver_laws.proofs.Ports.{concat_join, left_bytes}
@@ -100,16 +100,16 @@ picked hears May config c may dial (Got all) wire x m y log was wants heard is h
 picked hears May config c may dial Pending wire x m y log was wants heard is h = ([], [], refl)
 picked hears May config c may dial Failed wire x m y log was wants heard is (n, hangs, applied) = (_, [], refl)
 
-called_for : {W : Type 0} (hears : W → Heard → W → Type 0) (May : Subject → Type 0) (config : Config) (c : ℕ) (may : May OfNone)
-    (wanted called : Option Dial) (x y : DriverView W) (log : List Act) (was : IsLogOf config x.history log)
+dialed_for : {W : Type 0} (hears : W → Heard → W → Type 0) (May : Subject → Type 0) (config : Config) (c : ℕ) (may : May OfNone)
+    (wanted dialed : Option Dial) (x y : DriverView W) (log : List Act) (was : IsLogOf config x.history log)
     (wants : wanted ≡ dial_of c log)
-    → (h : CallsFor hears c wanted called config x y)
+    → (h : DialsFor hears c wanted dialed config x y)
     → (dial_of c log ≡ None) ⊎ ((dial : Dial) × (dial_of c log ≡ Some dial)
-    × Asked c dial (calls_for hears May config c may wanted called x y log was wants h).piece)
-called_for hears May config c may None called x y log was wants same = inl (sym wants)
-called_for hears May config c may (Some dial) None x y log was wants (answer, (m, (wire, heard, is), h)) =
+    × Asked c dial (calls_for hears May config c may wanted dialed x y log was wants h).piece)
+dialed_for hears May config c may None dialed x y log was wants same = inl (sym wants)
+dialed_for hears May config c may (Some dial) None x y log was wants (answer, (m, (wire, heard, is), h)) =
     inr (dial, sym wants, (answer, inl (rung hears May config c may dial answer wire x m y log was wants heard is h)))
-called_for hears May config c may (Some dial) (Some called) x y log was wants (answer, (m, (wire, heard, is), h)) =
+dialed_for hears May config c may (Some dial) (Some dialed) x y log was wants (answer, (m, (wire, heard, is), h)) =
     inr (dial, sym wants, (answer, inr (picked hears May config c may dial answer wire x m y log was wants heard is h)))
 
 pub found_more : (c : ℕ) (log : List Act) (piece more : List Heard)
@@ -127,16 +127,16 @@ found_front c log more piece (inr (dial, is, asked)) = inr (dial, is, asked_fron
 dial_step : {W : Type 0} (hears : W → Heard → W → Type 0) (May : Subject → Type 0) (config : Config) (c : ℕ) (may : May OfNone)
     (x y : DriverView W) → Dials hears c config x y → DialStep hears May config c x y
 dial_step hears May config c may x y (m, goes, (wanted, (log, was, wants), h)) =
-    let first = lets_go_of hears May config c may (called_of c x) x m goes in
-    let last = calls_for hears May config c may wanted (called_of c m) m y log was wants h in record {
+    let first = lets_go_of hears May config c may (dialed_of c x) x m goes in
+    let last = calls_for hears May config c may wanted (dialed_of c m) m y log was wants h in record {
       k = keeps_then hears May config x m y first last;
       asks = (
         m,
-        lets_go_grows IsBetween hears c (called_of c x) config x m goes,
-        calls_grows IsBetween hears c wanted (called_of c m) config m y (λ ok. (refl, refl)) h,
+        lets_go_grows IsBetween hears c (dialed_of c x) config x m goes,
+        calls_grows IsBetween hears c wanted (dialed_of c m) config m y (λ ok. (refl, refl)) h,
         log,
         was,
-        found_more c log last.piece first.piece (called_for hears May config c may wanted (called_of c m) m y log was wants h),
+        found_more c log last.piece first.piece (dialed_for hears May config c may wanted (dialed_of c m) m y log was wants h),
       );
     }
 

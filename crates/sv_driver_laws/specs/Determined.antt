@@ -58,7 +58,7 @@ IsRun hears notes config start handed now swept trace history = Through hears tr
 abbrev pub Determined : {W V J K : Type 0} → (W → Heard → W → Type 0) → (J → List PlainEvent → J → Type 0) → (V → Heard → V → Type 0)
     → (K → List PlainEvent → K → Type 0) → Type 0
 Determined hears notes hearing noting = (config : Config) (handed : List Handed) (start now : DriverState _ _) (begin end : DriverState _ _)
-    → Stands (notes start.journal) start config [] → Stands (noting begin.journal) begin config [] → start.called ≡ begin.called
+    → Stands (notes start.journal) start config [] → Stands (noting begin.journal) begin config [] → start.dials ≡ begin.dials
     → start.ahead ≡ begin.ahead → start.ticks ≡ begin.ticks → (swept : Swept hears notes handed start now)
     → (sweeps : Swept hearing noting handed begin end) → (trace other : List Heard) × (history also : List PlainEvent)
     × IsRun hears notes config start handed now swept trace history × IsRun hearing noting config begin handed end sweeps other also

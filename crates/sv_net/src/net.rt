@@ -166,7 +166,7 @@ impl<N: Network + Drop, A: Allocator, S: Stream> Net<N, A, S> {
 
     /// Whether an accept is due at once on at least one port: a connection might be waiting to be
     /// accepted on this port, and the last accept on it didn't fail.
-    pub(crate) fn is_called(&self) -> bool {
+    pub(crate) fn is_accept_due(&self) -> bool {
         self.doors[0].is_waiting() | self.doors[1].is_waiting() | self.doors[2].is_waiting()
     }
 

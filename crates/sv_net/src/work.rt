@@ -60,5 +60,5 @@ pub(crate) fn has_work<N: Network + Drop, A: Allocator, S: Stream, J: Journal + 
     driver: &Driver<Net<N, A, S>, A, J>,
 ) -> bool {
     let connections_used = driver.server().connections_used();
-    driver.wire().is_called() || (0..connections_used).any(|conn| has_work_on(driver, conn))
+    driver.wire().is_accept_due() || (0..connections_used).any(|conn| has_work_on(driver, conn))
 }

@@ -10,7 +10,7 @@ use Rattle.sv_serve.specs.declared.wire.Answer.{Answer}
 use Rattle.sv_serve.specs.declared.wire.Answer.TheVariants.{Failed}
 use Rattle.sv_serve.specs.Heard.{Heard}
 use Rattle.sv_serve.specs.DriverView.{DriverView}
-use Rattle.sv_serve.specs.Steps.{ProbesIf, RefusesIf, EndsTurn, CallsFor, BreaksOff, EndsWrite}
+use Rattle.sv_serve.specs.Steps.{ProbesIf, RefusesIf, EndsTurn, DialsFor, BreaksOff, EndsWrite}
 
 pub write_failed : {W : Type 0} (hears : W → Heard → W
     → Type 0) (port other : Port) (answer : Answer ℕ) (config : Config) (before after : DriverView W)
@@ -26,12 +26,12 @@ turn_refused c answer refused so config before after is same h =
     subst (λ (r : Result Did Refused). EndsTurn c r config before after) (sym is) (subst (λ
     (b : Bool). RefusesIf c b config before after) same h)
 
-pub calls_as : {W : Type 0} (hears : W → Heard → W → Type 0) (c : ℕ) (wanted called other before_call : Option Dial) (config : Config)
-    (before after : DriverView W) → wanted ≡ other → called ≡ before_call → CallsFor hears c other before_call config before after
-    → CallsFor hears c wanted called config before after
-calls_as hears c wanted called other before_call config before after is same h =
-    subst (λ (d : Option Dial). CallsFor hears c d called config before after) (sym is)
-    (subst (λ (d : Option Dial). CallsFor hears c other d config before after) (sym same) h)
+pub calls_as : {W : Type 0} (hears : W → Heard → W → Type 0) (c : ℕ) (wanted dialed other before_call : Option Dial) (config : Config)
+    (before after : DriverView W) → wanted ≡ other → dialed ≡ before_call → DialsFor hears c other before_call config before after
+    → DialsFor hears c wanted dialed config before after
+calls_as hears c wanted dialed other before_call config before after is same h =
+    subst (λ (d : Option Dial). DialsFor hears c d dialed config before after) (sym is)
+    (subst (λ (d : Option Dial). DialsFor hears c other d config before after) (sym same) h)
 
 pub probes_so : {W : Type 0} (hears : W → Heard → W → Type 0) (c : ℕ) (so : Bool) (config : Config) (before after : DriverView W) → so
     ≡ true

@@ -32,7 +32,7 @@ use Rattle.sv_serve.specs.declared.wire.Answer.{Answer}
 use Rattle.sv_serve.specs.declared.wire.Answer.TheVariants.{Got}
 use Rattle.sv_serve.specs.Heard.{Heard}
 use Rattle.sv_serve.specs.DriverView.{DriverView}
-use Rattle.sv_serve.specs.Steps.{Given, ClosesChannelOn, ClosesChannel, called_of, longest_piece}
+use Rattle.sv_serve.specs.Steps.{Given, ClosesChannelOn, ClosesChannel, dialed_of, longest_piece}
 use Rattle.sv_serve.specs.Asked.{IsOpen, HasRoom, IsFaulted, Wants, Waits, IsLowest}
 use Rattle.sv_serve.specs.Premises.{IsSuited, Handed, FoundNone, MayFindNone, FindsNoneIf}
 use Rattle.sv_laws.specs.Laws.{Suits}
@@ -183,7 +183,7 @@ hung_on hears c (Some dial) config before after (between, (wire, was, is), notes
 
 pub hung_same : {W : Type 0} (hears : W → Heard → W → Type 0) (c : ℕ) (config : Config) (before after : DriverView W)
     → ClosesChannel hears c config before after → after.history ≡ before.history
-hung_same hears c config before after h = hung_on hears c (called_of c before) config before after h
+hung_same hears c config before after h = hung_on hears c (dialed_of c before) config before after h
 
 pub still_suited : {W : Type 0} (event : PlainEvent) (config : Config) (before after : DriverView W) → after.history ≡ before.history
     → IsSuited event config before → IsSuited event config after

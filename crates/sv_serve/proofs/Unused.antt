@@ -13,7 +13,7 @@ use Rattle.sv_history.proofs.Unrecorded.{nothing_idle, nothing_faulted, nothing_
 use Rattle.sv_serve.specs.Heard.{Heard}
 use Rattle.sv_serve.specs.DriverView.{DriverView, DriverState, ForEach, Steps, Stands, driver_view}
 use Rattle.sv_serve.specs.Asked.{NoneUsed}
-use Rattle.sv_serve.specs.Steps.{called_of, ReadsFrom, Turns, Dials, WritesTo, Ends}
+use Rattle.sv_serve.specs.Steps.{dialed_of, ReadsFrom, Turns, Dials, WritesTo, Ends}
 
 -- steps that change nothing behind those that were taken
 pub and_rest : {W : Type 0} (step : ℕ → Config → DriverView W → DriverView W → Type 0) (config : Config) (n m : ℕ) (a b : DriverView W) → n
@@ -71,7 +71,7 @@ nobody (suc n) zero = refl
 nobody (suc n) (suc c) = nobody n c
 
 pub dials_none : {W : Type 0} (hears : W → Heard → W → Type 0) (n : ℕ) (config : Config) (at : DriverView W) → NoneUsed n config at
-    → ((c : ℕ) → n ≤ c → called_of c at ≡ None) → (c : ℕ) → n ≤ c → Dials hears c config at at
+    → ((c : ℕ) → n ≤ c → dialed_of c at ≡ None) → (c : ℕ) → n ≤ c → Dials hears c config at at
 dials_none hears n config at (log, is_log, none) uncalled c le =
     let nobody = uncalled c le in (
       at,

@@ -12,7 +12,7 @@ use Rattle.sv_replay.specs.declared.entry.Entry.{Entry}
 pub record DriverState (W J : Type 0) : Type 0 where
   pub server : State
   pub wire : W
-  pub called : List (Option Dial)
+  pub dials : List (Option Dial)
   pub ahead : List Entry
   pub ticks : ℕ
   pub journal : J
@@ -21,14 +21,14 @@ pub record DriverState (W J : Type 0) : Type 0 where
 pub record DriverView (W : Type 0) : Type 0 where
   pub wire : W
   pub history : List PlainEvent
-  pub called : List (Option Dial)
+  pub dials : List (Option Dial)
   pub ahead : List Entry
   pub ticks : ℕ
 
 -- the state of a driver, with this history in place of the server
 abbrev pub driver_view : {W J : Type 0} → DriverState W J → List PlainEvent → DriverView W
 driver_view driving history =
-    record { wire = driving.wire; history = history; called = driving.called; ahead = driving.ahead; ticks = driving.ticks }
+    record { wire = driving.wire; history = history; dials = driving.dials; ahead = driving.ahead; ticks = driving.ticks }
 
 -- the step that changes nothing
 abbrev pub Unchanged : {W : Type 0} → Config → DriverView W → DriverView W → Type 0

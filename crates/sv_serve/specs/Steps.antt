@@ -35,13 +35,13 @@ IsApplied event = Given event (Ok Done)
 
 -- the peer that the driver dialed for the interrupt channel of a connection; `None` if no peer is
 -- dialed
-abbrev pub called_of : {W : Type 0} → ℕ → DriverView W → Option Dial
-called_of c at = slice_index_or at.called c None
+abbrev pub dialed_of : {W : Type 0} → ℕ → DriverView W → Option Dial
+dialed_of c at = slice_index_or at.dials c None
 
 -- The driver records which peer it dialed for the interrupt channel of a connection, or (`None`)
 -- that no peer is dialed.
 abbrev pub Remembers : {W : Type 0} → ℕ → Option Dial → Config → DriverView W → DriverView W → Type 0
-Remembers c dial config before after = after ≡ record before { called = slice_set before.called c dial }
+Remembers c dial config before after = after ≡ record before { dials = slice_set before.dials c dial }
 
 -- If the wire accepted a connection under a number, the connection opens at the server under this
 -- number.
@@ -64,7 +64,7 @@ ClosesChannelOn hears c (Some dial) = Hears hears (WasClosed (Intr c)) then Reme
 -- The socket of a connection's interrupt channel is closed, if the driver dialed a peer for the
 -- channel.
 abbrev pub ClosesChannel : {W : Type 0} → (W → Heard → W → Type 0) → ℕ → Config → DriverView W → DriverView W → Type 0
-ClosesChannel hears c config before after = ClosesChannelOn hears c (called_of c before) config before after
+ClosesChannel hears c config before after = ClosesChannelOn hears c (dialed_of c before) config before after
 
 -- A connection is closed, and with it its interrupt channel.
 abbrev pub Closes : {W : Type 0} → (W → Heard → W → Type 0) → ℕ → Config → DriverView W → DriverView W → Type 0
@@ -138,27 +138,27 @@ Turns c config before after = (ready : Bool) × IsReady c config before ready ×
 
 -- whether the peer that was dialed is the one to which the channel has to be connected
 abbrev pub is_wanted : Dial → Option Dial → Bool
-is_wanted called (Some wanted) = (called.addr == wanted.addr) && (called.port == wanted.port)
-is_wanted called None = false
+is_wanted dialed (Some wanted) = (dialed.addr == wanted.addr) && (dialed.port == wanted.port)
+is_wanted dialed None = false
 
 -- If the flag is true, the driver keeps the socket of the peer that it dialed; if the flag is
 -- false, the socket is closed.
-abbrev pub KeepsCall : {W : Type 0} → (W → Heard → W → Type 0) → ℕ → Bool → Config → DriverView W → DriverView W → Type 0
-KeepsCall hears c true = Unchanged
-KeepsCall hears c false = ClosesChannel hears c
+abbrev pub KeepsDial : {W : Type 0} → (W → Heard → W → Type 0) → ℕ → Bool → Config → DriverView W → DriverView W → Type 0
+KeepsDial hears c true = Unchanged
+KeepsDial hears c false = ClosesChannel hears c
 
 -- The socket of a dialed peer is closed, unless the interrupt channel is open or still has to be
 -- connected to this peer.
 abbrev pub CancelsUnwanted : {W : Type 0} → (W → Heard → W → Type 0) → ℕ → Option Dial → Config → DriverView W → DriverView W → Type 0
 CancelsUnwanted hears c None config before after = after ≡ before
-CancelsUnwanted hears c (Some called) config before after = (channel : Bool) × (wanted : Option Dial) × IsOpen
+CancelsUnwanted hears c (Some dialed) config before after = (channel : Bool) × (wanted : Option Dial) × IsOpen
     (Intr c) config before channel
-    × Wants c config before wanted × KeepsCall hears c (channel || is_wanted called wanted) config before after
+    × Wants c config before wanted × KeepsDial hears c (channel || is_wanted dialed wanted) config before after
 
 -- The socket of the peer that was dialed for a connection's interrupt channel is closed, unless the
 -- channel is open or still has to be connected to this peer.
 abbrev pub LetsGo : {W : Type 0} → (W → Heard → W → Type 0) → ℕ → Config → DriverView W → DriverView W → Type 0
-LetsGo hears c config before after = CancelsUnwanted hears c (called_of c before) config before after
+LetsGo hears c config before after = CancelsUnwanted hears c (dialed_of c before) config before after
 
 -- What follows the wire's answer to dialing a peer. If the peer is connected, the driver records
 -- that it dialed this peer, and tells the server that the peer is connected. If the peer hasn't
@@ -179,25 +179,25 @@ PollResult hears c Failed = ClosesChannel hears c then IsApplied (Dialed c false
 
 -- If a channel has to be connected: its peer is dialed; or, if a peer was dialed already, the
 -- driver asks the wire whether that peer has answered.
-abbrev pub CallsFor : {W : Type 0} → (W → Heard → W → Type 0) → ℕ → Option Dial → Option Dial → Config → DriverView W → DriverView W
+abbrev pub DialsFor : {W : Type 0} → (W → Heard → W → Type 0) → ℕ → Option Dial → Option Dial → Config → DriverView W → DriverView W
     → Type 0
-CallsFor hears c None called config before after = after ≡ before
-CallsFor hears c (Some dial) None config before after =
+DialsFor hears c None dialed config before after = after ≡ before
+DialsFor hears c (Some dial) None config before after =
     (answer : Answer ⊤) × (Hears hears (WasDialed c dial answer) then ConnectResult c dial answer) config before after
-CallsFor hears c (Some dial) (Some called) config before after =
+DialsFor hears c (Some dial) (Some dialed) config before after =
     (answer : Answer ⊤) × (Hears hears (PeerAnswered c answer) then PollResult hears c answer) config before after
 
 -- If a connection's interrupt channel has to be connected: its peer is dialed; or, if a peer was
 -- dialed already, the driver asks the wire whether that peer has answered.
-abbrev pub Calls : {W : Type 0} → (W → Heard → W → Type 0) → ℕ → Config → DriverView W → DriverView W → Type 0
-Calls hears c config before after =
-    (wanted : Option Dial) × Wants c config before wanted × CallsFor hears c wanted (called_of c before) config before after
+abbrev pub Connects : {W : Type 0} → (W → Heard → W → Type 0) → ℕ → Config → DriverView W → DriverView W → Type 0
+Connects hears c config before after =
+    (wanted : Option Dial) × Wants c config before wanted × DialsFor hears c wanted (dialed_of c before) config before after
 
 -- If a peer was dialed, its socket is closed, unless the interrupt channel is open or still has to
 -- be connected to this peer. Then, if the channel has to be connected: its peer is dialed; or, if
 -- it was dialed already, the driver asks the wire whether this peer has answered.
 abbrev pub Dials : {W : Type 0} → (W → Heard → W → Type 0) → ℕ → Config → DriverView W → DriverView W → Type 0
-Dials hears c = LetsGo hears c then Calls hears c
+Dials hears c = LetsGo hears c then Connects hears c
 
 -- A port is closed: a connection with its interrupt channel, or an interrupt channel alone.
 abbrev pub BreaksOff : {W : Type 0} → (W → Heard → W → Type 0) → Port → Config → DriverView W → DriverView W → Type 0

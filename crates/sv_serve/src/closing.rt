@@ -21,7 +21,7 @@ impl<W: Wire + Drop, A: Allocator, J: Journal + Drop> Driver<W, A, J> {
         requires { conn < 16 }
         ensures { Steps J.notes (ClosesChannel W.hears conn) self.old self.new }
     {
-        match self.called[usize::from(conn)] {
+        match self.dials[usize::from(conn)] {
             None => {}
             Some(_) => {
                 self.shut(Port::Intr(conn));
@@ -42,7 +42,7 @@ impl<W: Wire + Drop, A: Allocator, J: Journal + Drop> Driver<W, A, J> {
         requires { conn < 16 }
         ensures { Steps J.notes (Remembers conn None) self.old self.new }
     {
-        self.called[usize::from(conn)] = None;
+        self.dials[usize::from(conn)] = None;
     }
 
     /// Closes a connection, and with it its interrupt channel.

@@ -6,7 +6,7 @@ ghost use Rattle.sv_history.specs.Event.{PlainEvent, plain};
 ghost use Rattle.sv_server.specs.Server.State.{StandsFor};
 ghost use Rattle.sv_serve.specs.Asked.{NoneUsed};
 ghost use Rattle.sv_serve.specs.DriverView.{Steps, Unchanged, driver_view};
-ghost use Rattle.sv_serve.specs.Steps.{Given, IsApplied, called_of};
+ghost use Rattle.sv_serve.specs.Steps.{Given, IsApplied, dialed_of};
 ghost use Rattle.sv_serve.specs.Premises.{From, IsSuited};
 
 use crate::journal::{Journal, note};
@@ -29,7 +29,7 @@ pub struct Driver<W: Wire + Drop, A: Allocator = Global, J: Journal + Drop = ()>
     pub(crate) wire: W,
     /// For each connection, the peer that was dialed for its interrupt channel; `None` if no peer
     /// is dialed.
-    pub(crate) called: [Option<Dial>; 16],
+    pub(crate) dials: [Option<Dial>; 16],
     /// No peer was ever dialed for a connection with this number or a higher one.
     pub(crate) dial_limit: u8,
     pub(crate) scenario: Vec<Entry, A>,
@@ -51,14 +51,14 @@ impl<W: Wire + Drop, A: Allocator, J: Journal + Drop> Model for Driver<W, A, J> 
     ghost view = { λ a. record {
       server = a.server;
       wire = a.wire;
-      called = a.called;
+      dials = a.dials;
       ahead = drop a.next a.scenario.items;
       ticks = a.ticks;
       journal = a.journal;
     } };
 
-    ghost invariant = { λ a. (length a.called ≡ 16) × (a.next ≤ length a.scenario.items)
-        × ((c : ℕ) → a.dial_limit ≤ c → slice_index_or a.called c None ≡ None)
+    ghost invariant = { λ a. (length a.dials ≡ 16) × (a.next ≤ length a.scenario.items)
+        × ((c : ℕ) → a.dial_limit ≤ c → slice_index_or a.dials c None ≡ None)
         × (length a.buffer.items ≡ 16384) };
 }
 
@@ -77,7 +77,7 @@ impl<W: Wire + Drop, A: Allocator> Driver<W, A> {
         ensures { IfOk result (λ driver. driver ≡ record {
           server = server;
           wire = wire;
-          called = replicate 16 None;
+          dials = replicate 16 None;
           ahead = scenario.items;
           ticks = 0;
           journal = tt;
@@ -103,7 +103,7 @@ impl<W: Wire + Drop, A: Allocator, J: Journal + Drop> Driver<W, A, J> {
         ensures { IfOk result (λ driver. driver ≡ record {
           server = server;
           wire = wire;
-          called = replicate 16 None;
+          dials = replicate 16 None;
           ahead = scenario.items;
           ticks = 0;
           journal = journal;
@@ -112,7 +112,7 @@ impl<W: Wire + Drop, A: Allocator, J: Journal + Drop> Driver<W, A, J> {
         Ok(Driver {
             server,
             wire,
-            called: [None; 16],
+            dials: [None; 16],
             dial_limit: 0,
             scenario,
             next: 0,
@@ -161,11 +161,11 @@ impl<W: Wire + Drop, A: Allocator, J: Journal + Drop> Driver<W, A, J> {
 
     /// Whether dialing has nothing to do for connections with this number or a higher one: no peer
     /// has to be dialed, and no socket of a dialed peer has to be closed.
-    pub(crate) fn is_uncalled(&self, conn: u8) -> bool
+    pub(crate) fn is_past_dials(&self, conn: u8) -> bool
         ensures { result ≡ true → (config : Config) (history : List PlainEvent)
             → StandsFor self.now.server config history
             → NoneUsed conn config (driver_view self.now history)
-            × ((c : ℕ) → conn ≤ c → called_of c (driver_view self.now history) ≡ None) }
+            × ((c : ℕ) → conn ≤ c → dialed_of c (driver_view self.now history) ≡ None) }
     {
         self.is_unused(conn) && conn >= self.dial_limit
     }

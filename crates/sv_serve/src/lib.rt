@@ -3,7 +3,7 @@
 #![tactic(auto)]
 
 mod accepting;
-mod calling;
+mod dialing;
 mod closing;
 mod driver;
 mod journal;

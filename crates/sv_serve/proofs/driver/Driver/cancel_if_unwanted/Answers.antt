@@ -3,7 +3,7 @@ use Rattle.sv_serve.proofs.driver.Driver.cancel_if_unwanted.Goals as goal
 pub returns-in-Some : goal.returns-in-Some
 returns-in-Some g c = λ first config history stands.
     let kept = rw (← c.self.view_is) at stands.0 in
-    let (h0, s0, p0) = c.keep_call.ensures _ config history stands in (
+    let (h0, s0, p0) = c.keep_dial.ensures _ config history stands in (
       h0,
       s0,
       rw c.in-Some.is (

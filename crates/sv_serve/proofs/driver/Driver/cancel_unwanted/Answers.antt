@@ -1,11 +1,11 @@
 use Rattle.std.proofs.Common.{refl, ◌≡◌, None, slice_index_or}
 use Rattle.sv_serve.specs.DriverView.{driver_view}
-use Rattle.sv_serve.specs.Steps.{called_of}
+use Rattle.sv_serve.specs.Steps.{dialed_of}
 use Rattle.sv_serve.proofs.driver.Driver.cancel_unwanted.Goals as goal
 
 pub returns : goal.returns
 returns g c = λ first config history stands.
     let (h0, s0, p0) = c.cancel_if_unwanted.ensures _ config history stands in
-    let is : called_of c.args.conn (driver_view c.args.self.now history) ≡ slice_index_or c.self.inside.called c.from.result None =
+    let is : dialed_of c.args.conn (driver_view c.args.self.now history) ≡ slice_index_or c.self.inside.dials c.from.result None =
     rw (← c.self.view_is, ← c.from.ensures) refl in
     (h0, s0, rw is p0)

@@ -13,12 +13,12 @@ loop-conn-preserved g c =
     goes_more g.J.Journal.notes (Dials g.W.Wire.hears) c.loop-conn.conn (c.loop-conn.conn + 1) c.args.self.now c.loop-conn.self
     c.dial.new.self (omega arith) c.loop-conn.invariant c.dial.ensures
 
-pub returns-then-is_uncalled : goal.returns-then-is_uncalled
-returns-then-is_uncalled g c =
+pub returns-then-is_past_dials : goal.returns-then-is_past_dials
+returns-then-is_past_dials g c =
     goes_rest g.J.Journal.notes (Dials g.W.Wire.hears) c.loop-conn.conn 16 c.args.self.now c.loop-conn.self
     (omega arith) c.loop-conn.invariant
     (λ first config history stands.
-    let unused = c.is_uncalled.ensures c.if-is_uncalled.true config history stands.0 in
+    let unused = c.is_past_dials.ensures c.if-is_past_dials.true config history stands.0 in
     dials_none g.W.Wire.hears c.loop-conn.conn config (driver_view c.loop-conn.self history) unused.0 unused.1)
 
 pub returns : goal.returns

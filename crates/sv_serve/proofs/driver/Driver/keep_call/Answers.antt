@@ -1,4 +1,4 @@
-use Rattle.sv_serve.proofs.driver.Driver.keep_call.Goals as goal
+use Rattle.sv_serve.proofs.driver.Driver.keep_dial.Goals as goal
 
 pub returns : goal.returns
 returns g c = λ first config history stands.

@@ -18,7 +18,7 @@ returns-clause-goes g c = rw (← c.self.view_is) (λ first config history stand
         record {
           wire = c.self.inside.wire;
           history = after;
-          called = c.self.inside.called;
+          dials = c.self.inside.dials;
           ahead = drop c.self.inside.next c.self.inside.scenario.items;
           ticks = c.self.inside.ticks;
         },

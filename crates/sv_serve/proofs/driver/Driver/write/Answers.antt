@@ -31,7 +31,7 @@ returns g c = rw (← c.self.view_is) (λ first config history stands.
             record {
               wire = c.write-answer.new.self;
               history = history;
-              called = c.self.inside.called;
+              dials = c.self.inside.dials;
               ahead = drop c.self.inside.next c.self.inside.scenario.items;
               ticks = c.self.inside.ticks;
             },

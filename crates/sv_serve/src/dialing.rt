@@ -6,7 +6,7 @@ ghost use Rattle.sv_serve.specs.Heard.{WasDialed, PeerAnswered};
 ghost use Rattle.sv_serve.specs.DriverView.{DriverView, Steps, ForEach};
 ghost use Rattle.sv_serve.specs.Asked.{Wants};
 ghost use Rattle.sv_serve.specs.Premises.{From, IsAwaited};
-ghost use Rattle.sv_serve.specs.Steps.{Hears, is_wanted, CancelsUnwanted, LetsGo, KeepsCall, ConnectResult, PollResult, CallsFor, Calls, Dials, Remembers};
+ghost use Rattle.sv_serve.specs.Steps.{Hears, is_wanted, CancelsUnwanted, LetsGo, KeepsDial, ConnectResult, PollResult, DialsFor, Connects, Dials, Remembers};
 
 use crate::driver::{CONNECTIONS, Driver};
 use crate::journal::Journal;
@@ -15,11 +15,11 @@ use std::alloc::Allocator;
 use sv_server::{Dial, Event, Port};
 
 /// Whether the peer that was dialed is the one to which the channel still has to be connected.
-fn is_wanted(called: Dial, wanted: Option<Dial>) -> bool
-    ensures { result ≡ is_wanted called wanted }
+fn is_wanted(dialed: Dial, wanted: Option<Dial>) -> bool
+    ensures { result ≡ is_wanted dialed wanted }
 {
     match wanted {
-        Some(wanted) => (called.addr == wanted.addr) & (called.port == wanted.port),
+        Some(wanted) => (dialed.addr == wanted.addr) & (dialed.port == wanted.port),
         None => false,
     }
 }
@@ -32,7 +32,7 @@ impl<W: Wire + Drop, A: Allocator, J: Journal + Drop> Driver<W, A, J> {
         ensures { Steps J.notes (ForEach 16 (Dials W.hears)) self.old self.new }
     {
         for conn in 0..CONNECTIONS {
-            if self.is_uncalled(conn) {
+            if self.is_past_dials(conn) {
                 return;
             }
             self.dial(conn);
@@ -48,7 +48,7 @@ impl<W: Wire + Drop, A: Allocator, J: Journal + Drop> Driver<W, A, J> {
         ensures { Steps J.notes (Dials W.hears conn) self.old self.new }
     {
         self.cancel_unwanted(conn);
-        self.call(conn);
+        self.connect(conn);
     }
 
     /// Closes the socket of the peer that was dialed for a connection's interrupt channel, unless
@@ -57,31 +57,31 @@ impl<W: Wire + Drop, A: Allocator, J: Journal + Drop> Driver<W, A, J> {
         requires { conn < 16 }
         ensures { Steps J.notes (LetsGo W.hears conn) self.old self.new }
     {
-        let called = self.called[usize::from(conn)];
-        self.cancel_if_unwanted(conn, called);
+        let dialed = self.dials[usize::from(conn)];
+        self.cancel_if_unwanted(conn, dialed);
     }
 
-    /// If `called` is a peer that was dialed for a connection's interrupt channel: closes this
+    /// If `dialed` is a peer that was dialed for a connection's interrupt channel: closes this
     /// peer's socket, unless the channel is open or still has to be connected to this peer.
-    fn cancel_if_unwanted(&mut self, conn: u8, called: Option<Dial>)
+    fn cancel_if_unwanted(&mut self, conn: u8, dialed: Option<Dial>)
         requires { conn < 16 }
-        ensures { Steps J.notes (CancelsUnwanted W.hears conn called) self.old self.new }
+        ensures { Steps J.notes (CancelsUnwanted W.hears conn dialed) self.old self.new }
     {
-        match called {
+        match dialed {
             None => {}
-            Some(called) => {
+            Some(dialed) => {
                 let open = self.server.is_open(Port::Intr(conn));
                 let wanted = self.server.dial(conn);
-                self.keep_call(conn, open | is_wanted(called, wanted));
+                self.keep_dial(conn, open | is_wanted(dialed, wanted));
             }
         }
     }
 
     /// Closes the socket of the peer that was dialed for a connection's interrupt channel, unless
     /// `keeps` is true.
-    fn keep_call(&mut self, conn: u8, keeps: bool)
+    fn keep_dial(&mut self, conn: u8, keeps: bool)
         requires { conn < 16 }
-        ensures { Steps J.notes (KeepsCall W.hears conn keeps) self.old self.new }
+        ensures { Steps J.notes (KeepsDial W.hears conn keeps) self.old self.new }
     {
         if keeps {
             return;
@@ -91,24 +91,24 @@ impl<W: Wire + Drop, A: Allocator, J: Journal + Drop> Driver<W, A, J> {
 
     /// If a connection's interrupt channel has to be connected: dials its peer; or, if a peer was
     /// dialed already, asks the wire whether that peer has answered.
-    fn call(&mut self, conn: u8)
+    fn connect(&mut self, conn: u8)
         requires { conn < 16 }
-        ensures { Steps J.notes (Calls W.hears conn) self.old self.new }
+        ensures { Steps J.notes (Connects W.hears conn) self.old self.new }
     {
         let wanted = self.server.dial(conn);
-        let called = self.called[usize::from(conn)];
-        self.call_for(conn, wanted, called);
+        let dialed = self.dials[usize::from(conn)];
+        self.dial_for(conn, wanted, dialed);
     }
 
-    /// If `wanted` is a peer: dials this peer; or, if a peer was dialed already (`called`), asks
+    /// If `wanted` is a peer: dials this peer; or, if a peer was dialed already (`dialed`), asks
     /// the wire whether that peer has answered.
-    fn call_for(&mut self, conn: u8, wanted: Option<Dial>, called: Option<Dial>)
+    fn dial_for(&mut self, conn: u8, wanted: Option<Dial>, dialed: Option<Dial>)
         requires { conn < 16 }
         ensures { From J.notes
             (λ (config : Config) (at : DriverView W). Wants conn config at wanted)
-            (CallsFor W.hears conn wanted called) self.old self.new }
+            (DialsFor W.hears conn wanted dialed) self.old self.new }
     {
-        match (wanted, called) {
+        match (wanted, dialed) {
             (None, _) => {}
             (Some(dial), None) => {
                 let answer = self.start_connect(conn, dial);
@@ -161,7 +161,7 @@ impl<W: Wire + Drop, A: Allocator, J: Journal + Drop> Driver<W, A, J> {
         requires { conn < 16 }
         ensures { Steps J.notes (Remembers conn (Some dial)) self.old self.new }
     {
-        self.called[usize::from(conn)] = Some(dial);
+        self.dials[usize::from(conn)] = Some(dial);
         self.dial_limit = self.dial_limit.max(conn + 1);
     }
 
