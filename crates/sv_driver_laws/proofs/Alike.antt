@@ -1,4 +1,5 @@
--- Two runs over traces go on alike, until the wires answer differently or memory is refused.
+-- Two runs over recorded traces are the same until their wires answer differently or memory is
+-- refused.
 use Rattle.std.proofs.Common.{◌≡◌, ◌≢◌, ◌⊎◌, ℕ, zero, suc, ◌<◌, ◌≤◌, Bool, true, false, List, [], ◌∷◌, ◌++◌, length, filter, flat_map, nat_lt, Option, Some, None, refl, sym, ap, subst, ◌∙◌, inl, inr, append_assoc, arith}
 use Rattle.std.specs.Prelude.{◌==◌, ◌||◌, ⊤, min, if◌then◌else◌}
 use Rattle.std.proofs.Math.Nat.{eq-or-lt_of_le}
@@ -33,20 +34,20 @@ use Rattle.sv_driver_laws.proofs.Recorded.{Records, Step, Lifts, lift_opens, lif
 abbrev pub View : Type 0
 View = DriverView (List Heard)
 
--- ---- which way two runs go
+-- ---- how two runs can differ
 
 abbrev pub Forks : View → View → Type 0
 Forks b c = AnswersDiffer b.wire b.history c.wire c.history ⊎ MemoryDiffers b.wire b.history c.wire c.history
     ⊎ MemoryDiffers c.wire c.history b.wire b.history
 
--- the trace and the history belong together
+-- The history's events from the wire are those that the answers of the trace cause.
 abbrev pub Told : View → Type 0
 Told a = filter is_outer a.history ≡ flat_map event_of a.wire
 
 abbrev pub Outcome : View → View → Type 0
 Outcome b c = (b ≡ c) ⊎ Forks b c
 
--- what is heard and what happens comes in front
+-- The trace and the history of the second state continue those of the first.
 abbrev pub Extends : View → View → Type 0
 Extends a b = (piece : List Heard) × (events : List PlainEvent) × (b.wire ≡ piece ++ a.wire) × (b.history ≡ events ++ a.history)
 
@@ -92,7 +93,7 @@ forks_more b c d e (inl (heard, answer, newer, later, older, events, more, past,
 forks_more b c d e (inr (inl m)) x y = inr (inl (memory_more b c d e m x y))
 forks_more b c d e (inr (inr m)) x y = inr (inr (memory_more c b e d m y x))
 
--- the next step of both
+-- Two runs that are the same, or differ from some moment on, do so after their next step too.
 pub next_of : (step : Step (List Heard)) (config : Config) (m n b c : View)
     → ((a b c : View) → Told a → step config a b → step config a c → Outcome b c) → ((a b : View) → step config a b → Extends a b)
     → Told m → Outcome m n → step config m b → step config n c → Outcome b c
@@ -121,7 +122,7 @@ pub same_then : (one other : Step (List Heard)) (config : Config) (a b c : View)
     → (one then other) config a b → (one then other) config a c → b ≡ c
 same_then one other config a b c first last (m, x, y) (n, z, w) = last m b c y (subst (λ k. other config k c) (sym (first m n x z)) w)
 
--- ---- what is heard
+-- ---- the answers of the wire
 
 pub through_records : (piece from to : List Heard) → Through Records piece from to → to ≡ piece ++ from
 through_records [] from to is = is
@@ -137,7 +138,8 @@ extends_by step config a b (later, (piece, is, through), h) (events, grown, all)
 heard_is : (heard : Heard) (config : Config) (a m : View) → Hears Records heard config a m → m ≡ record a { wire = heard ∷ a.wire }
 heard_is heard config a m (wire, was, is) = is ∙ ap (λ (w : List Heard). record a { wire = w }) was
 
--- asked alike, and answered either way
+-- Both runs ask the wire the same. If the answers are equal, the runs stay the same; else they
+-- differ from then on.
 pub asks : {A : Type 0} (f : A → Heard) (next : A → Step (List Heard)) (config : Config) (x y : A) → (x ≡ y) ⊎ (x ≢ y)
     → (question (f x) ≡ question (f y)) → (f x ≡ f y → x ≡ y)
     → ((z : A) (m b c : View) → next z config m b → next z config m c → b ≡ c)
@@ -168,7 +170,7 @@ asks f next config x y (inr differ) asked apart alike more a b c told (m, h, s) 
       (λ e. differ (apart e)),
     )) (more x m b s) (more y n c t))
 
--- ---- answers are the same or not
+-- ---- two answers are equal or not
 
 cases_all : (x y : Answer ⊤) → (x ≡ y) ⊎ (x ≢ y)
 cases_all (Got all) (Got other) = inl refl
@@ -221,7 +223,7 @@ cases_count Pending Failed = inr (λ e. cc)
 cases_count Failed (Got n) = inr (λ e. cc)
 cases_count Failed Pending = inr (λ e. cc)
 
--- ---- what the server is asked
+-- ---- the answers of the server's queries
 
 pub same_answer : {A : Type 0} (answer : List Act → A) (config : Config) (history : List PlainEvent) (x y : A)
     → Answered answer config history x → Answered answer config history y → x ≡ y
@@ -248,7 +250,7 @@ same_lowest None (Some c) config a all (lt, shut, below) =
     absurd (let z : true ≡ false = same_answer _ config a.history true false (all c lt) shut in cc)
 same_lowest None None config a all others = refl
 
--- ---- steps that ask nothing
+-- ---- steps that depend on no answer of the wire
 
 pub same_applied : (event : PlainEvent) (config : Config) (a b c : View) → IsApplied event config a b → IsApplied event config a c → b ≡ c
 same_applied event config a b c (log, was, answers, is) (other, also, answer, so) = is ∙ sym so
@@ -341,9 +343,9 @@ pub same_ends : (n : ℕ) (config : Config) (a b c : View) → Ends Records n co
 same_ends n config a b c (faulted, is, h) (other, so, k) = same_ends_if n faulted config a b c h
     (subst (λ (f : Bool). EndsIf Records n f config a c) (sym (same_answer _ config a.history faulted other is so)) k)
 
--- ---- steps that ask
+-- ---- steps that depend on an answer of the wire
 
--- what a step keeps belongs together
+-- After a step that satisfies `Keeps`, the trace and the history still belong together.
 pub told_by : (config : Config) (a b : View) → Keeps Records (λ s. ⊤) config a b → Told a → Told b
 told_by config a b k told = ap (filter is_outer) k.grown ∙ told_more k.events a.history k.piece a.wire k.told told
     ∙ ap (flat_map event_of) (sym (through_records k.piece a.wire b.wire k.through))

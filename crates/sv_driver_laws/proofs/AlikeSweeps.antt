@@ -1,4 +1,5 @@
--- Two runs over traces: the calls that are taken, the time that passes, and whole sweeps.
+-- Two runs over recorded traces take the same calls, let the same time pass and make the same
+-- sweeps, until they differ.
 use Rattle.std.proofs.Common.{◌≡◌, ℕ, zero, suc, ◌<◌, ◌≤◌, Bool, true, false, cond, List, [], ◌∷◌, nat_lt, Option, Some, None, Result, Ok, Err, refl, sym, ap, subst, ◌∙◌, inl, inr, arith}
 use Rattle.std.specs.Prelude.{⊤, if◌then◌else◌}
 use Rattle.std.proofs.Math.Nat.{eq-or-lt_of_le}
@@ -41,7 +42,7 @@ use Rattle.sv_driver_laws.proofs.Alike.{Told, told_by, each_told, View, Outcome,
 
 -- ---- calls are taken
 
--- why an event is refused, where it isn't for memory
+-- Why an event is refused; `None` if it isn't refused, or if only memory for it is refused.
 abbrev check_of : Result Did Refused → Option Refused
 check_of (Ok did) = None
 check_of (Err refused) = cond (is_no_memory refused) None (Some refused)
@@ -70,7 +71,7 @@ refuses_not : (n : ℕ) (so : Bool) (config : Config) (a b : View) → so ≡ fa
 refuses_not n true config a b e h = absurd cc
 refuses_not n false config a b e is = is
 
--- found memory, or found none
+-- If memory for a call is refused in one run only, the runs differ in this.
 one_finds : (n : ℕ) (refused : Refused) (config : Config) (a b c : View) → Told a → None ≡ check_of (Err refused)
     → b ≡ record a { history = Turn n ∷ a.history } → RefusesIf n (is_no_memory refused) config a c
     → MemoryDiffers b.wire b.history c.wire c.history
@@ -126,13 +127,13 @@ turns_alike n config a b c told (ready, is, h) (other, so, k) = by ready h
     by true (one, (m, (log, was, answers, x), s)) (two, (k, (other, also, answer, y), t)) =
         turn_alike n one two config a m k b c told (same_check (Turn n) config a.history log other one two was also answers answer) x y s t
 
--- ---- time
+-- ---- time passes
 
--- the event needs no memory
+-- The event never needs memory.
 abbrev NeedsNone : PlainEvent → Type 0
 NeedsNone event = (config : Config) (polled : ℕ) (log : List Act) → wants_memory (device_acts (own_acts config polled event log)) ≡ false
 
--- whether the event happened
+-- Whether the event wasn't refused.
 abbrev happens : Result Did Refused → Bool
 happens (Ok did) = true
 happens (Err refused) = false
@@ -195,7 +196,7 @@ abbrev above : ℕ → ℕ → ℕ
 above n zero = n
 above n (suc i) = suc (above n i)
 
--- one entry more in a longer run
+-- A longer run of entries begins with a shorter run and one entry more.
 longer : (config : Config) (n i : ℕ) (a c : View) → ForEach (suc (above n i)) (λ i. PlaysOne) config a c
     → (x y : View) × ForEach n (λ i. PlaysOne) config a x × PlaysOne config x y
 longer config n zero a c (m, x, s) = (m, c, x, s)
@@ -207,7 +208,6 @@ none_longer config n i a b c x none y =
     let (at, after, front, plays) = longer config n i a c y in
     not_due config b after none (subst (λ v. PlaysOne config v after) (same_each config n a at b front x) plays)
 
--- one number is a sum with the other
 apart_by : (n k : ℕ) → n < k → (i : ℕ) × (k ≡ suc (above n i))
 apart_by n zero lt = absurd (omega (arith, lt))
 apart_by n (suc k) lt = let le : n ≤ k = omega (arith, lt) in elim (eq-or-lt_of_le le) [
@@ -360,7 +360,7 @@ sweep_extends : (ticks : ℕ) (config : Config) (a b : View) → Sweeps Records 
 sweep_extends ticks config a b h =
     let k = (sweep_once Records config ticks a b h).k in (k.piece, k.events, through_records k.piece a.wire b.wire k.through, k.grown)
 
--- a run over a trace
+-- A run of sweeps and stimuli over a recorded trace.
 abbrev pub Runs : Config → List Handed → View → View → Type 0
 Runs config [] start now = now ≡ start
 Runs config (Passing ticks ∷ handed) start now = (between : View) × Runs config handed start between

@@ -1,4 +1,4 @@
--- Runs whose wires answer alike are the same.
+-- Two runs whose wires give the same answers, and in which memory is never refused, are the same.
 use Rattle.std.proofs.Common.{◌≡◌, ℕ, List, [], ◌∷◌, ◌++◌, map, refl, sym, ap, subst, ◌∙◌, inl, inr}
 use Rattle.std.specs.Prelude.{⊤}
 use Rattle.std.proofs.lemmas.List.{append_cancel_right}

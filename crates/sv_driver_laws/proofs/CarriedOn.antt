@@ -1,4 +1,4 @@
--- What any number of sweeps carries.
+-- Any number of sweeps satisfies `Carried`, and two runs of sweeps satisfy `Determined`.
 use Rattle.std.proofs.Common.{◌≡◌, ℕ, ◌≤◌, ◌-◌, Bool, true, false, List, [], ◌∷◌, ◌++◌, filter, flat_map, nat_lt, ◌⊎◌, inl, inr, Option, None, refl, sym, ap, subst, ◌∙◌}
 use Rattle.std.specs.Prelude.{not, ◌||◌}
 use Rattle.std.proofs.lemmas.List.{append_cancel_right}
@@ -95,7 +95,7 @@ is_carried hears notes config passed start now swept all =
       lets_go = all.lets;
     }
 
--- a sweep, as one over the trace
+-- A sweep over a wire, taken as a sweep over the recorded trace.
 record Traced {W : Type 0} (hears : W → Heard → W → Type 0) (config : Config) (ticks : ℕ) (x y : DriverView W) (trace : List Heard)
     : Type 0 where
   pub later : List Heard
@@ -121,12 +121,12 @@ traced hears config ticks x y trace h =
 abbrev Nothing : Subject → Type 0
 Nothing subject = ⊥
 
--- nothing is heard
+-- A step that may ask the wire nothing adds nothing to the trace.
 no_peers : (piece : List Heard) → AllMay Nothing piece → piece ≡ []
 no_peers [] may = refl
 no_peers (heard ∷ piece) may = absurd may.0
 
--- a stimulus, as one over the trace
+-- A stimulus over a wire is one over the recorded trace, to which it adds nothing.
 stimulus_onto : {W : Type 0} (hears : W → Heard → W → Type 0) (config : Config) (stimulus : Stimulus) (x y : DriverView W)
     (trace : List Heard) → Stimulates stimulus config x y → Stimulates stimulus config (onto x trace) (onto y trace)
 stimulus_onto hears config stimulus x y trace h =
@@ -246,7 +246,7 @@ carried hears notes config passed start now stands swept =
     let all = over hears notes config passed start now stands swept in
     (all.trace, all.history, all.through, all.stands, is_carried hears notes config passed start now swept all, all.parts)
 
--- two runs, up to what differs first
+-- Two runs that are the same, or differ from some moment on, are the same until then.
 same_until : (one two : View) → (one ≡ two) ⊎ Forks one two → SameUntil one.wire one.history two.wire two.history
 same_until one two (inl same) = inl (ap (λ v. v.wire) same, ap (λ v. v.history) same)
 same_until one two (inr forks) = inr forks

@@ -1,4 +1,4 @@
--- What each step of a connection carries.
+-- Each step of a sweep for a connection satisfies `Keeps`.
 use Rattle.std.proofs.Common.{eq-eqb, ◌≡◌, ℕ, eqb, Bool, true, false, List, [], ◌∷◌, ◌++◌, length, Option, Some, None, Result, Ok, Err, refl, sym, ap, subst, ◌∙◌, inl, inr}
 use Rattle.std.specs.Prelude.{◌==◌, ⊤}
 use Rattle.std.proofs.lemmas.Bool.{eqb-true}
@@ -64,7 +64,7 @@ pub accepts : {W : Type 0} (hears : W → Heard → W → Type 0) (May : Subject
 accepts hears May config may role before after (number, answer, low, (between, (wire, heard, is), opens)) =
     accept_by hears May config may role number answer wire before between after low heard is opens
 
--- ---- and closed
+-- ---- connections are closed
 
 abbrev pub closes : {W : Type 0} (hears : W → Heard → W → Type 0) (May : Subject
     → Type 0) (config : Config) (c : ℕ) (may : May OfNone × May (OfConn c)) (older : List Heard)
@@ -108,7 +108,7 @@ closes hears May config c may older before between after so still silent fit old
       step = λ trace d. step_close c trace d (of d log) channel_log.0;
     })
 
--- behind a failure
+-- The connection that failed is the one that is closed next.
 pub failed_next : (c d : ℕ) → eqb c d ≡ true → Some (WasClosed (Conn c)) ≡ Some (WasClosed (Conn d))
 failed_next c d e = ap (λ (n : ℕ). Some (WasClosed (Conn n))) (eqb-true c d e)
 
@@ -210,7 +210,7 @@ abbrev pub turns : {W : Type 0} (hears : W → Heard → W → Type 0) (May : Su
     → Turns c config before after → Keeps hears May config before after
 turns hears May config c before after (ready, is, h) = turns_if hears May config c ready before after h
 
--- ---- what waits is written
+-- ---- bytes that wait are written
 
 pub written_same : (port other : Port) (bytes more : List ℕ) (answer also : Answer ℕ)
     → WasWritten port bytes answer ≡ WasWritten other more also
@@ -338,7 +338,7 @@ writes hears May config port may before after
     (bytes, (log, channel_log, was, tells_so, waits), inr (some, answer, few, (between, (wire, heard, is), ends))) =
     write_by hears May config port may bytes answer wire before between after log channel_log was tells_so waits few heard is ends
 
--- ---- and faulted connections end
+-- ---- connections at fault are closed
 
 pub closes_if : {W : Type 0} (hears : W → Heard → W → Type 0) (May : Subject
     → Type 0) (config : Config) (c : ℕ) (may : May OfNone × May (OfConn c)) (so : Bool) (before after : DriverView W)

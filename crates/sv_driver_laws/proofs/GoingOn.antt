@@ -1,4 +1,4 @@
--- What a connection's bytes and calls are while its history goes on.
+-- How a connection's bytes and calls change as the history goes on.
 use Rattle.std.proofs.Common.{◌≡◌, ℕ, ◌≤◌, eqb, Bool, true, false, cond, List, [], ◌∷◌, ◌++◌, length, filter, flat_map, nat_lt, Some, None, refl, sym, ap, subst, ◌∙◌, inl, inr, append_assoc, append-nil, arith}
 use Rattle.std.specs.Prelude.{◌≢◌, ⊤}
 use Rattle.std.proofs.lemmas.Bool.{cases_Bool, ltb-false, ne_eqb, eqb-true}
@@ -42,12 +42,12 @@ none_read (Input channel microvolts ∷ events) none = ((λ c bytes e. absurd cc
 none_read (External ∷ events) none = ((λ c bytes e. absurd cc), none_read events none)
 none_read (Tick ∷ events) none = ((λ c bytes e. absurd cc), none_read events none)
 
--- ---- logs of a history and of one that goes on
+-- ---- the logs of a history and of its continuation
 
 abbrev pub brought : ℕ → List PlainEvent → List ConnAct
 brought c events = flat_map (brings c) events
 
--- the log in front of some events
+-- The history before some events has a log of its own.
 pub front_log : (config : Config) (events history : List PlainEvent) (log : List Act) → IsLogOf config (events ++ history) log
     → (front : List Act) × IsLogOf config history front
 front_log config [] history log is = (log, is)
@@ -67,7 +67,7 @@ calls_both (Piece bytes ∷ one) other h k = absurd h
 calls_both (BytesTaken count ∷ one) other h k = absurd h
 calls_both (PortClosed ∷ one) other h k = absurd h
 
--- behind events that bring nothing to a connection it has calls alone
+-- Events that don't open, read, write or close a connection add only acts of calls to it.
 pub calls_over : (config : Config) (events history : List PlainEvent) (front log : List Act) (c : ℕ) → brought c events ≡ []
     → IsLogOf config history front → IsLogOf config (events ++ history) log
     → (calls : List ConnAct) × AreCalls calls × (of c log ≡ calls ++ of c front)
@@ -82,7 +82,7 @@ calls_over config (event ∷ events) history front log c none was is =
           ∙ sym (append_assoc one.0 rest.0 (of c front)),
     )
 
--- ---- no more is taken than was sent
+-- ---- no more bytes are taken than were sent
 
 abbrev pub IsWithin : List ConnAct → Type 0
 IsWithin acts = is_open acts ≡ true → bytes_taken acts ≤ length (bytes_sent acts)
@@ -143,7 +143,7 @@ within_log config (event ∷ history) log c is =
     subst IsWithin (sym grown.2) (within_calls grown.0 (brings c event ++ of c is.0) grown.1
     (within_event config is.2 event is.0 c is.6 (within_log config history is.0 c is.4)))
 
--- so what waits stays in front of what comes to wait
+-- Acts of calls neither open nor close a connection, and append to the bytes that wait on it.
 pub calls_open : (adds acts : List ConnAct) → AreCalls adds → is_open (adds ++ acts) ≡ is_open acts
 calls_open [] acts h = refl
 calls_open (CallTaken call ∷ adds) acts h = calls_open adds acts h
@@ -176,7 +176,7 @@ waits_calls adds acts h within = elim (cases_Bool (is_open acts)) [
   | inr e ↦ ([], rw (calls_open adds acts h, e) refl)
 ]
 
--- ---- what steps don't touch
+-- ---- what steps leave alone
 
 abbrev pub Elsewhere : ℕ → Subject → Type 0
 Elsewhere c (OfRead d) = ⊥

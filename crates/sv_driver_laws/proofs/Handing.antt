@@ -1,4 +1,4 @@
--- What a write hands over is what waits there then.
+-- Each write passes exactly the bytes that waited on its port at that moment.
 use Rattle.std.proofs.Common.{◌≡◌, ℕ, List, [], ◌∷◌, ◌++◌, filter, flat_map, refl, sym, subst, ◌∙◌, append_assoc}
 use Rattle.std.specs.Prelude.{⊤}
 use Rattle.sv_history.specs.declared.event.Config.{Config}
@@ -16,7 +16,7 @@ abbrev pub HandsOver : Config → List PlainEvent → List Heard → Type 0
 HandsOver config history trace = EachHeard (λ heard older. (port : Port) (bytes : List ℕ) (answer : Answer ℕ)
     → heard ≡ WasWritten port bytes answer → Once (λ earlier. WaitOn port config earlier bytes) history older) trace
 
--- what was written waited by this history
+-- If this is a write, its bytes are those that wait on the port after this history.
 abbrev pub Fits : Config → List PlainEvent → Heard → Type 0
 Fits config history heard = (port : Port) (bytes : List ℕ) (answer : Answer ℕ) → heard ≡ WasWritten port bytes answer
     → WaitOn port config history bytes
@@ -25,7 +25,6 @@ abbrev pub AllFit : Config → List PlainEvent → List Heard → Type 0
 AllFit config history [] = ⊤
 AllFit config history (heard ∷ piece) = Fits config history heard × AllFit config history piece
 
--- no write at all
 abbrev pub IsNoWrite : Heard → Type 0
 IsNoWrite heard = (port : Port) (bytes : List ℕ) (answer : Answer ℕ) → heard ≡ WasWritten port bytes answer → ⊥
 

@@ -1,4 +1,5 @@
--- Which steps bring nothing of time.
+-- All steps of a sweep but the passing of time leave the scenario, the milliseconds and the timed
+-- events alone.
 use Rattle.std.proofs.Common.{◌≡◌, ℕ, zero, suc, Bool, true, false, List, length, filter, Option, Some, None, Result, Ok, Err, refl, ap, ◌∙◌, inl, inr}
 use Rattle.std.specs.Prelude.{◌==◌, ⊤}
 use Rattle.sv_history.specs.declared.event.Config.{Config}
@@ -19,7 +20,7 @@ use Rattle.sv_serve.specs.DriverView.{DriverView, ForEach}
 use Rattle.sv_serve.specs.Steps.{Hears, Given, IsApplied, Remembers, dialed_of, Opens, Accepts, ClosesChannelOn, Closes, ClosesIf, Comes, Drops, ProbesIf, ReadsFrom, RefusesIf, EndsTurn, TurnsIf, Turns, KeepsDial, CancelsUnwanted, ConnectResult, PollResult, DialsFor, Dials, EndsWrite, WritesTo, EndsIf, Ends}
 use Rattle.sv_driver_laws.specs.Timed.{is_timed}
 
--- what is to come, how many milliseconds passed, and what time brought, is as before
+-- The entries to come, the milliseconds counted and the timed events of the history are the same.
 abbrev pub Idles : {W : Type 0} → DriverView W → DriverView W → Type 0
 Idles a b = (b.ahead ≡ a.ahead) × (b.ticks ≡ a.ticks) × (filter is_timed b.history ≡ filter is_timed a.history)
     × (filter is_tick b.history ≡ filter is_tick a.history)

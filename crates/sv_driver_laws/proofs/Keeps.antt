@@ -1,4 +1,4 @@
--- What a step keeps, of which the wire was asked once at most.
+-- A step of the driver keeps the wire's answers and the server's events matching (`Keeps`).
 use Rattle.std.proofs.Common.{◌≡◌, ℕ, zero, suc, ◌<◌, true, false, List, [], ◌∷◌, ◌++◌, filter, flat_map, Option, Some, None, Result, Ok, Err, refl, sym, ap, subst, ◌∙◌, append_assoc, arith}
 use Rattle.std.specs.Prelude.{⊤}
 use Rattle.std.proofs.lemmas.List.Concat.{flat_map-append}
@@ -30,9 +30,10 @@ use Rattle.sv_serve.proofs.Suited.{suited}
 use Rattle.sv_driver_laws.proofs.Reasons.{IsCalm, AreCalm, Reasons, Closing, told_more, closing_silent, closing_more, closing_then, closing_event}
 use Rattle.sv_driver_laws.proofs.Ports.{Both, IsSilent, AreSilent, Keeping, keeping_event, keeping_silent}
 
--- ---- what steps carry
+-- ---- what steps keep
 
--- the connection that was read; that was written, accepted or closed; or none
+-- What an answer of the wire is about: a read of a connection; a connection that was accepted,
+-- probed, written or closed; or no connection.
 pub data Subject : Type 0 where
   OfRead : (conn : ℕ) → Subject
   OfConn : (conn : ℕ) → Subject
@@ -54,7 +55,8 @@ pub may_join : (May : Subject → Type 0) (one other : List Heard) → AllMay Ma
 may_join May [] other h k = k
 may_join May (heard ∷ one) other h k = (h.0, may_join May one other h.1 k)
 
--- From one moment to another one: what was heard, what happened, and what it keeps.
+-- From one state of the driver to another: the wire's answers, the events, and the properties of
+-- trace and history that stay true.
 pub record Keeps {W : Type 0} (hears : W → Heard → W → Type 0) (May : Subject
     → Type 0) (config : Config) (before after : DriverView W) : Type 0 where
   pub piece : List Heard
@@ -121,7 +123,7 @@ keeps_each hears May config step (suc n) each before after (between, front, last
     (keeps_each hears May config step n (λ c a b lt. each c a b (omega (arith, lt))) before between front)
     (each n between after (omega arith) last)
 
--- ---- what is heard and is no event
+-- ---- answers that cause no event
 
 pub silent_events : (piece : List Heard) → AreSilent piece → flat_map event_of piece ≡ []
 silent_events [] silent = refl
@@ -190,7 +192,7 @@ quiet_one hears May hung heard may wire before after was there same silent calm 
   may = (may, tt);
 }
 
--- the wire was asked, and nothing came of it
+-- The wire is asked, and its answer changes nothing else.
 abbrev pub only_heard : {W : Type 0} (hears : W → Heard → W → Type 0) (May : Subject
     → Type 0) (config : Config) (heard : Heard) (may : May (about heard)) (wire : W) (before between after : DriverView W)
     → hears before.wire heard wire → between ≡ record before { wire = wire } → IsSilent heard → IsCalm heard → IsNoWrite heard
@@ -218,9 +220,9 @@ pub hangs_up : {W : Type 0} (hears : W → Heard → W → Type 0) (May : Subjec
     → ClosesChannel hears c config before after → Quiet hears May (Some c) before after
 hangs_up hears May config may c before after h = hangs_on hears May config may c (dialed_of c before) before after h
 
--- ---- an event of the wire
+-- ---- an answer that causes an event
 
--- what suits is done
+-- An event that the answers of the server's queries allow (`Suits`) is applied.
 pub applied : {W : Type 0} (config : Config) (event : PlainEvent) (before after : DriverView W) (channel_log : List ChannelAct)
     (log : List Act)
     → IsLogOf config before.history log → HearsOf (device_acts log) channel_log → Suits event channel_log log
@@ -234,7 +236,7 @@ pub happened : {W : Type 0} (event : PlainEvent) (config : Config) (before after
     → after ≡ record before { history = event ∷ before.history }
 happened event config before after (log, was, answers, is) = is
 
--- the event of what was heard, with what is silent in front of it and behind it
+-- An answer causes its event. The answers before it and after it in the same step cause none.
 pub record Heeds {W : Type 0} (hears : W → Heard → W → Type 0) (May : Subject
     → Type 0) (config : Config) (heard : Heard) (event : PlainEvent)
     (newer older : List Heard) (before after : DriverView W) : Type 0 where
@@ -290,7 +292,7 @@ event_keeps hears May config heard event newer older before after e = record {
       e.unhung e.older_unhung h;
 }
 
--- asked and answered: the event that it is happens
+-- The wire is asked, and the event that its answer causes is applied.
 abbrev pub answer_keeps : {W : Type 0} (hears : W → Heard → W → Type 0) (May : Subject
     → Type 0) (config : Config) (heard : Heard) (may : May (about heard)) (event : PlainEvent) (wire : W)
     (before between after : DriverView W) (channel_log : List ChannelAct) (log : List Act) → IsLogOf config before.history log
@@ -331,7 +333,7 @@ answer_keeps hears May config heard may event wire before between after channel_
       step = step;
     })
 
--- ---- a driver's own event
+-- ---- events that the driver makes itself
 
 abbrev pub inner_by : {W : Type 0} (hears : W → Heard → W → Type 0) (May : Subject
     → Type 0) (config : Config) (event : PlainEvent) (result : Result Did Refused)

@@ -1,4 +1,5 @@
--- Why sockets of interrupt channels are closed.
+-- The socket of an interrupt channel is closed only after an answer that ends the channel, or while
+-- the channel isn't open.
 use Rattle.std.proofs.Common.{◌≡◌, ℕ, Bool, true, false, List, [], ◌∷◌, ◌++◌, filter, flat_map, Option, Some, None, refl, sym, subst, inl, inr, append_assoc}
 use Rattle.std.specs.Prelude.{⊤, ◌⊎◌, not, ◌||◌}
 use Rattle.sv_history.specs.declared.event.Config.{Config}
@@ -20,7 +21,7 @@ IsEnd c config history trace = Follows (ends_port (Intr c)) trace ⊎ Once (IsSh
 abbrev pub LetsGoRightly : Config → List PlainEvent → List Heard → Type 0
 LetsGoRightly config history trace = EachHeard (λ heard older. (c : ℕ) → heard ≡ WasClosed (Intr c) → IsEnd c config history older) trace
 
--- no socket of a channel is closed
+-- This doesn't close the socket of an interrupt channel.
 abbrev pub IsNoHang : Heard → Type 0
 IsNoHang heard = (c : ℕ) → heard ≡ WasClosed (Intr c) → ⊥
 
@@ -46,7 +47,8 @@ lets_none config history [] trace none h = h
 lets_none config history (heard ∷ piece) trace none h =
     ((λ c e. absurd (none.0 c e)), lets_none config history piece trace none.1 h)
 
--- what is put in front of a trace, if at most the socket of this one's channel is closed in it
+-- These answers close at most the socket of this channel: if there is a reason for that, they may
+-- follow the trace.
 abbrev pub Adds : Option ℕ → List Heard → Type 0
 Adds hung piece = (config : Config) (history : List PlainEvent) (trace : List Heard) → ((c : ℕ) → hung ≡ Some c
     → IsEnd c config history trace)

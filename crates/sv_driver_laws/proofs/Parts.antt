@@ -1,4 +1,4 @@
--- Which events the parts of a sweep have.
+-- Which events each part of a sweep adds to the history.
 use Rattle.std.proofs.Common.{◌≡◌, ℕ, zero, suc, ◌≤◌, ◌+◌, Bool, true, false, cond, eqb, List, [], ◌∷◌, ◌++◌, length, filter, ℤ, Option, Some, None, Result, Ok, Err, refl, sym, ap, subst, ◌∙◌, inl, inr, append_assoc, arith}
 use Rattle.std.specs.Prelude.{◌==◌, ⊤}
 use Rattle.std.specs.List.{AllByRecursion}
@@ -30,7 +30,7 @@ all_join : {A : Type 0} (P : A → Type 0) (a b : List A) → AllByRecursion P a
 all_join P [] b h k = k
 all_join P (x ∷ a) b h k = (h.0, all_join P a b h.1 k)
 
--- From one moment to another one such events happened.
+-- From one state to the other, only events that satisfy `P` were added to the history.
 abbrev pub Grows : {W : Type 0} → (PlainEvent → Type 0) → DriverView W → DriverView W → Type 0
 Grows P a b = (events : List PlainEvent) × (b.history ≡ events ++ a.history) × AllByRecursion P events
 
@@ -58,7 +58,7 @@ grows_map P Q a b so (events, grown, all) = (events, grown, each events all)
     each [] h = tt
     each (event ∷ events) h = (so event h.0, each events h.1)
 
--- they are these
+-- If the added events are these, each of them satisfies `P`.
 pub grows_by : {W : Type 0} (P : PlainEvent → Type 0) (a b : DriverView W) (events : List PlainEvent) → b.history ≡ events ++ a.history
     → Grows P a b → AllByRecursion P events
 grows_by P a b events grown (xs, x, h) = subst (AllByRecursion P) (append_cancel_right xs events a.history (sym x ∙ grown)) h
@@ -164,9 +164,9 @@ dials_grows P hears c config a b so (m, goes, (wanted, wants, h)) =
     grows_then P a m b (lets_go_grows P hears c (dialed_of c a) config a m goes)
     (calls_grows P hears c wanted (dialed_of c m) config m b so h)
 
--- ---- time
+-- ---- time passes
 
--- an event of time is such
+-- Each timed event satisfies `P`.
 abbrev pub OfTime : (PlainEvent → Type 0) → Type 0
 OfTime P = ((channel : ℕ) (microvolts : ℤ) → P (Input channel microvolts)) × P External × P Tick
 
@@ -200,7 +200,7 @@ passes_grows P ticks config a b so (m, each, last) = grows_then P a m b
 
 -- ---- writes
 
--- an event of a write or a close of the port is such
+-- Each Took and each Close of the port satisfies `P`.
 abbrev pub OfPort : (PlainEvent → Type 0) → Port → Type 0
 OfPort P port = ((n : ℕ) → P (Took port n)) × P (Close port)
 
@@ -232,7 +232,7 @@ pub ends_grows : {W : Type 0} (P : PlainEvent → Type 0) (hears : W → Heard �
     → P (Close (Conn c)) → Ends hears c config a b → Grows P a b
 ends_grows P hears c config a b close (faulted, is, h) = ends_if_grows P hears c faulted config a b close h
 
--- ---- turns
+-- ---- calls are taken
 
 turn_grows : {W : Type 0} (P : PlainEvent → Type 0) (c : ℕ) (result : Result Did Refused) (config : Config) (a b : DriverView W)
     → P (Refuse c) → EndsTurn c result config a b → Grows P a b
@@ -252,7 +252,7 @@ turns_grows P c config a b turn refuse (ready, is, h) = by ready h
     by true (result, (m, given, ends)) =
         grows_then P a m b (given_grows P (Turn c) result config a m turn given) (turn_grows P c result config m b refuse ends)
 
--- One call of the connection at most is taken.
+-- At most one call is taken, and it is one of this connection.
 abbrev pub Takes : {W : Type 0} → ℕ → DriverView W → DriverView W → Type 0
 Takes c a b = (events : List PlainEvent) × (b.history ≡ events ++ a.history)
     × ((d : ℕ) → length (filter (takes_call d) events) ≤ cond (eqb c d) 1 0)
@@ -282,7 +282,7 @@ takes_if : {W : Type 0} (c : ℕ) (ready : Bool) (config : Config) (a b : Driver
 takes_if c false config a b same = takes_none c a b (ap (λ m. m.history) same)
 takes_if c true config a b (result, (m, given, ends)) = takes_turn c result config a m b given ends
 
--- one call of each connection below this number
+-- At most one call of each connection below this number is taken, and no other call.
 abbrev pub TakesBelow : {W : Type 0} → ℕ → DriverView W → DriverView W → Type 0
 TakesBelow n a b = (events : List PlainEvent) × (b.history ≡ events ++ a.history)
     × ((d : ℕ) → (length (filter (takes_call d) events) ≤ 1) × (n ≤ d → length (filter (takes_call d) events) ≡ 0))

@@ -1,4 +1,4 @@
--- What dialing peers carries over, and time.
+-- Dialing peers, and the passing of time, satisfy `Keeps`.
 use Rattle.std.proofs.Common.{eq-eqb, ◌≡◌, ℕ, eqb, Bool, true, false, cond, List, [], ◌∷◌, ◌++◌, Option, Some, None, Result, Ok, Err, refl, sym, ap, subst, ◌∙◌}
 use Rattle.std.specs.Prelude.{⊤}
 use Rattle.sv_links.specs.declared.request.Peer.{Peer}
@@ -39,9 +39,10 @@ use Rattle.sv_driver_laws.proofs.Reasons.{IsCalm, AreCalm, closing_silent}
 use Rattle.sv_driver_laws.proofs.Ports.{Both, AreSilent, holds_silent, step_opened, Keeping}
 use Rattle.sv_driver_laws.proofs.Keeps.{Subject, OfNone, about, AllMay, may_join, Keeps, through_join, keeps_none, keeps_then, keeps_each, quiet_keeps, quiet_one, only_heard, hangs_up, happened, event_keeps, inner_by, inner_applies}
 
--- ---- peers are called
+-- ---- peers are dialed
 
--- an event that is none of a connection's, with what was heard of no port
+-- An event of no connection, caused by an answer about no port, leaves the bytes of all ports
+-- alone.
 pub step_else : (event : PlainEvent) (heard : Heard) (log : List Act) (channel_log : List ChannelAct) → ((c : ℕ) → brings c event ≡ [])
     → tells event log ≡ [] → ((port : Port) → begins port heard ≡ false) → ((c : ℕ) → read (Conn c) heard ≡ [])
     → ((port : Port) → taken_bytes port heard ≡ []) → (trace : List Heard) (c : ℕ) → Both c (of c log) channel_log trace
@@ -49,7 +50,7 @@ pub step_else : (event : PlainEvent) (heard : Heard) (log : List Act) (channel_l
 step_else event heard log channel_log none untold still unread untaken trace c h =
     rw (none c, untold) (holds_silent c heard trace (of c log) channel_log still (unread c) untaken h)
 
--- a call that waits for a peer has one
+-- A create_intr_chan that waits for a peer names one.
 pub peer_there : (call : Option CoreCall) (dial : Dial) → dial_in call ≡ Some dial → (one : Peer) × (peer_in call ≡ Some one)
 peer_there None dial e = absurd cc
 peer_there (Some call) dial e = by call.arguments e
@@ -62,7 +63,7 @@ pub dials_call : (is : Bool) (found : Option Dial) (dial : Dial) → Some dial �
 dials_call true found dial e = sym e
 dials_call false found dial e = absurd cc
 
--- its channel opens
+-- When the peer is connected, the interrupt channel opens, and its bytes are counted anew.
 pub step_dialed : (c : ℕ) (dial : Dial) (heard : Heard) (log : List Act) (channel_log : List ChannelAct) → Some dial ≡ dial_of c log
     → ((d : ℕ) → begins (Conn d) heard ≡ false) → ((d : ℕ) → read (Conn d) heard ≡ []) → ((port : Port) → taken_bytes port heard ≡ [])
     → ((d : ℕ) → begins (Intr d) heard ≡ eqb c d) → (trace : List Heard) (d : ℕ) → Both d (of d log) channel_log trace
@@ -73,7 +74,7 @@ step_dialed c dial heard log channel_log wanted still unread untaken opens trace
     subst (λ (found : Option Peer). Both d (of d log) (opened_to c found ++ channel_log) (heard ∷ trace)) (sym one.1)
     (step_opened c one.0 heard trace d (of d log) channel_log (still d) (unread d) (untaken (Conn d)) (opens d) (untaken (Intr d)) h)
 
--- whoever is wanted is called for a call that waits
+-- Telling the server that a peer was connected, or couldn't be, satisfies `Keeps`.
 abbrev pub dialed_keeps : {W : Type 0} (hears : W → Heard → W → Type 0) (May : Subject
     → Type 0) (config : Config) (c : ℕ) (may : May OfNone) (ok : Bool) (heard : Heard)
     (mine : about heard ≡ OfNone) (newer : List Heard) (all_may : AllMay May newer) (before between after : DriverView W) (log : List Act)
@@ -220,7 +221,7 @@ pub stimulus_untold : (stimulus : Stimulus) (log : List Act) → tells (stimulus
 stimulus_untold (stimuli.Input channel microvolts) log = refl
 stimulus_untold stimuli.External log = refl
 
--- what changes neither the wire nor the history
+-- A step that changes neither the wire nor the history satisfies `Keeps`.
 pub keeps_else : {W : Type 0} (hears : W → Heard → W → Type 0) (May : Subject → Type 0) (config : Config) (before after : DriverView W)
     → after.wire ≡ before.wire
     → after.history ≡ before.history → Keeps hears May config before after

@@ -1,4 +1,4 @@
--- What reads and writes of a wire do to the bytes of a connection, and of its interrupt channel.
+-- What reads and writes of the wire do to the bytes of a connection, and of its interrupt channel.
 use Rattle.std.proofs.Common.{◌≡◌, ℕ, zero, suc, ◌+◌, ◌-◌, ◌≤◌, eqb, ltb, flat_map, drop_at, true, false, List, [], ◌∷◌, ◌++◌, length, take, drop, Some, refl, sym, ap, subst, ◌∙◌, inl, inr, append_assoc, append-nil, arith}
 use Rattle.std.specs.Prelude.{⊤}
 use Rattle.std.specs.List.{concat}
@@ -25,7 +25,7 @@ use Rattle.sv_driver_laws.specs.Carried.{begins, read, taken_bytes, since}
 
 -- ---- one connection
 
--- This came, and this was taken.
+-- These are the bytes that came on the connection, and the bytes of replies that its peer took.
 abbrev pub Holds : List ConnAct → List ℕ → List ℕ → Type 0
 Holds acts came went = (stream acts ≡ came)
     × (is_open acts ≡ true → (went ++ bytes_left acts ≡ bytes_sent acts) × (bytes_taken acts ≤ length (bytes_sent acts)))
@@ -84,7 +84,7 @@ holds_adds c before after gone adds h opened =
     let all : concat (calls c after) ≡ concat (calls c before) ++ concat a.2 = ap concat a.3 ∙ concat_join (calls c before) a.2 in
     rw (a.1, all) (sent_more gone (concat (calls c before)) (concat a.2) (channel_taken c before) both.0 both.1)
 
--- the bytes of what is left of calls are what is left of their bytes
+-- The calls that remain after some bytes were taken have exactly the bytes that remain.
 drop_past : (count : ℕ) (xs ys : List ℕ) → length xs ≤ count → drop count (xs ++ ys) ≡ drop (count - length xs) ys
 drop_past count xs ys h =
     let both : length xs + (count - length xs) ≡ count = omega arith in
@@ -101,7 +101,7 @@ left_bytes count (call ∷ calls) = elim (cases_Bool (ltb count (length call))) 
       rw e (left_bytes (count - length call) calls ∙ sym (drop_past count call (concat calls) le))
 ]
 
--- ---- what was heard
+-- ---- the answers of the wire
 
 abbrev pub came : ℕ → List Heard → List ℕ
 came c trace = since (Conn c) (read (Conn c)) trace
@@ -109,7 +109,7 @@ came c trace = since (Conn c) (read (Conn c)) trace
 abbrev pub went : Port → List Heard → List ℕ
 went port trace = since port (taken_bytes port) trace
 
--- One that is no event, and of no port.
+-- The answer causes no event, and changes the bytes of no port.
 abbrev pub IsSilent : Heard → Type 0
 IsSilent heard = (event_of heard ≡ []) × ((port : Port) → begins port heard ≡ false) × ((port : Port) → read port heard ≡ [])
     × ((port : Port) → taken_bytes port heard ≡ [])
@@ -118,7 +118,7 @@ abbrev pub AreSilent : List Heard → Type 0
 AreSilent [] = ⊤
 AreSilent (heard ∷ piece) = IsSilent heard × AreSilent piece
 
--- a connection and its interrupt channel
+-- A connection and its interrupt channel have exchanged the bytes that the trace says.
 abbrev pub Both : ℕ → List ConnAct → List ChannelAct → List Heard → Type 0
 Both c acts channel_log trace = Holds acts (came c trace) (went (Conn c) trace) × HoldsOn c channel_log (went (Intr c) trace)
 
@@ -190,9 +190,9 @@ step_close c trace d acts channel_log h = (
   sent_silent d (WasClosed (Conn c)) trace channel_log refl refl h.1,
 )
 
--- ---- and of an interrupt channel
+-- ---- each event of an interrupt channel
 
--- bytes of it are taken
+-- The peer takes bytes of the channel.
 pub step_sent : (c n : ℕ) (bytes : List ℕ) (trace : List Heard) (d : ℕ) (acts : List ConnAct) (channel_log : List ChannelAct)
     → n ≤ length bytes
     → (eqb c d ≡ true → bytes ≡ channel_waiting d channel_log) → Both d acts channel_log trace
@@ -209,7 +209,7 @@ step_sent c n bytes trace d acts channel_log few waits h = (
   ],
 )
 
--- it opens, by an answer of this kind
+-- The channel opens, because of an answer of this kind.
 pub step_opened : (c : ℕ) (what : Peer) (heard : Heard) (trace : List Heard) (d : ℕ) (acts : List ConnAct) (channel_log : List ChannelAct)
     → begins (Conn d) heard ≡ false → read (Conn d) heard ≡ [] → taken_bytes (Conn d) heard ≡ [] → begins (Intr d) heard ≡ eqb c d
     → taken_bytes (Intr d) heard ≡ [] → Both d acts channel_log trace → Both d acts (ChannelOpened c what ∷ channel_log) (heard ∷ trace)

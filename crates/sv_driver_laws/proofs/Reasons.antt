@@ -1,5 +1,5 @@
--- Why connections are closed: a failure of the wire is followed by closing at once, and nothing
--- else is closed but what is at fault.
+-- A connection that failed is closed at once. Otherwise only a connection at fault is closed, and
+-- only if no bytes wait on it.
 use Rattle.std.proofs.Common.{◌≡◌, ℕ, Bool, true, false, List, [], ◌∷◌, ◌++◌, filter, flat_map, Option, Some, None, sym, ap, subst, ◌∙◌, inl, inr, append_assoc, append-nil}
 use Rattle.std.specs.Prelude.{⊤, ◌⊎◌}
 use Rattle.std.proofs.lemmas.List.Elements.{filter-append}
@@ -17,7 +17,7 @@ use Rattle.sv_driver_laws.specs.Served.{event_of, is_outer}
 use Rattle.sv_driver_laws.specs.Carried.{ends_port, ClosesAtOnce, EachHeard, Follows, Once}
 use Rattle.sv_driver_laws.proofs.Ports.{AreSilent}
 
--- ---- what is no failure
+-- ---- answers that are no failure
 
 abbrev pub IsCalm : Heard → Type 0
 IsCalm heard = (c : ℕ) → ends_port (Conn c) heard ≡ false
@@ -29,7 +29,7 @@ AreCalm (heard ∷ piece) = IsCalm heard × AreCalm piece
 pub no_failure : {A : Type 0} (b : Bool) → b ≡ false → b ≡ true → A
 no_failure {A} b off on = absurd (let z : false ≡ true = sym off ∙ on in cc)
 
--- what comes behind everything may come behind anything
+-- If the newest answer isn't a failure, anything may come next.
 once_before : (next : Option Heard) (trace : List Heard) → ClosesAtOnce None trace → ClosesAtOnce next trace
 once_before next [] h = tt
 once_before next (heard ∷ trace) h = ((λ c e. absurd (let z = h.0 c e in cc)), h.1)
@@ -45,7 +45,7 @@ calm_once next [] rest calm h = h next
 calm_once next (heard ∷ piece) rest calm h =
     ((λ c e. no_failure (ends_port (Conn c) heard) (calm.0 c) e), calm_once (Some heard) piece rest calm.1 h)
 
--- ---- reasons
+-- ---- reasons for closing a connection
 
 abbrev pub IsAtFault : ℕ → Config → List PlainEvent → Type 0
 IsAtFault c config earlier = (log : List Act) × IsLogOf config earlier log × (is_faulted (of c log) ≡ true) × (waiting (of c log) ≡ [])
@@ -56,13 +56,14 @@ IsReason c config history trace = Follows (ends_port (Conn c)) trace ⊎ Once (I
 abbrev pub HasReasons : Config → List PlainEvent → List Heard → Type 0
 HasReasons config history trace = EachHeard (λ heard older. (c : ℕ) → heard ≡ WasClosed (Conn c) → IsReason c config history older) trace
 
--- a place of a history is one of a longer one
+-- What once held of a history once held of each longer history.
 pub once_more : (IsSo : List PlainEvent → Type 0) (history events : List PlainEvent) (trace : List Heard) → Once IsSo history trace
     → Once IsSo (events ++ history) trace
 once_more IsSo history events trace (later, earlier, is, so, then_so) =
     (events ++ later, earlier, ap (λ (l : List PlainEvent). events ++ l) is ∙ sym (append_assoc events later earlier), so, then_so)
 
--- each connection that this closes is closed for a reason, behind these and a trace of that history
+-- If this closes a connection, there is a reason for it, whatever the trace up to the history
+-- `before` is.
 abbrev pub Reasons : Config → List PlainEvent → List PlainEvent → Heard → List Heard → Type 0
 Reasons config history before heard older = (trace : List Heard) → filter is_outer before ≡ flat_map event_of trace
     → (c : ℕ) → heard ≡ WasClosed (Conn c) → IsReason c config history (older ++ trace)
@@ -86,15 +87,16 @@ silent_reasons config history (heard ∷ piece) trace silent h = (
   silent_reasons config history piece trace silent.1 h,
 )
 
--- ---- of a step
+-- ---- what a step keeps
 
--- What was heard from one history to another one.
+-- These answers lead from one history to another. Failures are followed by a close, and closes have
+-- a reason.
 pub record Closing (config : Config) (before after : List PlainEvent) (piece : List Heard) : Type 0 where
   pub once : ClosesAtOnce None piece
   pub reasons : (trace : List Heard) → filter is_outer before ≡ flat_map event_of trace → HasReasons config before trace
       → HasReasons config after (piece ++ trace)
 
--- events and answers that go together, behind others that do
+-- Events and answers that match, after others that match, match together.
 pub told_more : (one other : List PlainEvent) (piece trace : List Heard) → filter is_outer one ≡ flat_map event_of piece
     → filter is_outer other ≡ flat_map event_of trace → filter is_outer (one ++ other) ≡ flat_map event_of (piece ++ trace)
 told_more one other piece trace h k = filter-append is_outer one other ∙ ap (λ (l : List PlainEvent). l ++ filter is_outer other) h

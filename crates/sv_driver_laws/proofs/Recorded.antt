@@ -23,22 +23,22 @@ use Rattle.sv_serve.specs.Steps.{Hears, Given, IsApplied, Remembers, dialed_of, 
 use Rattle.sv_serve.specs.Sweep.{PlaysOne, Plays, Counts, TicksOnce, Passes, Stimulates, Sweeps}
 use Rattle.sv_driver_laws.proofs.Keeps.{through_join}
 
--- a wire that is its own trace
+-- The wire whose state is the trace of its own answers.
 abbrev pub Records : List Heard → Heard → List Heard → Type 0
 Records before heard after = after ≡ heard ∷ before
 
 abbrev pub Step : Type 0 → Type 1
 Step W = Config → DriverView W → DriverView W → Type 0
 
--- the state with this trace in place of the wire
+-- The state with this trace in place of the wire.
 abbrev pub onto : {W : Type 0} → DriverView W → List Heard → DriverView (List Heard)
 onto a trace = record { wire = trace; history = a.history; dials = a.dials; ahead = a.ahead; ticks = a.ticks }
 
--- From one trace to the other one goes what was heard from one wire to the other.
+-- The answers that lead from one state of the wire to the other lead from one trace to the other.
 abbrev pub Along : {W : Type 0} → (W → Heard → W → Type 0) → List Heard → W → List Heard → W → Type 0
 Along hears trace from later to = (piece : List Heard) × (later ≡ piece ++ trace) × Through hears piece from to
 
--- the step over the trace
+-- The step, taken over the recorded trace instead of the wire.
 abbrev pub Lifts : {W : Type 0} → (W → Heard → W → Type 0) → Step (List Heard) → Config → DriverView W → DriverView W → List Heard → Type 0
 Lifts hears step config a b trace = (later : List Heard) × Along hears trace a.wire later b.wire × step config (onto a trace) (onto b later)
 
@@ -270,7 +270,7 @@ pub lift_ends : {W : Type 0} (hears : W → Heard → W → Type 0) (c : ℕ) (c
 lift_ends hears c config a b trace (faulted, is, h) =
     let (later, along, k) = lift_ends_if hears c faulted config a b trace h in (later, along, (faulted, is, k))
 
--- ---- time
+-- ---- time passes
 
 lift_plays_one : {W : Type 0} (hears : W → Heard → W → Type 0) (config : Config) (a b : DriverView W) (trace : List Heard)
     → PlaysOne config a b → Lifts hears PlaysOne config a b trace

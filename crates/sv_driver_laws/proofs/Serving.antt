@@ -1,4 +1,4 @@
--- What a sweep does for each connection.
+-- A sweep serves each connection (`IsServed`).
 use Rattle.std.proofs.Common.{◌≡◌, ◌⊎◌, ℕ, zero, suc, ◌<◌, ◌≤◌, Bool, true, false, List, [], ◌∷◌, ◌++◌, length, filter, nat_lt, Some, None, refl, sym, ap, subst, subst₂, ◌∙◌, inl, inr, append_assoc, arith}
 use Rattle.std.specs.Prelude.{⊤, ◌||◌}
 use Rattle.std.specs.List.{AllByRecursion}
@@ -39,7 +39,7 @@ use Rattle.sv_driver_laws.proofs.Carrying.{accepts, reads, write_by, ends}
 use Rattle.sv_driver_laws.proofs.GoingOn.{brought, none_read, front_log, calls_over, within_log, waits_calls, Elsewhere, Unread, may_all}
 use Rattle.sv_driver_laws.proofs.Turned.{Turned, Offered, had_more, offered_more, Nobody, keeps_unread, keeps_elsewhere, turned_keeps, turn_phase}
 
--- ---- what waits is written
+-- ---- bytes that wait are written
 
 abbrev pub Mine : ℕ → Subject → Type 0
 Mine c (OfRead d) = ⊥
@@ -100,7 +100,7 @@ pub none_waits : (xs ys : List ℕ) → [] ≡ xs ++ ys → xs ≡ []
 none_waits [] ys e = refl
 none_waits (x ∷ xs) ys e = absurd cc
 
--- what waited behind the turn is in front of what waits now
+-- The bytes that waited after the turn come first among those that wait now.
 pub still_waits : (config : Config) (c : ℕ) (history events : List PlainEvent) (log after : List Act)
     → (t : Turned config c history events) → IsLogOf config (events ++ history) log
     → IsLogOf config (t.turn ++ (t.first ++ history)) after → (more : List ℕ) × (waiting (of c log) ≡ waiting (of c after) ++ more)
@@ -260,7 +260,8 @@ pub record SweptOnce {W : Type 0} (hears : W → Heard → W → Type 0) (config
   pub offered : (c : ℕ) → c < 16 → Offered config c x.history k.events k.piece
   pub whole : (end : List Act) → IsLogOf config y.history end → IsWhole config x.history k.events k.piece
 
--- no call is taken; no time passes; nothing but writes and closes
+-- The event takes no call (`NotTaking`), isn't timed (`NotTimed`), or is a Took or a Close
+-- (`Sending`).
 abbrev NotTaking : PlainEvent → Type 0
 NotTaking event = is_taking event ≡ false
 

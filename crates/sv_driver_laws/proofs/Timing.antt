@@ -1,4 +1,4 @@
--- What time brings.
+-- Sweeps and stimuli add exactly the timed events that `IsTimely` states.
 use Rattle.std.proofs.Common.{◌≡◌, ℕ, zero, suc, ◌+◌, ◌-◌, ◌<◌, ◌≤◌, min, eqb, true, false, List, [], ◌∷◌, ◌++◌, length, filter, Result, Ok, Err, refl, sym, ap, subst, ◌∙◌, inl, inr, append_assoc, append-nil, arith, eq-eqb, nat_lt, lt-ltb, le-ltb}
 use Rattle.std.specs.Prelude.{◌==◌, ⊤, if◌then◌else◌}
 use Rattle.std.proofs.Math.Nat.{eq-or-lt_of_le}
@@ -30,7 +30,7 @@ use Rattle.sv_driver_laws.specs.Timed.{is_timed, entry_events, time_events, hand
 use Rattle.sv_driver_laws.proofs.Keeps.{applied}
 use Rattle.sv_driver_laws.proofs.Idling.{Idles, idles_same, idles_then, idles_each, accepts_idles, reads_idles, turns_idles, dials_idles, writes_idles, ends_idles}
 
--- ---- entries by their ticks
+-- ---- entries of the scenario by their milliseconds
 
 abbrev AllUpTo : ℕ → List Entry → Type 0
 AllUpTo n [] = ⊤
@@ -67,7 +67,6 @@ none_due : (n : ℕ) (xs : List Entry) → IsScenario n xs → IsNoneDue n xs �
 none_due n [] h none = tt
 none_due n (x ∷ xs) h none = (omega (arith, none), h.1, h.2)
 
--- least ticks
 scenario_from : (k n : ℕ) (xs : List Entry) → n ≤ k → IsScenario k xs → IsScenario n xs
 scenario_from k n [] le h = tt
 scenario_from k n (x ∷ xs) le h = (let more = h.0 in omega (arith, le, more), h.1, h.2)
@@ -80,7 +79,7 @@ timed_base : (n : ℕ) (s : List Entry) → entry_events n s ++ base n s ≡ tim
 timed_base zero s = append-nil (entry_events 0 s)
 timed_base (suc n) s = refl
 
--- ---- what holds while a scenario is played
+-- ---- what holds while a scenario is applied
 
 pub record InPlay {W : Type 0} (config : Config) (s : List Entry) (n k : ℕ) (a : DriverView W) : Type 0 where
   pub past : List Entry
@@ -115,7 +114,7 @@ timed_here config s n k a p none =
     ap (entry_events n) p.split ∙ played_join n p.past a.ahead ∙ ap (λ (l : List PlainEvent). l ++ entry_events n p.past) later in
     p.is ∙ ap (λ (l : List PlainEvent). l ++ base n s) (sym all) ∙ timed_base n s
 
--- ---- an entry is played
+-- ---- an entry is applied
 
 stimulus_timed : (stimulus : Stimulus) → (is_timed (stimulus_event stimulus) ≡ true) × (is_tick (stimulus_event stimulus) ≡ false)
 stimulus_timed (stimuli.Input channel microvolts) = (refl, refl)
@@ -160,7 +159,7 @@ play_each config s n k zero a b is p = idle_play config s n k a b (idles_same a 
 play_each config s n k (suc i) a b (m, front, last) p =
     play_one config s n k m b last (play_each config s n k i a m front p)
 
--- with what is due played
+-- All entries that are due were applied.
 record Rests {W : Type 0} (config : Config) (s : List Entry) (k : ℕ) (a : DriverView W) : Type 0 where
   pub n : ℕ
   pub play : InPlay config s n k a
@@ -283,7 +282,7 @@ sweep_timed hears config s k ticks m0 m10
       none = subst (λ l. IsNoneDue r.n l) (sym rest.0) r.none;
     }
 
--- in front of the first sweep
+-- Before the first sweep no millisecond has passed.
 pub begins : {W J : Type 0} (config : Config) (start : DriverState W J) → config.clock ≤ last_clock → start.ticks ≡ 0
     → IsScenario 0 start.ahead
     → Played config start.ahead 0 (driver_view start [])
@@ -302,7 +301,7 @@ begins config start clock zero_ticks rising = record {
   };
 }
 
--- and behind one
+-- After a sweep the timed events are those of all milliseconds up to then.
 pub behind : {W : Type 0} (hears : W → Heard → W → Type 0) (config : Config) (s : List Entry) (passed : List Handed) (ticks : ℕ)
     (a b : DriverView W) → Sweeps hears ticks config a b → Played config s (handed_ticks passed) a
     → Played config s (handed_ticks (Passing ticks ∷ passed)) b × (filter is_timed b.history
@@ -315,7 +314,7 @@ behind hears config s passed ticks a b sweeps p =
 
 -- ---- a stimulus is handed in
 
--- the entry stands behind all that is past, in front of all that is ahead
+-- The entry comes after all entries that were applied, and before all that are still to come.
 with_entry_here : (n : ℕ) (past ahead : List Entry) (entry : Entry) → entry.tick ≡ n → AllUpTo n past → IsNoneDue n ahead
     → with_entry entry (past ++ ahead) ≡ (past ++ entry ∷ []) ++ ahead
 with_entry_here n [] [] entry at upto none = refl
@@ -325,7 +324,7 @@ with_entry_here n (x ∷ past) ahead entry at upto none =
     rw (le-ltb entry.tick x.tick (omega (arith, at, le)))
     (ap (λ (l : List Entry). x ∷ l) (with_entry_here n past ahead entry at upto.1 none))
 
--- it adds nothing to the other milliseconds
+-- The entry adds no event to any other millisecond.
 entry_other : (j : ℕ) (s : List Entry) (entry : Entry) → eqb entry.tick j ≡ false → entry_events j (with_entry entry s) ≡ entry_events j s
 entry_other j [] entry ne = rw ne refl
 entry_other j (x ∷ xs) entry ne = cond_both (nat_lt entry.tick x.tick) (entry ∷ x ∷ xs) (x ∷ with_entry entry xs)

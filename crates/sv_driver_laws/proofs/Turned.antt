@@ -1,4 +1,5 @@
--- A connection that had its turn in a sweep.
+-- In a sweep each connection has its turn, and then the bytes that wait on it are passed to the
+-- wire.
 use Rattle.std.proofs.Common.{◌≡◌, ◌⊎◌, ℕ, zero, suc, ◌<◌, ◌≤◌, Bool, true, false, cond, List, [], ◌∷◌, ◌++◌, filter, nat_lt, Option, Some, None, Result, Ok, Err, refl, sym, ap, subst, ◌∙◌, inl, inr, append_assoc, arith, le-ltb}
 use Rattle.std.specs.Prelude.{not, ◌||◌, is_some}
 use Rattle.std.proofs.Math.Nat.{eq-or-lt_of_le}
@@ -32,7 +33,7 @@ use Rattle.sv_driver_laws.proofs.GoingOn.{is_bytes, brought, Elsewhere, Unread, 
 
 -- ---- a connection that had its turn
 
--- the events of its turn, those before the turn and those behind it
+-- The events of the connection's turn, those before the turn, and those after it.
 pub record HadTurn (config : Config) (c : ℕ) (history events : List PlainEvent) : Type 0 where
   pub first : List PlainEvent
   pub turn : List PlainEvent
@@ -43,7 +44,7 @@ pub record HadTurn (config : Config) (c : ℕ) (history events : List PlainEvent
   pub unread : filter is_bytes behind ≡ []
   pub takes : Takes config c before turn
 
--- with more events behind them
+-- If no bytes come with them, further events may follow.
 abbrev pub had_more : (config : Config) (c : ℕ) (history events more : List PlainEvent) → filter is_bytes more ≡ []
     → HadTurn config c history events → HadTurn config c history (more ++ events)
 had_more config c history events more unread t = record {
@@ -57,13 +58,13 @@ had_more config c history events more unread t = record {
   takes = t.takes;
 }
 
--- and behind the turn nothing was brought to it
+-- Since its turn the connection wasn't opened, read, written or closed.
 pub record Turned (config : Config) (c : ℕ) (history events : List PlainEvent) : Type 0 where
   pub had : HadTurn config c history events
   pub open had use *
   pub untouched : brought c behind ≡ []
 
--- it has its turn now
+-- The connection has its turn now.
 turned_by : (config : Config) (c : ℕ) (now history events turn : List PlainEvent) (log : List Act) → now ≡ events ++ history
     → IsLogOf config now log → Takes config c log turn → Turned config c history (turn ++ events)
 turned_by config c now history events turn log is was takes = record {
@@ -87,11 +88,11 @@ turned_more config c history events more unread untouched t = record {
   untouched = flat_map-append (brings c) more t.behind ∙ rw (untouched, t.untouched) refl;
 }
 
--- what waits on a connection is passed to the wire
+-- If any bytes wait on a connection, they are passed to the wire.
 abbrev pub Offers : ℕ → List Act → List Heard → Type 0
 Offers c log piece = (waiting (of c log) ≡ []) ⊎ IsWritten (Conn c) (waiting (of c log)) piece
 
--- and what waited then was offered
+-- The bytes that waited after the connection's turn are passed to the wire.
 pub record Offered (config : Config) (c : ℕ) (history events : List PlainEvent) (piece : List Heard) : Type 0 where
   pub had : HadTurn config c history events
   pub open had use *
@@ -126,7 +127,8 @@ nobody_elsewhere c s h = absurd h
 pub nobody_unread : (s : Subject) → Nobody s → Unread s
 nobody_unread s h = absurd h
 
--- what events of such steps are
+-- Steps that read no connection add no Bytes, and steps of other connections bring nothing to this
+-- one.
 pub keeps_unread : {W : Type 0} (hears : W → Heard → W → Type 0) (May : Subject → Type 0) (config : Config) (a b : DriverView W)
     → ((s : Subject) → May s → Unread s) → (k : Keeps hears May config a b) → filter is_bytes k.events ≡ []
 keeps_unread hears May config a b so k = bytes_outer k.events ∙ ap (filter is_bytes) k.told
@@ -179,7 +181,8 @@ short_by false true true few refused h far busy some = absurd cc
 short_by false true false true refused h far busy some = refl
 short_by false true false false refused h far busy some = absurd cc
 
--- a Turn that is refused, and not for want of memory, found no room
+-- If a Turn is refused, though there is a call to take, and not for lack of memory, there is no
+-- room for the longest reply.
 pub short : (config : Config) (history : List PlainEvent) (log : List Act) (c : ℕ) (channel_log : List ChannelAct) (refused : Refused)
     → c < 16
     → IsLogOf config history log → true ≡ not (is_idle (of c log)) → refusal config channel_log (Turn c) log ≡ Some refused
@@ -234,7 +237,7 @@ step_ready hears config c false x y history events log lt is was idle same = rec
 step_ready hears config c true x y history events log lt is was ready (result, (between, bytes_taken, ends)) =
     step_answer hears config c result x between y history events log lt is was ready bytes_taken ends
 
--- ---- all turns
+-- ---- the turns of all connections
 
 pub record TurnPhase {W : Type 0} (hears : W → Heard → W
     → Type 0) (config : Config) (n : ℕ) (history events : List PlainEvent) (x y : DriverView W) : Type 0 where

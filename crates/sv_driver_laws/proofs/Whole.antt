@@ -1,4 +1,5 @@
--- That a sweep asks for each interrupt channel, and writes what waits on each port.
+-- A sweep asks for each interrupt channel that has to be connected, and writes the bytes that wait
+-- on each port.
 use Rattle.std.proofs.Common.{◌≡◌, ◌≢◌, ◌⊎◌, ℕ, zero, suc, ◌<◌, ◌≤◌, true, false, eqb, List, [], ◌∷◌, ◌++◌, length, drop, nat_lt, Option, Some, None, refl, sym, ap, subst, ◌∙◌, inl, inr, append_assoc, arith}
 use Rattle.std.specs.Prelude.{⊤}
 use Rattle.std.specs.List.{AllByRecursion, concat}
@@ -37,7 +38,7 @@ use Rattle.sv_driver_laws.proofs.Carrying.{write_by}
 use Rattle.sv_driver_laws.proofs.GoingOn.{front_log, took_few}
 use Rattle.sv_driver_laws.proofs.Parts.{Grows, OfPort, grows_same, grows_then, grows_each, lets_go_grows, calls_grows, dials_grows, writes_grows}
 
--- ---- what was heard
+-- ---- what a trace contains
 
 abbrev pub In : Heard → List Heard → Type 0
 In heard piece = (newer older : List Heard) × (piece ≡ newer ++ (heard ∷ older))
@@ -50,7 +51,7 @@ pub in_back : (heard : Heard) (piece more : List Heard) → In heard piece → I
 in_back heard piece more (newer, older, is) =
     (newer, older ++ more, ap (λ (l : List Heard). l ++ more) is ∙ append_assoc newer (heard ∷ older) more)
 
--- ---- peers
+-- ---- peers are dialed
 
 abbrev pub Asked : ℕ → Dial → List Heard → Type 0
 Asked c dial piece = (answer : Answer ⊤) × (In (WasDialed c dial answer) piece ⊎ In (PeerAnswered c answer) piece)
@@ -67,12 +68,12 @@ pub is_asked : (c : ℕ) (dial : Dial) (piece : List Heard) → Asked c dial pie
 is_asked c dial piece (answer, inl (newer, older, is)) = (answer, newer, older, inl is)
 is_asked c dial piece (answer, inr (newer, older, is)) = (answer, newer, older, inr is)
 
--- neither a call is taken nor time passes
+-- The event takes no call, and isn't timed.
 abbrev pub IsBetween : PlainEvent → Type 0
 IsBetween event = (is_taking event ≡ false) × (is_timed event ≡ false)
 
--- one moment in these steps at which the channel of the connection is asked for, if it is to be
--- connected
+-- At some moment of these steps the channel of the connection needn't be connected, or the wire is
+-- asked to connect it.
 abbrev pub AsksFor : {W : Type 0} → Config → ℕ → DriverView W → DriverView W → List Heard → Type 0
 AsksFor config c a b piece = (m : DriverView _) × Grows IsBetween a m × Grows IsBetween m b × (log : List Act)
     × IsLogOf config m.history log × ((dial_of c log ≡ None) ⊎ ((dial : Dial) × (dial_of c log ≡ Some dial) × Asked c dial piece))
@@ -173,7 +174,7 @@ dial_phase hears May config (suc n) may x y (m, front, last) =
 
 -- ---- interrupt channels
 
--- no more is taken of a channel than was sent on it
+-- The peer of an open channel took no more bytes than were sent on the channel.
 abbrev pub WithinOn : ℕ → List ChannelAct → Type 0
 WithinOn c channel_log = is_channel_open c channel_log ≡ true
     → channel_taken c channel_log ≤ length (concat (calls c channel_log))
@@ -232,7 +233,7 @@ within_channel config (event ∷ history) log channel_log c is hears =
     (only_requests config event history is.0 log is.2 channel_log c is.4 is.5 is hears)
     (within_told config event is.0 c is.2 is.6 (within_channel config history is.0 is.2 c is.4 is.5))
 
--- An event tells the channel nothing.
+-- The event itself neither opens this channel nor takes bytes of it.
 abbrev pub Untold : ℕ → PlainEvent → Type 0
 Untold c event = (log : List Act) (channel_log : List ChannelAct) → OnlyAdds c channel_log (tells event log ++ channel_log)
 
@@ -258,7 +259,7 @@ adds_over config (event ∷ events) history front log channel_log later c all wa
     (adds_then c between.0 (tells event is.0 ++ between.0) later (all.0 is.0 between.0)
     (only_requests config event (events ++ history) is.0 log between.0 later c is.4 between.1 is then_hears))
 
--- over such steps
+-- Steps that add only such events add at most calls to the log of the channel.
 adds_grown : {W : Type 0} (config : Config) (a b : DriverView W) (front log : List Act) (channel_log later : List ChannelAct) (c : ℕ)
     → Grows (Untold c) a b → IsLogOf config a.history front → HearsOf (device_acts front) channel_log
     → IsLogOf config b.history log → HearsOf (device_acts log) later → OnlyAdds c channel_log later
@@ -266,7 +267,7 @@ adds_grown config a b front log channel_log later c (events, grown, all) was hea
     adds_over config events a.history front log channel_log later c all was hears
     (subst (λ h. IsLogOf config h log) grown is) then_hears
 
--- what waited is in front of what waits, while the channel is open
+-- While the channel is open, the bytes that waited on it come first among those that wait.
 waits_on : (c : ℕ) (before after : List ChannelAct) → OnlyAdds c before after → WithinOn c before → is_channel_open c after ≡ true
     → (more : List ℕ) × (channel_waiting c after ≡ channel_waiting c before ++ more)
 waits_on c before after adds within opened =
@@ -280,9 +281,9 @@ waits_on c before after adds within opened =
           ∙ ap (λ (l : List ℕ). l ++ concat a.2) (sym (left_bytes (channel_taken c before) (calls c before)))),
     )
 
--- ---- what waits is written
+-- ---- bytes that wait are written
 
--- the bytes are written with more behind them
+-- If there are any bytes, they are written, and further bytes may follow in the same write.
 abbrev pub Wrote : Port → List ℕ → List Heard → Type 0
 Wrote port bytes piece = (bytes ≡ []) ⊎ ((more : List ℕ) × (answer : Answer ℕ) × In (WasWritten port (bytes ++ more) answer) piece)
 
@@ -298,7 +299,7 @@ front_none : (xs ys : List ℕ) → xs ++ ys ≡ [] → xs ≡ []
 front_none [] ys e = refl
 front_none (x ∷ xs) ys e = absurd cc
 
--- all that waits is written, so what waited too
+-- A write of all bytes that wait also writes those that come first among them.
 pub wrote_less : (port : Port) (bytes all more : List ℕ) (piece : List Heard) → all ≡ bytes ++ more
     → (all ≡ []) ⊎ ((answer : Answer ℕ) × In (WasWritten port all answer) piece) → Wrote port bytes piece
 wrote_less port bytes all more piece is (inl none) = inl (front_none bytes more (sym is ∙ none))
@@ -356,7 +357,7 @@ intr_step hears May config c may x y
           );
     }
 
--- the channel isn't open
+-- The interrupt channel isn't open after this history.
 abbrev pub IsShutOn : {W : Type 0} → Config → ℕ → DriverView W → Type 0
 IsShutOn config c at = (log : List Act) (channel_log : List ChannelAct) → IsLogOf config at.history log
     → HearsOf (device_acts log) channel_log → is_channel_open c channel_log ≡ false

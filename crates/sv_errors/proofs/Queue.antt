@@ -1,5 +1,5 @@
--- The error queue after one more act: an error is reported, an error overflows the queue, an entry
--- is taken.
+-- The error queue after each act: an error is reported, one overflows the queue, or an entry is
+-- taken.
 use Rattle.std.proofs.Common.{◌≡◌, ℕ, suc, ◌+◌, ◌-◌, ◌<◌, ◌≤◌, Bool, true, false, ◌&&◌, cond, List, [], ◌∷◌, ◌++◌, length, take, drop, refl, sym, ap, subst, ◌∙◌, add-one, arith, ◌⊎◌, inl, inr, length-append, length-drop}
 use Rattle.std.specs.Prelude.{◌==◌, map, min, is_some, slice_get, unwrap_or}
 use Rattle.std.specs.List.{AllByRecursion}
@@ -11,22 +11,22 @@ use Rattle.sv_errors.specs.declared.error_queue.QueueAct.{QueueAct}
 use Rattle.sv_errors.specs.declared.error_queue.QueueAct.TheVariants.{Report, Take, Clear}
 use Rattle.sv_errors.specs.ErrorQueue.{Counted, left, admit, take_one, count_acts, entries, is_full, up_to, report_of as newest_report, is_overtaken, entry_code, queue_codes, lost, Queue, StandsFor, most, most_lost}
 
--- whether the newest act is a report, and its code
+-- Whether the newest act is a report, and its code.
 abbrev is_report : List QueueAct → Bool
 is_report acts = is_some (newest_report acts)
 
 abbrev reported : List QueueAct → Code
 reported acts = unwrap_or (newest_report acts) NoError
 
--- ---- what is left of the admitted reports
+-- ---- the admitted reports that weren't taken
 
--- a report that finds room is the newest of it
+-- A report for which there is room is added as the newest.
 left_admitted : (before : Counted) (place : ℕ) → before.taken ≤ length before.admitted → length (left before) < most
     → left (admit before place) ≡ left before ++ place ∷ []
 left_admitted before place few room = rw (lt-ltb (length (left before)) most room)
     (drop-append-le before.taken before.admitted (place ∷ []) few)
 
--- a report that finds none changes nothing
+-- A report to a full queue isn't admitted.
 admit_full : (before : Counted) (place : ℕ) → most ≤ length (left before) → admit before place ≡ before
 admit_full before place full = rw (le-ltb (length (left before)) most full) refl
 
@@ -35,14 +35,14 @@ any_or_none : (places : List ℕ) → (is_some (slice_get places 0) ≡ true) ×
 any_or_none [] = inr (refl, refl)
 any_or_none (place ∷ places) = inl (refl, omega arith)
 
--- taking leaves out the oldest
+-- A take removes the oldest.
 left_taken : (before : Counted) → left (take_one before) ≡ drop 1 (left before)
 left_taken before = elim (any_or_none (left before)) [
   | inl some ↦ rw some.0 (sym (drop-drop 1 before.taken before.admitted))
   | inr none ↦ rw none.0 (none.1 ∙ sym (ap (drop 1) none.1))
 ]
 
--- no more are taken than were admitted
+-- No more entries are taken than were admitted.
 taken_admitted : (before : Counted) (place : ℕ) → before.taken ≤ length before.admitted
     → (admit before place).taken ≤ length (admit before place).admitted
 taken_admitted before place few = elim (cases_lt (length (left before)) most) [
@@ -56,18 +56,16 @@ taken_taken before few = elim (any_or_none (left before)) [
   | inr none ↦ rw none.0 few
 ]
 
--- ---- what an entry shows, one act later
+-- ---- the code of an entry after one more act
 
--- the acts up to a place stay
 up_to_more : (place : ℕ) (act : QueueAct) (acts : List QueueAct) → place ≤ length acts → up_to place (act ∷ acts) ≡ up_to place acts
 up_to_more place act acts le = let e : length (act ∷ acts) - place ≡ suc (length acts - place) = omega arith in
     ap (λ (n : ℕ). drop n (act ∷ acts)) e
 
--- those up to the newest are all
 up_to_all : (acts : List QueueAct) → up_to (length acts) acts ≡ acts
 up_to_all acts = let e : length acts - length acts ≡ 0 = omega arith in ap (λ (n : ℕ). drop n acts) e
 
--- what came next after an older place stays
+-- What followed an older act doesn't change.
 overtaken_more : (place : ℕ) (act : QueueAct) (acts : List QueueAct) → place < length acts
     → is_overtaken place (act ∷ acts) ≡ is_overtaken place acts
 overtaken_more place act acts lt =
@@ -75,17 +73,16 @@ overtaken_more place act acts lt =
     ∙ ap is_report (up_to_more (place + 1) act acts (omega arith))
     ∙ sym (ap (λ (b : Bool). b && is_report (up_to (place + 1) acts)) (lt-ltb place (length acts) lt))
 
--- nothing came after the newest place
 overtaken_newest : (acts : List QueueAct) → is_overtaken (length acts) acts ≡ false
 overtaken_newest acts = ap (λ (b : Bool). b && is_report (up_to (length acts + 1) acts)) (le-ltb (length acts) (length acts) (omega arith))
 
--- the new act comes next after it
+-- The new act follows the newest one before it.
 overtaken_next : (act : QueueAct) (acts : List QueueAct) → is_overtaken (length acts) (act ∷ acts) ≡ is_report (act ∷ acts)
 overtaken_next act acts =
     ap (λ (b : Bool). b && is_report (up_to (length acts + 1) (act ∷ acts))) (lt-ltb (length acts) (suc (length acts)) (omega arith))
     ∙ ap (λ (n : ℕ). is_report (up_to n (act ∷ acts))) (add-one (length acts)) ∙ ap is_report (up_to_all (act ∷ acts))
 
--- what is shown, by the acts up to the place
+-- The code of an entry, from the acts up to its report.
 abbrev shows : List QueueAct → Bool → Code
 shows acts overtaken = cond (is_full acts && overtaken) QueueOverflow (reported acts)
 
@@ -100,13 +97,13 @@ shown_next act acts =
     ap (λ (rest : List QueueAct). shows rest (is_overtaken (length acts) (act ∷ acts)))
     (up_to_more (length acts) act acts (omega arith) ∙ up_to_all acts) ∙ ap (shows acts) (overtaken_next act acts)
 
--- the newest entry shows its report's code
+-- The newest entry has the code of its report.
 shown_newest : (acts : List QueueAct) → entry_code acts (length acts) ≡ reported acts
 shown_newest acts =
     ap (λ (rest : List QueueAct). shows rest (is_overtaken (length acts) acts)) (up_to_all acts) ∙ ap (shows acts) (overtaken_newest acts)
     ∙ ap (λ (b : Bool). cond b QueueOverflow (reported acts)) (and_right (is_full acts) false refl)
 
--- an act that is no report to a full queue changes nothing of what is shown
+-- Unless an error is reported to a full queue, no entry's code changes.
 shown_same : (place : ℕ) (act : QueueAct) (acts : List QueueAct) → (is_full acts && is_report (act ∷ acts)) ≡ false → place ≤ length acts
     → entry_code (act ∷ acts) place ≡ entry_code acts place
 shown_same place act acts quiet le = elim (cases_lt place (length acts)) [
@@ -116,7 +113,7 @@ shown_same place act acts quiet le = elim (cases_lt place (length acts)) [
       ∙ sym (shown_newest acts) ∙ sym (ap (entry_code acts) e)
 ]
 
--- ---- lists whose elements all have a property
+-- ---- properties of all elements
 
 all_push : (P : ℕ → Type 0) (xs : List ℕ) (x : ℕ) → AllByRecursion P xs → P x → AllByRecursion P (xs ++ x ∷ [])
 all_push P [] x all p = (p, tt)
@@ -134,10 +131,10 @@ map_same : (P : ℕ → Type 0) (f g : ℕ → Code) (xs : List ℕ) → ((x : �
 map_same P f g [] h all = refl
 map_same P f g (x ∷ xs) h all = ap (λ (c : Code). c ∷ map f xs) (h x all.0) ∙ ap (λ (cs : List Code). g x ∷ cs) (map_same P f g xs h all.1)
 
--- ---- what the entries are like
+-- ---- the invariant of the entries
 
--- The newest entry of a full queue is the newest act, or shows the overflow, and the others are
--- older.
+-- The newest entry of a full queue is that of the newest act, or it has the overflow code. The
+-- other entries are older.
 record IsFull (acts : List QueueAct) : Type 0 where
   front : List ℕ
   last : ℕ
@@ -146,14 +143,14 @@ record IsFull (acts : List QueueAct) : Type 0 where
   older : AllByRecursion (λ place. place < length acts) front
   newest : (last ≡ length acts) ⊎ (last < length acts) × (entry_code acts last ≡ QueueOverflow)
 
--- There are at most so many entries, each at a place of the acts.
+-- There are at most 64 entries, each of which belongs to one of the acts.
 record IsValid (acts : List QueueAct) : Type 0 where
   taken : (count_acts acts).taken ≤ length (count_acts acts).admitted
   few : length (entries acts) ≤ most
   within : AllByRecursion (λ place. place ≤ length acts) (entries acts)
   full : length (entries acts) ≡ most → IsFull acts
 
--- ---- a report that finds room
+-- ---- a report for which there is room
 
 entries_reported : (code : Code) (acts : List QueueAct) → IsValid acts → length (entries acts) < most
     → entries (Report code ∷ acts) ≡ entries acts ++ (length acts + 1) ∷ []
@@ -187,12 +184,12 @@ valid_reported code acts is room =
       full = reported_full code acts is room;
     }
 
--- ---- a report that finds none
+-- ---- a report to a full queue
 
 entries_overflowed : (code : Code) (acts : List QueueAct) → most ≤ length (entries acts) → entries (Report code ∷ acts) ≡ entries acts
 entries_overflowed code acts full = ap left (admit_full (count_acts acts) (length acts + 1) full)
 
--- the newest entry shows the overflow
+-- The newest entry gets the overflow code.
 shown_overflowed : (code : Code) (acts : List QueueAct) (last : ℕ) → length (entries acts) ≡ most
     → (last ≡ length acts) ⊎ (last < length acts) × (entry_code acts last ≡ QueueOverflow)
     → entry_code (Report code ∷ acts) last ≡ QueueOverflow
@@ -231,7 +228,7 @@ valid_overflowed code acts is full =
       full = λ e. overflowed_full code acts many (is.full many);
     }
 
--- ---- a taking
+-- ---- a take
 
 entries_taken : (acts : List QueueAct) → entries (Take ∷ acts) ≡ drop 1 (entries acts)
 entries_taken acts = left_taken (count_acts acts)
@@ -251,7 +248,7 @@ valid_taken acts is =
       full = λ many. absurd (omega arith);
     }
 
--- all acts keep this
+-- The invariant holds after all acts.
 valid : (acts : List QueueAct) → IsValid acts
 valid [] = record { taken = omega arith; few = omega arith; within = tt; full = λ many. absurd (omega arith) }
 valid (Report code ∷ acts) = elim (cases_lt (length (entries acts)) most) [
@@ -262,19 +259,18 @@ valid (Report code ∷ acts) = elim (cases_lt (length (entries acts)) most) [
 valid (Take ∷ acts) = valid_taken acts (valid acts)
 valid (Clear ∷ acts) = record { taken = omega arith; few = omega arith; within = tt; full = λ many. absurd (omega arith) }
 
--- ---- what is queued, one act later
+-- ---- the codes in the queue after one more act
 
--- what the entries show stays, but where a report overflows
+-- Unless an error is reported to a full queue, the entries keep their codes.
 shown_entries : (act : QueueAct) (acts : List QueueAct) → (is_full acts && is_report (act ∷ acts)) ≡ false
     → map (entry_code (act ∷ acts)) (entries acts) ≡ queue_codes acts
 shown_entries act acts quiet = map_same (λ place. place ≤ length acts) (entry_code (act ∷ acts)) (entry_code acts) (entries acts)
     (λ place le. shown_same place act acts quiet le) (valid acts).within
 
--- each entry shows one code
 pub length_queued : (acts : List QueueAct) → length (queue_codes acts) ≡ length (entries acts)
 length_queued acts = length-map (entries acts) (entry_code acts)
 
--- a report that finds room becomes the newest
+-- A report for which there is room adds its code as the newest.
 pub queued_reported : (code : Code) (acts : List QueueAct) → length (queue_codes acts) < most
     → queue_codes (Report code ∷ acts) ≡ queue_codes acts ++ code ∷ []
 queued_reported code acts few =
@@ -286,12 +282,12 @@ queued_reported code acts few =
     ∙ ap (λ (n : ℕ). queue_codes acts ++ entry_code (Report code ∷ acts) n ∷ []) (add-one (length acts))
     ∙ ap (λ (c : Code). queue_codes acts ++ c ∷ []) (shown_newest (Report code ∷ acts))
 
--- the entries of a full queue
+-- The codes of a full queue: those of the older entries, and that of the newest.
 full_shown : (acts : List QueueAct) (now : List QueueAct) (is : IsFull acts)
     → map (entry_code now) (entries acts) ≡ map (entry_code now) is.front ++ entry_code now is.last ∷ []
 full_shown acts now is = ap (map (entry_code now)) is.split ∙ map_push (entry_code now) is.front is.last
 
--- a report that finds none shows the overflow in the place of the newest
+-- A report to a full queue replaces the newest code by the overflow code.
 pub queued_overflowed : (code : Code) (acts : List QueueAct) → length (queue_codes acts) ≡ most
     → queue_codes (Report code ∷ acts) ≡ take (most - 1) (queue_codes acts) ++ QueueOverflow ∷ []
 queued_overflowed code acts full =
@@ -307,15 +303,14 @@ queued_overflowed code acts full =
     (map_same (λ place. place < length acts) (entry_code (Report code ∷ acts)) (entry_code acts) is.front
     (λ place lt. shown_older place (Report code) acts lt) is.older ∙ sym front)
 
--- a taking leaves out the oldest
+-- A take removes the oldest code.
 pub queued_taken : (acts : List QueueAct) → queue_codes (Take ∷ acts) ≡ drop 1 (queue_codes acts)
 queued_taken acts =
     ap (map (entry_code (Take ∷ acts))) (entries_taken acts) ∙ sym (drop-map (entry_code (Take ∷ acts)) 1 (entries acts))
     ∙ ap (drop 1) (shown_entries Take acts (and_right (is_full acts) false refl))
 
--- ---- how many errors are lost
+-- ---- the number of lost errors
 
--- a report that finds room loses nothing
 lost_reported : (code : Code) (acts : List QueueAct) → length (queue_codes acts) < most → lost (Report code ∷ acts) ≡ lost acts
 lost_reported code acts few =
     let room : (length (entries acts) == most) ≡ false =
@@ -323,14 +318,13 @@ lost_reported code acts few =
     let step : lost (Report code ∷ acts) ≡ lost acts + 0 = ap (λ (b : Bool). lost acts + cond b 1 0) room in
     omega (arith, step)
 
--- a report that finds none loses its error
 lost_overflowed : (code : Code) (acts : List QueueAct) → length (queue_codes acts) ≡ most → lost (Report code ∷ acts) ≡ lost acts + 1
 lost_overflowed code acts full =
     ap (λ (b : Bool). lost acts + cond b 1 0) (eq-eqb (length (entries acts)) most (sym (length_queued acts) ∙ full))
 
--- ---- what the queue holds stands for the acts
+-- ---- the queue stands for the acts
 
--- a report that finds room
+-- An error is reported, and there is room.
 pub stands_for_reported : (queue : Queue) (code : Code) (acts : List QueueAct) → length queue.codes < most → StandsFor queue acts
     → StandsFor (record queue { codes = queue.codes ++ code ∷ [] }) (Report code ∷ acts)
 stands_for_reported queue code acts room stands =
@@ -340,7 +334,7 @@ stands_for_reported queue code acts room stands =
       lost_count = stands.lost_count ∙ ap (λ (n : ℕ). min n most_lost) (sym (lost_reported code acts few));
     }
 
--- a report that finds none
+-- An error is reported to a full queue.
 pub stands_for_overflowed : (queue : Queue) (code : Code) (acts : List QueueAct) → length queue.codes ≡ most → StandsFor queue acts
     → StandsFor (record { codes = take (most - 1) queue.codes ++ QueueOverflow ∷ []; lost_count = min (queue.lost_count + 1) most_lost })
     (Report code ∷ acts)
@@ -351,7 +345,7 @@ stands_for_overflowed queue code acts full stands =
       lost_count = omega (arith, stands.lost_count, lost_overflowed code acts many);
     }
 
--- a taking
+-- An entry is taken.
 pub stands_for_taken : (queue : Queue) (acts : List QueueAct) → StandsFor queue acts
     → StandsFor (record queue { codes = drop 1 queue.codes }) (Take ∷ acts)
 stands_for_taken queue acts stands =
@@ -361,7 +355,7 @@ stands_for_taken queue acts stands =
       lost_count = stands.lost_count ∙ ap (λ (n : ℕ). min n most_lost) (sym same);
     }
 
--- clearing leaves no errors
+-- The queue is cleared.
 pub stands_for_cleared : (queue : Queue) (acts : List QueueAct) → StandsFor queue acts
     → StandsFor (record queue { codes = [] }) (Clear ∷ acts)
 stands_for_cleared queue acts stands =

@@ -1,4 +1,4 @@
--- Splitting program text into messages.
+-- Program text is split into messages, and further text continues the last message.
 use Rattle.std.proofs.Common.{◌≡◌, ℕ, zero, suc, ◌+◌, ◌==◌, Bool, true, false, not, ◌&&◌, ◌||◌, cond, List, [], ◌∷◌, ◌++◌, length, take, drop, refl, sym, ap, ◌∙◌, inl, inr, nat_lt, arith}
 use Rattle.std.proofs.lemmas.Bool.{cases_lt, lt-ltb, le-ltb}
 use Rattle.std.specs.List.{onto_first as onto}
@@ -6,16 +6,14 @@ use Rattle.sv_exchange.specs.Exchange.{Symbol, Byte, End, messages}
 use Rattle.sv_exchange.specs.Contents.{symbols, following}
 use Rattle.sv_exchange.specs.Fields.{first_size, has_line, second_at}
 
--- a byte in front of the first part leaves the parts behind it
 onto_some : (b : ℕ) (parts : List (List ℕ)) → (first : List ℕ) × (others : List (List ℕ)) × (onto b parts ≡ first ∷ others)
 onto_some b [] = (b ∷ [], [], refl)
 onto_some b (part ∷ parts) = (b ∷ part, parts, refl)
 
--- The parts have a first one.
 abbrev HasFirst : List (List ℕ) → Type 0
 HasFirst parts = (first : List ℕ) × (others : List (List ℕ)) × (parts ≡ first ∷ others)
 
--- there is always a first message
+-- There is always a first message, perhaps an empty one.
 pub messages_some : (symbols : List Symbol) → HasFirst (messages symbols)
 messages_some [] = ([], [], refl)
 messages_some (End ∷ symbols) = ([], messages symbols, refl)
@@ -25,17 +23,17 @@ messages_some (Byte b ∷ symbols) = at (b == 10)
     at true = ([], messages symbols, refl)
     at false = onto_some b (messages symbols)
 
--- The last part goes on with the first of new ones.
+-- The last part of `before` continues with the first part of `new`, and the others follow.
 abbrev GoesOn : List (List ℕ) → List (List ℕ) → List (List ℕ) → Type 0
 GoesOn before after new = (k : ℕ) (last first : List ℕ) (others : List (List ℕ)) → drop k before ≡ last ∷ [] → new ≡ first ∷ others
     → drop k after ≡ (last ++ first) ∷ others
 
--- so do the parts with an empty one in front
+-- The same if an empty part comes before them.
 goes_on_behind : (before after new : List (List ℕ)) → HasFirst before → GoesOn before after new → GoesOn ([] ∷ before) ([] ∷ after) new
 goes_on_behind before after new some goes zero last first others h e = let f = some.2 in absurd cc
 goes_on_behind before after new some goes (suc k) last first others h e = goes k last first others h e
 
--- and those with a byte in front
+-- The same if a byte comes before them.
 goes_on_onto : (b : ℕ) (before after new : List (List ℕ)) → HasFirst before → HasFirst after → GoesOn before after new
     → GoesOn (onto b before) (onto b after) new
 goes_on_onto b before after new some more goes zero last first others h e =
@@ -49,7 +47,7 @@ goes_on_onto b before after new some more goes (suc k) last first others h e =
     ap (λ (ps : List (List ℕ)). drop (suc k) (onto b ps)) more.2 ∙ sym (ap (drop (suc k)) more.2)
     ∙ goes (suc k) last first others (ap (drop (suc k)) some.2 ∙ rest) e
 
--- more text goes on with the last message
+-- Further text continues the last message.
 pub messages_append : (old new : List Symbol) → GoesOn (messages old) (messages (old ++ new)) (messages new)
 messages_append [] new zero last first others h e = let l : [] ≡ last = cc in e ∙ ap (λ (l : List ℕ). (l ++ first) ∷ others) l
 messages_append [] new (suc zero) last first others h e = absurd cc
@@ -66,12 +64,11 @@ messages_append (Byte b ∷ old) new k last first others h e = at (b == 10) (mes
     at false goes = goes_on_onto b (messages old) (messages (old ++ new)) (messages new) (messages_some old)
         (messages_some (old ++ new)) goes
 
--- the first message is cut off behind so many bytes of so many
+-- The first message has the first `n` of the `size` bytes; a new line or END ends it.
 abbrev cut_behind : ℕ → ℕ → List ℕ → Bool → List (List ℕ)
 cut_behind n size bytes mark = take n bytes ∷ following (nat_lt n size || mark) (drop (cond (nat_lt n size) (n + 1) size) bytes)
     (nat_lt n size && mark)
 
--- a byte in front
 cut_behind_cons : (b n m : ℕ) (bytes : List ℕ) (mark : Bool) → m ≡ suc n
     → onto b (cut_behind n (length bytes) bytes mark) ≡ cut_behind m (suc (length bytes)) (b ∷ bytes) mark
 cut_behind_cons b n m bytes mark e =
@@ -82,7 +79,7 @@ cut_behind_cons b n m bytes mark e =
       | inr ge ↦ rw (e, le-ltb n (length bytes) ge, le-ltb (suc n) (suc (length bytes)) (omega arith)) refl
     ]
 
--- the first message, and those behind it
+-- The first message of a text, and those after it.
 pub first_cut : (bytes : List ℕ) (mark : Bool)
     → messages (symbols bytes mark) ≡ take (first_size bytes) bytes
     ∷ following (has_line bytes || mark) (drop (second_at bytes) bytes) (has_line bytes && mark)

@@ -7,7 +7,7 @@ use Rattle.sv_exchange.specs.Contents.{Contents, StandsFor, IsShown, IsUnitDue, 
 use Rattle.sv_exchange.proofs.Cuts.{messages_some}
 use Rattle.sv_exchange.specs.Limits.{max_message}
 
--- whether there is a message behind the current one
+-- The current message has ended exactly if another one follows it.
 ended_by : (parts : List (List ℕ)) (k : ℕ) (message : List ℕ) (ended : Bool) (later : List ℕ) (mark : Bool)
     → drop k parts ≡ message ∷ following ended later mark → nat_lt (k + 1) (length parts) ≡ ended
 ended_by parts k message true later mark e =
@@ -19,44 +19,38 @@ ended_by parts k message false later mark e =
     let size : length parts - k ≡ 1 = sym (length-drop k parts) ∙ ap length e in
     le-ltb (k + 1) (length parts) (omega arith)
 
--- whether the current message has ended
 pub ended_is : (contents : Contents) (acts : List ExchangeAct) → StandsFor contents acts → has_ended acts ≡ contents.ended
 ended_is contents acts s =
     ended_by (messages (text acts)) (messages_finished acts) s.message contents.ended contents.later contents.end_pending s.text_left
 
--- the part at a place
 part_at : (parts : List (List ℕ)) (k : ℕ) (message : List ℕ) (others : List (List ℕ)) → drop k parts ≡ message ∷ others
     → slice_index_or parts k [] ≡ message
 part_at parts k message others e =
     let place : k + 0 ≡ k = omega arith in
     sym (ap (λ (n : ℕ). get_or parts n []) place) ∙ sym (get_or-drop k parts 0 []) ∙ ap (λ (ps : List (List ℕ)). get_or ps 0 []) e
 
--- the current message
 pub message_is : (contents : Contents) (acts : List ExchangeAct) (s : StandsFor contents acts) → message acts ≡ s.message
 message_is contents acts s = part_at (messages (text acts)) (messages_finished acts) s.message _ s.text_left
 
--- whether it is too long
 pub long_is : (contents : Contents) (acts : List ExchangeAct) → StandsFor contents acts → is_long acts ≡ contents.overlong
 long_is contents acts s = ap (λ (m : List ℕ). nat_lt max_message (length m)) (message_is contents acts s) ∙ sym s.size
 
--- what can be read, by what is kept
+-- The stored output determines what can be read.
 pub shown_is : (answering : Bool) (out : List ℕ) (given : List (List ℕ)) (readable : List ℕ) → IsShown answering out given readable
     → readable ≡ readable_of answering out
 shown_is true out given readable said = said.2
 shown_is false out given readable said = said.1
 
--- what can be read is the response
 pub readable_is : (contents : Contents) (acts : List ExchangeAct) → StandsFor contents acts → response acts ≡ shown_by contents
 readable_is contents acts s = shown_is contents.answering contents.output (answers acts) (response acts) s.shows
 
--- the element behind so many
 get_behind : (xs ys : List (List ℕ)) (n : ℕ) → length xs ≡ n → slice_get (xs ++ ys) n ≡ slice_get ys 0
 get_behind [] ys zero e = refl
 get_behind [] ys (suc n) e = absurd (omega arith)
 get_behind (x ∷ xs) ys zero e = absurd (omega arith)
 get_behind (x ∷ xs) ys (suc n) e = get_behind xs ys n (omega arith)
 
--- a unit is looked for in a message that isn't too long
+-- The units matter only if the message isn't too long.
 same_unit : (ended long lost : Bool) (x y : Option (List ℕ)) → (long ≡ false → x ≡ y)
     → cond (ended && (not long && not lost)) x None ≡ cond (ended && (not long && not lost)) y None
 same_unit true true lost x y h = refl
@@ -64,7 +58,7 @@ same_unit true false true x y h = refl
 same_unit true false false x y h = h refl
 same_unit false long lost x y h = refl
 
--- the next unit
+-- The next unit is the first one in the rest of the message.
 pub unit_is : (contents : Contents) (acts : List ExchangeAct) → StandsFor contents acts → next_unit acts ≡ unit_of contents
 unit_is contents acts s =
     let ended = ended_is contents acts s in
@@ -84,17 +78,17 @@ unit_is contents acts s =
     s.answers_dropped
     ∙ same_unit contents.ended contents.overlong contents.answers_dropped _ _ found
 
--- a response stands only before the first unit
+-- A response is left only before the first unit of a message, which interrupts it.
 interrupts_is : (first : Bool) (readable : List ℕ) → (first ≡ false → readable ≡ [])
     → (first && is_something readable) ≡ is_something readable
 interrupts_is true readable quiet = refl
 interrupts_is false readable quiet = sym (ap is_something (quiet refl))
 
--- what is due, by its parts
+-- The step that is due, from what determines it.
 abbrev due_by : Bool → Bool → Option (List ℕ) → Bool → Bool → Due
 due_by long told unit interrupts ended = cond (long && not told) OverrunDue (due_unit unit interrupts ended)
 
--- what is due by the acts is due by what is held
+-- The contents and the acts determine the same step.
 pub due_is : (contents : Contents) (acts : List ExchangeAct) → StandsFor contents acts → next_of contents ≡ due acts
 due_is contents acts s =
     let interrupts = interrupts_is (units_done (current acts) == 0) (response acts) s.no_response
@@ -108,15 +102,14 @@ due_is contents acts s =
     ∙ ap (λ (b : Bool). due_by contents.overlong contents.overrun_reported (unit_of contents) (is_something (shown_by contents)) b)
     (ended_is contents acts s))
 
--- The message at which a unit is due has ended, is not too long, lost no answers, and nothing can
--- be read.
+-- If a unit is due, its message has ended, isn't too long, lost no answers, and no response is
+-- left.
 pub record IsAtUnit (contents : Contents) : Type 0 where
   pub ended : contents.ended ≡ true
   pub short : contents.overlong ≡ false
   pub kept : contents.answers_dropped ≡ false
   pub no_response : is_something (shown_by contents) ≡ false
 
--- this is so where a unit is due
 pub at_unit : (contents : Contents) → IsUnitDue (next_of contents) → IsAtUnit contents
 at_unit contents due =
     at contents.ended contents.overlong contents.overrun_reported contents.answers_dropped (is_something (shown_by contents))
@@ -136,7 +129,7 @@ at_unit contents due =
     at true false told false true (Some unit) e f g h is = absurd cc
     at true false told false false found e f g h is = record { ended = e; short = f; kept = g; no_response = h }
 
--- a message is finished once it has ended
+-- A message is finished only after it has ended.
 pub at_finish : (contents : Contents) → next_of contents ≡ FinishDue → contents.ended ≡ true
 at_finish contents due =
     at contents.ended contents.overlong contents.overrun_reported (is_something (shown_by contents)) (unit_of contents) refl due
@@ -152,7 +145,7 @@ at_finish contents due =
     at false false told true (Some unit) e is = absurd cc
     at false false told false (Some unit) e is = absurd cc
 
--- the unit that was about to interrupt is due once there is no response
+-- After the response is dropped, the unit that interrupted it is due.
 pub at_interrupt : (contents : Contents) → next_of contents ≡ InterruptDue → IsUnitDue (next_of (record contents { output = [] }))
 at_interrupt contents due =
     at contents.overlong contents.overrun_reported contents.answering (unit_of contents) (is_something (shown_by contents)) contents.ended
@@ -173,7 +166,7 @@ at_interrupt contents due =
     at false told true (Some unit) true ended is = (unit, refl)
     at false told false (Some unit) true ended is = (unit, refl)
 
--- a message interrupts only a response that is there
+-- Only a response that can be read is interrupted.
 pub at_response : (contents : Contents) → next_of contents ≡ InterruptDue → is_something (shown_by contents) ≡ true
 at_response contents due =
     at contents.overlong contents.overrun_reported (unit_of contents) (is_something (shown_by contents)) contents.ended due
@@ -189,7 +182,7 @@ at_response contents due =
     at false told None false false is = absurd cc
     at false told (Some unit) false ended is = absurd cc
 
--- how many bytes came of a message that hasn't ended; `None` if it has ended, or is too long
+-- How many bytes have come of a message that hasn't ended; `None` if it has ended or is too long.
 abbrev pub unended_in : Contents → Option ℕ
 unended_in contents = cond (contents.ended || contents.overlong) None (Some (length contents.rest))
 

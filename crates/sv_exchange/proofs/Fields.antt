@@ -1,4 +1,4 @@
--- What a change of the fields makes of what is held.
+-- How each change of the fields changes the contents that they represent.
 use Rattle.std.proofs.Common.{◌≡◌, ℕ, ◌+◌, ◌-◌, ◌≤◌, Bool, true, false, ◌&&◌, ◌||◌, cond, List, [], ◌∷◌, ◌++◌, length, take, drop, refl, sym, ap, ◌∙◌, nat_lt, slice_range, arith}
 use Rattle.std.proofs.lemmas.List.{length-append, length-drop, length-take-le, drop-take, drop-drop, take_rest}
 use Rattle.std.proofs.Math.Seq.{take-append-add, drop-append-add}
@@ -7,17 +7,16 @@ use Rattle.sv_exchange.specs.Contents.{Contents}
 use Rattle.sv_exchange.specs.Fields.{contents_of, IsText, IsOut, first_size, second_at, has_line, after_accept, after_finish, with_answer}
 use Rattle.sv_exchange.specs.Limits.{max_message}
 
--- the later text is what one write brought
+-- The text after the current message is at most one write.
 pub few_later : (text : List ℕ) (at end behind : ℕ) (ended : Bool) → IsText ended (length text) at end behind
     → length (drop behind text) ≤ max_message
 few_later text at end behind true t = omega (arith, length-drop behind text)
 few_later text at end behind false t = omega (arith, length-drop behind text)
 
--- how long the rest of the current message is
 pub rest_size : (text : List ℕ) (at end : ℕ) → at ≤ end → end ≤ length text → length (slice_range text at end) ≡ end - at
 rest_size text at end le within = length-take-le (end - at) (drop at text) (omega (arith, length-drop at text))
 
--- some of it was stepped over
+-- Bytes of the current message were executed.
 pub done_holds : (text : List ℕ) (at end behind : ℕ) (ended mark long told lost answering : Bool) (response : List ℕ)
     (taken executed count : ℕ) → at ≤ end → end ≤ length text → count ≤ length (slice_range text at end)
     → contents_of text (at + count) end behind ended mark long told lost answering response taken (executed + count)
@@ -46,19 +45,17 @@ done_holds text at end behind ended mark long told lost answering response taken
     } in
     ap made rest
 
--- a slice that goes on into what was put behind
 take_over : (n m : ℕ) (xs ys : List ℕ) → n ≡ length xs → take (n + m) (xs ++ ys) ≡ xs ++ take m ys
 take_over n m xs ys e = ap (λ (k : ℕ). take (k + m) (xs ++ ys)) e ∙ take-append-add xs ys m
 
--- and what is left behind that
 drop_over : (n m : ℕ) (xs ys : List ℕ) → n ≡ length xs → drop (n + m) (xs ++ ys) ≡ drop m ys
 drop_over n m xs ys e = ap (λ (k : ℕ). drop (k + m) (xs ++ ys)) e ∙ drop-append-add xs ys m
 
--- the rest of a message that hasn't ended is all text
+-- If the message extends to the end of the text, its rest is all text from `at` on.
 rest_is_all : (text : List ℕ) (at end : ℕ) → end ≡ length text → slice_range text at end ≡ drop at text
 rest_is_all text at end e = ap (λ (n : ℕ). take (n - at) (drop at text)) e ∙ take_rest text at
 
--- the rest of the message with more text; none of it where the message is too long
+-- Further text continues the rest of the message; the rest is empty if the message is too long.
 rest_with : (text bytes : List ℕ) (before size at : ℕ) (long : Bool) → before ≡ length text → at ≡ cond long (before + size) 0
     → slice_range (text ++ bytes) at (before + size) ≡ cond long [] (text ++ take size bytes)
 rest_with text bytes before size at true e f =
@@ -68,7 +65,7 @@ rest_with text bytes before size at false e f =
     let all : before + size - 0 ≡ before + size = omega arith in
     rw (f, all) (take_over before size text bytes e)
 
--- the fields with more text
+-- More text is accepted.
 pub accept_holds : (text text' bytes : List ℕ) (at at' end behind before size second : ℕ)
     (ended ended' mark mark' long told lost answering given : Bool) (response : List ℕ) (taken executed : ℕ)
     → end ≡ length text → text' ≡ drop at text ++ bytes → before ≡ length (drop at text) → size ≡ first_size bytes
@@ -115,12 +112,12 @@ accept_holds text text' bytes at at' end behind before size second ended ended' 
     ∙ ap (λ (n : Bool). made (cond n [] (slice_range text at end ++ take (first_size bytes) bytes)) (has_line bytes || given)
     (drop (second_at bytes) bytes) (has_line bytes && given) n) long_is
 
--- where the text ends while the message hasn't
+-- A message that hasn't ended extends to the end of the text.
 pub open_end : (ended : Bool) (size at end behind : ℕ) → ended ≡ false → IsText ended size at end behind → end ≡ size
 open_end true size at end behind e t = absurd cc
 open_end false size at end behind e t = t.0
 
--- how long a response is with one more answer
+-- The length of the output with one more answer.
 pub size_with : (answering : Bool) (response answer : List ℕ) (taken before : ℕ) → IsOut answering (length response) taken
     → before ≡ cond answering (length response + 1) 0
     → length (with_answer answering (drop taken response) answer) ≡ before + length answer
@@ -128,21 +125,20 @@ size_with true response answer taken before out e =
     rw (out.1) (omega (arith, length-append response (59 ∷ answer)))
 size_with false response answer taken before out e = omega arith
 
--- none of the answers before was read
+-- While answers are collected, none of their bytes were read.
 pub with_all : (answering : Bool) (response answer : List ℕ) (taken : ℕ) → IsOut answering (length response) taken
     → with_answer answering response answer ≡ with_answer answering (drop taken response) answer
 with_all true response answer taken out = rw (out.1) refl
 with_all false response answer taken out = refl
 
--- what is left to read, with a new line behind the answers
+-- What is left to read after the new line is appended to the answers.
 read_closed : (answering : Bool) (response closed : List ℕ) (read : ℕ) → closed ≡ (if answering then response ++ 10 ∷ [] else response)
     → IsOut answering (length response) read
     → drop read closed ≡ (if answering then drop read response ++ 10 ∷ [] else drop read response)
 read_closed true response closed read is out = rw (out.1, is) refl
 read_closed false response closed read is out = ap (drop read) is
 
--- the next message becomes the current one, field by field, where it is looked for behind these
--- bytes
+-- Finishing a message makes the next one current: each field represents the contents after it.
 pub finish_fields : (text given : List ℕ) (cursor end next_start size behind : ℕ) (ended pending long told lost answering : Bool)
     (response closed : List ℕ) (read executed : ℕ) (new_ended new_pending : Bool) → given ≡ text
     → (let later = take (length given - next_start) (drop next_start given) in (size ≡ first_size later) × (behind ≡ second_at later)

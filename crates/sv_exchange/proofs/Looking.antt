@@ -1,4 +1,4 @@
--- A message that is looked at byte by byte, up to the semicolon behind its first unit.
+-- A message is read ahead byte by byte, up to the semicolon after its first unit.
 use Rattle.std.proofs.Common.{◌≡◌, ◌≢◌, ℕ, ◌+◌, ◌<◌, ◌≤◌, Bool, true, false, ◌&&◌, ◌||◌, cond, List, [], ◌∷◌, ◌++◌, length, take, drop, map, get_or, slice_get, slice_range, nat_lt, inl, inr, Option, Some, None, unwrap_or, refl, sym, ap, ◌∙◌, subst, append_assoc, append-nil, arith}
 use Rattle.std.specs.Prelude.{filter}
 use Rattle.std.specs.List.{list_all, list_any, onto_first as onto}
@@ -17,11 +17,11 @@ use Rattle.sv_exchange.specs.FirstUnit.{IsFirst}
 use Rattle.sv_exchange.specs.Ahead.{is_separator, IsOpen, IsFound, IsAhead, IsBegun, IsLooked, behind_semicolon, behind_space}
 use Rattle.sv_exchange.specs.declared.ahead.Ahead.{Ahead}
 
--- what parts leave as units
+-- The units that these parts leave.
 abbrev kept : List (List ℕ) → List (List ℕ)
 kept parts = filter is_something (map trim parts)
 
--- a part that a separator ends, and one that none ends
+-- A part before a semicolon, and a part without one.
 cut_over : (part more : List ℕ) → list_any is_separator part ≡ false → cut_at 59 (part ++ 59 ∷ more) ≡ part ∷ cut_at 59 more
 cut_over [] more e = refl
 cut_over (b ∷ part) more e =
@@ -35,7 +35,7 @@ cut_alone (b ∷ part) e =
     let parts = or_parts (is_separator b) (list_any is_separator part) e in
     ap (λ (t : Bool). cond t ([] ∷ cut_at 59 part) (onto b (cut_at 59 part))) parts.0 ∙ ap (onto b) (cut_alone part parts.1)
 
--- white space in front of units
+-- White space before units doesn't change them.
 kept_onto : (b : ℕ) (parts : List (List ℕ)) → is_white b ≡ true → kept (onto b parts) ≡ kept parts
 kept_onto b [] w =
     let none : trim (b ∷ []) ≡ [] = ap (λ (t : Bool). trim_end (cond t [] (b ∷ []))) w in
@@ -52,11 +52,11 @@ units_space b more w =
     ap (λ (t : Bool). kept (cond t ([] ∷ cut_at 59 more) (onto b (cut_at 59 more)))) (white_no_separator b w)
     ∙ kept_onto b (cut_at 59 more) w
 
--- a separator in front of them
+-- Neither does a semicolon.
 pub units_separator : (b : ℕ) (more : List ℕ) → b ≡ 59 → units (b ∷ more) ≡ units more
 units_separator b more e = ap (λ (n : ℕ). units (n ∷ more)) e
 
--- the unit in a part
+-- The unit that a part has.
 part_unit : (seen unit space : List ℕ) (parts : List (List ℕ)) → is_something unit ≡ true → IsOpen seen unit space
     → kept ((unit ++ space) ∷ parts) ≡ unit ∷ kept parts
 part_unit seen unit space parts some h =
@@ -72,7 +72,7 @@ something : (xs : List ℕ) (n : ℕ) → n < n + length xs → is_something xs 
 something [] n lt = absurd (omega (arith, lt))
 something (b ∷ xs) n lt = refl
 
--- a unit that is open
+-- Until its semicolon was read, a unit is open.
 opened : (ahead : Ahead) (seen : List ℕ) (h : IsAhead ahead seen) → ahead.closed ≡ false → IsOpen seen h.unit h.space
 opened ahead seen h e = subst (λ (t : Bool). IsFound t seen h.unit h.space) e h.found
 
@@ -80,7 +80,7 @@ closed_over : (ahead : Ahead) (seen : List ℕ) (h : IsAhead ahead seen) → ahe
     → (is_something h.unit ≡ true) × ((more : List ℕ) → units (seen ++ more) ≡ h.unit ∷ units more)
 closed_over ahead seen h e = subst (λ (t : Bool). IsFound t seen h.unit h.space) e h.found
 
--- Nothing has begun at the end of these bytes.
+-- No unit has begun in these bytes.
 blank_open : (seen : List ℕ) → ((more : List ℕ) → units (seen ++ more) ≡ units more) → IsOpen seen [] []
 blank_open seen left = record {
   left = left;
@@ -91,7 +91,7 @@ blank_open seen left = record {
   ends = refl;
 }
 
--- a byte that is stepped over
+-- A byte before the unit is skipped.
 pub stepped_over : (a new : Ahead) (seen : List ℕ) (b : ℕ) → a.closed ≡ false → a.end ≤ a.start
     → ((more : List ℕ) → units (b ∷ more) ≡ units more) → new.start ≡ a.looked + 1 → new.end ≡ a.looked + 1 → new.looked ≡ a.looked + 1
     → new.closed ≡ a.closed → new.partial ≡ a.partial → IsAhead a seen → IsAhead new (seen ++ b ∷ [])
@@ -117,14 +117,13 @@ stepped_over a new seen b unclosed none skips s e l c p h =
       found = subst (λ (t : Bool). IsFound t (seen ++ b ∷ []) [] []) (sym (c ∙ unclosed)) (blank_open (seen ++ b ∷ []) left);
     }
 
--- the front of what was looked at
 regrouped : (seen before unit space : List ℕ) (b : ℕ) → seen ≡ before ++ (unit ++ space)
     → seen ++ b ∷ [] ≡ before ++ (unit ++ (space ++ b ∷ []))
 regrouped seen before unit space b e =
     ap (λ (l : List ℕ). l ++ b ∷ []) e ∙ append_assoc before (unit ++ space) (b ∷ [])
     ∙ ap (λ (l : List ℕ). before ++ l) (append_assoc unit space (b ∷ []))
 
--- one byte more behind a unit, which is found as it was
+-- Another byte after the unit leaves the unit as it is.
 one_behind : (a new : Ahead) (seen : List ℕ) (b : ℕ) → new.start ≡ a.start → new.end ≡ a.end → new.looked ≡ a.looked + 1
     → new.partial ≡ a.partial → (h : IsAhead a seen) → IsFound new.closed (seen ++ b ∷ []) h.unit (h.space ++ b ∷ [])
     → IsAhead new (seen ++ b ∷ [])
@@ -143,7 +142,7 @@ one_behind a new seen b s e l p h found =
       found = found;
     }
 
--- a separator behind a unit
+-- A semicolon closes the unit.
 pub ended : (a new : Ahead) (seen : List ℕ) (b : ℕ) → a.closed ≡ false → a.start < a.end → b ≡ 59 → new.start ≡ a.start → new.end ≡ a.end
     → new.looked ≡ a.looked + 1 → new.closed ≡ true → new.partial ≡ a.partial → IsAhead a seen → IsAhead new (seen ++ b ∷ [])
 ended a new seen b unclosed lt is s e l c p h =
@@ -156,7 +155,7 @@ ended a new seen b unclosed lt is s e l c p h =
     one_behind a new seen b s e l p h
     (subst (λ (t : Bool). IsFound t (seen ++ b ∷ []) h.unit (h.space ++ b ∷ [])) (sym c) (some, left))
 
--- white space behind one
+-- White space may end the unit, or come within it.
 pub spaced : (a new : Ahead) (seen : List ℕ) (b : ℕ) → a.closed ≡ false → a.start < a.end → is_white b ≡ true → new.start ≡ a.start
     → new.end ≡ a.end → new.looked ≡ a.looked + 1 → new.closed ≡ a.closed → new.partial ≡ a.partial → IsAhead a seen
     → IsAhead new (seen ++ b ∷ [])
@@ -180,7 +179,7 @@ spaced a new seen b unclosed lt w s e l c p h =
       ends = o.ends;
     }))
 
--- another byte, behind what was open
+-- Another byte continues the unit, with the white space before it.
 pub grown_open : (seen unit space : List ℕ) (b : ℕ) → is_white b ≡ false → is_separator b ≡ false → IsOpen seen unit space
     → IsOpen (seen ++ b ∷ []) ((unit ++ space) ++ b ∷ []) []
 grown_open seen unit space b w k o =
@@ -239,7 +238,7 @@ grown a new seen bytes b h unclosed w k s e l c is reads =
       found = subst (λ (t : Bool). IsFound t (seen ++ b ∷ []) part []) (sym (c ∙ unclosed)) (grown_open seen h.unit h.space b w k o);
     }
 
--- the text is what is before the unit, the unit, and what is behind it
+-- The text is what comes before the unit, the unit, and what follows it.
 pub unit_parts : (a : Ahead) (text : List ℕ) (h : IsAhead a (take a.looked text))
     → text ≡ h.before ++ (h.unit ++ (h.space ++ drop a.looked text))
 unit_parts a text h =
@@ -247,14 +246,14 @@ unit_parts a text h =
     ∙ append_assoc h.before (h.unit ++ h.space) (drop a.looked text)
     ∙ ap (λ (l : List ℕ). h.before ++ l) (append_assoc h.unit h.space (drop a.looked text))
 
--- where the unit stands in the text
+-- The position of the unit in the text.
 unit_stands : (a : Ahead) (text : List ℕ) (h : IsAhead a (take a.looked text)) → StandsAt text a.start h.unit
 unit_stands a text h = (h.before, h.space ++ drop a.looked text, unit_parts a text h, sym h.begins)
 
 pub unit_slice : (a : Ahead) (text : List ℕ) (h : IsAhead a (take a.looked text)) → slice_range text a.start a.end ≡ h.unit
 unit_slice a text h = slice_stands text h.unit a.start a.end (unit_stands a text h) (omega (arith, h.begins, h.closes))
 
--- it is within it
+-- The unit is within the text.
 pub unit_within : (a : Ahead) (text : List ℕ) → IsBegun a text → (a.start ≤ a.end) × (a.end ≤ a.looked) × (a.looked ≤ length text)
 unit_within a text begun =
     let h = begun.seen in
@@ -263,7 +262,7 @@ unit_within a text begun =
     let inner : length (h.unit ++ h.space) ≡ length h.unit + length h.space = length-append h.unit h.space in
     (omega (arith, h.begins, h.closes), omega (arith, h.closes, h.size, size, inner), begun.within)
 
--- what is pushed with the next byte
+-- The white space and the byte that continue the unit.
 pub pushed_slice : (a : Ahead) (text : List ℕ) (b : ℕ) (h : IsAhead a (take a.looked text)) → a.looked < length text
     → b ≡ get_or text a.looked 0 → slice_range text a.end (a.looked + 1) ≡ h.space ++ b ∷ []
 pushed_slice a text b h lt is =
@@ -284,7 +283,7 @@ pushed_slice a text b h lt is =
     slice_stands text (h.space ++ b ∷ []) a.end (a.looked + 1) (front, behind, whole, at)
     (omega (arith, h.closes, h.size, size, inner, part))
 
--- a byte more was looked at
+-- One more byte was read.
 pub seen_more : (a new : Ahead) (text : List ℕ) (b : ℕ) → a.looked < length text → b ≡ get_or text a.looked 0 → new.looked ≡ a.looked + 1
     → IsAhead new (take a.looked text ++ b ∷ []) → IsBegun new text
 seen_more a new text b lt is l h =
@@ -292,7 +291,7 @@ seen_more a new text b lt is l h =
     ap (λ (n : ℕ). take n text) l ∙ take_more text a.looked 0 lt ∙ ap (λ (n : ℕ). take a.looked text ++ n ∷ []) (sym is) in
     record { within = omega (arith, l, lt); seen = subst (IsAhead new) (sym more) h }
 
--- a semicolon, by what it makes of the places
+-- After a semicolon, the state still describes what was read.
 pub semicolon_seen : (a new : Ahead) (text : List ℕ) → a.looked < length text → get_or text a.looked 0 ≡ 59 → a.closed ≡ false
     → new ≡ behind_semicolon a → IsBegun a text → IsBegun new text
 semicolon_seen a new text lt is unclosed e h = at (nat_lt a.start a.end) refl e
@@ -314,7 +313,7 @@ semicolon_seen a new text lt is unclosed e h = at (nat_lt a.start a.end) refl e
         (ap (λ (x : Ahead). x.start) e) (ap (λ (x : Ahead). x.end) e) (ap (λ (x : Ahead). x.looked) e)
         (ap (λ (x : Ahead). x.closed) e) (ap (λ (x : Ahead). x.partial) e) h.seen)
 
--- and white space
+-- The same after white space.
 pub space_seen : (a new : Ahead) (text : List ℕ) → a.looked < length text → is_white (get_or text a.looked 0) ≡ true → a.closed ≡ false
     → new ≡ behind_space a → IsBegun a text → IsBegun new text
 space_seen a new text lt w unclosed e h = at (nat_lt a.start a.end) refl e
@@ -336,7 +335,7 @@ space_seen a new text lt w unclosed e h = at (nat_lt a.start a.end) refl e
         (ap (λ (x : Ahead). x.start) e) (ap (λ (x : Ahead). x.end) e) (ap (λ (x : Ahead). x.looked) e)
         (ap (λ (x : Ahead). x.closed) e) (ap (λ (x : Ahead). x.partial) e) h.seen)
 
--- and another byte
+-- The same after another byte, which continues the unit.
 pub other_seen : (a new : Ahead) (text : List ℕ) → a.looked < length text → is_separator (get_or text a.looked 0) ≡ false
     → is_white (get_or text a.looked 0) ≡ false → a.closed ≡ false → new.start ≡ a.start → new.end ≡ a.looked + 1
     → new.looked ≡ a.looked + 1 → new.closed ≡ a.closed
@@ -348,7 +347,7 @@ other_seen a new text lt k w unclosed s e l c reads h =
     (grown a new (take a.looked text) (slice_range text a.end (a.looked + 1)) b h.seen unclosed w k s e l c
     (pushed_slice a text b h.seen lt refl) reads)
 
--- text that goes on
+-- Bytes that are appended to the text change nothing of what was read.
 pub goes_on : (a : Ahead) (text more : List ℕ) → IsBegun a text → IsBegun a (text ++ more)
 goes_on a text more h =
     let long = length-append text more in
@@ -357,7 +356,7 @@ goes_on a text more h =
       seen = subst (IsAhead a) (sym (take-append-le a.looked text more h.within)) h.seen;
     }
 
--- the first unit of a text that was looked at
+-- After the first unit, the units of the rest of the text follow.
 left_behind : (a : Ahead) (text : List ℕ) (h : IsLooked a text) → is_something h.begun.seen.unit ≡ true
     → units text ≡ h.begun.seen.unit ∷ units (drop a.looked text)
 left_behind a text h some = at a.closed refl
@@ -376,7 +375,7 @@ left_behind a text h some = at a.closed refl
         ∙ part_unit (take a.looked text) h.begun.seen.unit h.begun.seen.space [] some o
         ∙ ap (λ (l : List ℕ). h.begun.seen.unit ∷ units l) (sym none)
 
--- the bytes up to the semicolon after the unit, where more bytes follow
+-- If more bytes follow, those that were read have the first unit, whatever follows.
 front_over : (a : Ahead) (text : List ℕ) (h : IsLooked a text) → drop a.looked text ≢ []
     → (more : List ℕ) → units (take a.looked text ++ more) ≡ h.begun.seen.unit ∷ units more
 front_over a text h behind = at a.closed refl
@@ -398,7 +397,7 @@ first_is a text h lt =
       front = λ behind. front_over a text h behind;
     })
 
--- and none
+-- If no unit was found, the text has none.
 pub none_is : (a : Ahead) (text : List ℕ) → IsLooked a text → a.end ≤ a.start → units text ≡ []
 none_is a text h ge = at a.closed refl
   where
@@ -416,7 +415,7 @@ none_is a text h ge = at a.closed refl
         let all : take a.looked text ≡ text = take_all a.looked text (omega (arith, h.all e)) in
         ap units (sym all ∙ sym (append-nil (take a.looked text))) ∙ o.left [] ∙ ap (λ (l : List ℕ). units (l ++ [])) empty
 
--- the unit that is first is the one that was read
+-- The unit that was read is the first unit of the text.
 pub read_is : (a : Ahead) (text unit : List ℕ) → IsLooked a text → slice_get (units text) 0 ≡ Some unit
     → slice_range text a.start a.end ≡ unit
 read_is a text unit h is =

@@ -1,4 +1,4 @@
--- The steps that are due lower the measure.
+-- Each step that is due lowers the measure, so repeated stepping terminates.
 use Rattle.std.proofs.Common.{◌≡◌, ℕ, ◌+◌, ◌<◌, ◌≤◌, ◌==◌, Bool, true, false, ◌&&◌, ◌||◌, cond, List, [], length, take, drop, refl, ap, arith}
 use Rattle.std.proofs.lemmas.Bool.{ltb-true}
 use Rattle.std.proofs.lemmas.List.{length-drop, length-take-le}
@@ -11,7 +11,7 @@ bit_small : (b : Bool) → bit b ≤ 1
 bit_small true = omega arith
 bit_small false = omega arith
 
--- the text behind a message, once that is current
+-- The text that remains when the next message is current.
 next_size : (later : List ℕ) (line pending : Bool) → has_line later ≡ line
     → text_size (line || pending) (length (take (first_size later) later))
     (length (drop (cond line (first_size later + 1) (length later)) later)) (line && pending)
@@ -31,7 +31,7 @@ next_size later false false e =
     let within = place_within (λ b. b == 10) later in
     omega (arith, within, length-take-le (first_size later) later within)
 
--- a message was finished
+-- A message is finished.
 pub finish_measure : (contents new : Contents) → contents.ended ≡ true → new ≡ after_finish contents
     → exchange_measure new < exchange_measure contents
 finish_measure contents new ended is =
@@ -39,17 +39,16 @@ finish_measure contents new ended is =
     let next = next_size contents.later (has_line contents.later) contents.end_pending refl in
     rw is (omega (arith, old, next, bit_small (is_something (shown_by (after_finish contents)))))
 
--- without output nothing can be read
 nothing_shown : (answering : Bool) → is_something (readable_of answering []) ≡ false
 nothing_shown true = refl
 nothing_shown false = refl
 
--- a response was dropped
+-- A response is interrupted.
 pub interrupt_measure : (contents new : Contents) → is_something (shown_by contents) ≡ true → new ≡ record contents { output = [] }
     → exchange_measure new < exchange_measure contents
 interrupt_measure contents new some is = rw is (omega (arith, ap bit some, ap bit (nothing_shown contents.answering)))
 
--- an answer was put behind those before it, or all answers were dropped
+-- An answer is appended, or all answers are dropped; the measure doesn't rise.
 pub answer_measure : (contents new : Contents) (answer : List ℕ) (fits : Bool) → new ≡ after_answer contents answer fits
     → exchange_measure new ≤ exchange_measure contents
 answer_measure contents new answer true is = rw is (omega arith)

@@ -1,4 +1,4 @@
--- The place of the next unit in its message.
+-- The position of the next unit in its message.
 use Rattle.std.proofs.Common.{◌≡◌, ◌≢◌, ℕ, ◌+◌, Bool, true, false, not, ◌&&◌, cond, List, [], ◌++◌, take, drop, Option, Some, None, refl, sym, ap, ◌∙◌, append_assoc, append-nil, slice_get, arith}
 use Rattle.std.proofs.lemmas.List.{length-append, take_at}
 use Rattle.sv_exchange.specs.Exchange.{ExchangeAct, message, current, units, units_done, next_unit}
@@ -9,7 +9,7 @@ use Rattle.sv_exchange.specs.declared.ahead.Ahead.{Ahead}
 use Rattle.sv_exchange.proofs.Dues.{message_is, unit_is}
 use Rattle.sv_exchange.proofs.Looking.{unit_parts, unit_slice, read_is}
 
--- a message that has a next unit isn't too long
+-- A message that has a next unit isn't too long.
 has_unit : (ended long lost : Bool) (found : Option (List ℕ)) (unit : List ℕ)
     → cond (ended && (not long && not lost)) found None ≡ Some unit → (long ≡ false) × (found ≡ Some unit)
 has_unit true false false found unit e = (refl, e)
@@ -17,12 +17,11 @@ has_unit true false true found unit e = absurd cc
 has_unit true true lost found unit e = absurd cc
 has_unit false long lost found unit e = absurd cc
 
--- a message that has a unit has bytes
 has_bytes : (rest unit : List ℕ) → slice_get (units rest) 0 ≡ Some unit → rest ≢ []
 has_bytes rest unit e none =
     let nothing : None ≡ Some unit = sym (ap (λ (l : List ℕ). slice_get (units l) 0) none) ∙ e in absurd cc
 
--- where the unit stands in what is left, by how far this was read
+-- The next unit follows the executed bytes and those that were skipped before it.
 pub place_is : (contents : Contents) (acts : List ExchangeAct) (unit : List ℕ) (ahead : Ahead) → IsLooked ahead contents.rest
     → StandsFor contents acts → next_unit acts ≡ Some unit → IsPlaceOf (contents.place + ahead.start) unit acts
 place_is contents acts unit ahead looked s next =

@@ -1,10 +1,9 @@
--- Where an element first stands.
+-- The position of the first byte that passes a test.
 use Rattle.std.proofs.Common.{◌≡◌, ℕ, zero, suc, ◌+◌, ◌==◌, Bool, true, false, not, cond, List, [], ◌∷◌, length, take, min, refl, Some, arith}
 use Rattle.sv_exchange.specs.Read.{read_count}
 use Rattle.std.specs.List.{position_or_len}
 use Rattle.sv_exchange.specs.Limits.{max_read}
 
--- among the first k
 pub place_take : (p : ℕ → Bool) (bytes : List ℕ) (k : ℕ)
     → position_or_len p (take k bytes) ≡ min (position_or_len p bytes) (min k (length bytes))
 place_take p [] zero = refl
@@ -18,7 +17,7 @@ place_take p (b ∷ bytes) (suc k) = at (p b) (place_take p bytes k)
     at true h = omega arith
     at false h = omega arith
 
--- how many bytes a read gives that looks for the termination character within its limit
+-- A read returns bytes up to the termination character, if that comes within its limit.
 pub count_by_place : (response : List ℕ) (most last limit place count : ℕ) → limit ≡ min most (min max_read (length response))
     → place ≡ position_or_len (λ b. b == last) (take limit response)
     → count ≡ min limit (place + 1) → count ≡ read_count response most (Some last)

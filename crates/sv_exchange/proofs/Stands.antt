@@ -1,4 +1,4 @@
--- After each act, the stored contents agree with the acts.
+-- After each act, the stored contents stand for the acts.
 use Rattle.std.proofs.Common.{◌≡◌, ◌≢◌, ℕ, zero, suc, ◌+◌, ◌≤◌, ◌<◌, ◌==◌, Bool, true, false, not, ◌&&◌, ◌||◌, cond, List, [], ◌∷◌, ◌++◌, length, take, drop, refl, sym, ap, ◌∙◌, nat_lt, append_assoc, IsTrue, arith}
 use Rattle.std.proofs.lemmas.Bool.{lt-ltb, le-ltb, ltb-true}
 use Rattle.std.proofs.lemmas.List.{length-append, take-append-drop, drop-drop, drop_all, length-take-le}
@@ -12,12 +12,11 @@ use Rattle.sv_exchange.proofs.Responses.{response_after, response_finished, resp
 use Rattle.sv_exchange.proofs.Dues.{at_unit, readable_is}
 use Rattle.sv_exchange.specs.Limits.{max_message, max_response}
 
--- bytes that aren't something are none
 nothing_there : (bytes : List ℕ) → is_something bytes ≡ false → bytes ≡ []
 nothing_there [] h = refl
 nothing_there (b ∷ bytes) h = absurd cc
 
--- behind a unit that was executed
+-- After a unit is executed, the message goes on with what follows it.
 placed_further : (place count : ℕ) (rest message unit : List ℕ) (executed : List (List ℕ)) → IsFirst rest unit count
     → IsPlaced place rest message executed → IsPlaced (place + count) (drop count rest) message (executed ++ unit ∷ [])
 placed_further place count rest message unit executed first is =
@@ -35,7 +34,6 @@ placed_further place count rest message unit executed first is =
           ∙ sym (append_assoc executed (unit ∷ []) (units more));
     }
 
--- where no unit was executed
 pub placed_first : (place : ℕ) (rest message : List ℕ) → message ≡ rest → place ≡ 0 → IsPlaced place rest message []
 placed_first place rest message joined size = record {
   consumed = [];
@@ -45,7 +43,7 @@ placed_first place rest message joined size = record {
   behind = λ left more. refl;
 }
 
--- a unit was executed
+-- A unit is executed.
 pub done_stands : (contents new : Contents) (acts : List ExchangeAct) (unit : List ℕ) (count : ℕ) → IsUnitDue (next_of contents)
     → IsFirst contents.rest unit count
     → new ≡ record contents { rest = drop count contents.rest; place = contents.place + count } → StandsFor contents acts
@@ -68,24 +66,23 @@ done_stands contents new acts unit count due first is s =
       shows = s.shows;
     })
 
--- the text behind a message that has ended
+-- The messages after one that has ended.
 following_ended : (ended : Bool) (later : List ℕ) (mark : Bool) → ended ≡ true → following ended later mark ≡ messages (symbols later mark)
 following_ended true later mark e = refl
 following_ended false later mark e = absurd cc
 
--- and behind one that hasn't
 following_open : (ended : Bool) (later : List ℕ) (mark : Bool) → ended ≡ false → following ended later mark ≡ []
 following_open false later mark e = refl
 following_open true later mark e = absurd cc
 
--- the answers become the response
+-- When a message is finished, its answers become the response.
 said_after : (answering : Bool) (out : List ℕ) (given : List (List ℕ)) (readable : List ℕ) → IsShown answering out given readable
     → response_after given readable ≡ cond answering (out ++ 10 ∷ []) out
 said_after true out [] readable said = absurd (said.0 refl)
 said_after true out (answer ∷ others) readable said = ap (λ (l : List ℕ). l ++ 10 ∷ []) (sym said.1)
 said_after false out given readable said = ap (λ (g : List (List ℕ)). response_after g readable) said.0 ∙ said.1
 
--- a message was finished
+-- A message is finished.
 pub finish_stands : (contents new : Contents) (acts : List ExchangeAct) → contents.ended ≡ true → length contents.later ≤ max_message
     → new ≡ after_finish contents
     → StandsFor contents acts → StandsFor new (Finished ∷ acts)
@@ -115,7 +112,6 @@ finish_stands contents new acts ended few is s =
       shows = (refl, response_finished acts ∙ said_after contents.answering contents.output (answers acts) (response acts) s.shows);
     })
 
--- what is so where an answer may come
 pub may_parts : (ended lost something : Bool) → IsTrue (ended && (not lost && not something))
     → (ended ≡ true) × (lost ≡ false) × (something ≡ false)
 may_parts true false false h = (refl, refl, refl)
@@ -123,7 +119,6 @@ may_parts true true something h = absurd cc
 may_parts true false true h = absurd cc
 may_parts false lost something h = absurd cc
 
--- one more answer
 joined_push : (given : List (List ℕ)) (answer : List ℕ) → given ≢ []
     → joined_answers (given ++ answer ∷ []) ≡ joined_answers given ++ 59 ∷ answer
 joined_push [] answer some = absurd (some refl)
@@ -132,18 +127,17 @@ joined_push (first ∷ second ∷ given) answer some =
     ap (λ (l : List ℕ). first ++ 59 ∷ l) (joined_push (second ∷ given) answer (λ e. cc))
     ∙ sym (append_assoc first (59 ∷ joined_answers (second ∷ given)) (59 ∷ answer))
 
--- with one more answer there are some
 push_some : (given : List (List ℕ)) (answer : List ℕ) → given ++ answer ∷ [] ≢ []
 push_some [] answer e = cc
 push_some (first ∷ given) answer e = cc
 
--- what is kept with an answer
+-- The stored output with one more answer.
 joined_with : (answering : Bool) (out : List ℕ) (given : List (List ℕ)) (readable answer : List ℕ) → IsShown answering out given readable
     → joined_answers (given ++ answer ∷ []) ≡ with_answer answering out answer
 joined_with true out given readable answer said = joined_push given answer said.0 ∙ ap (λ (l : List ℕ). l ++ 59 ∷ answer) (sym said.1)
 joined_with false out given readable answer said = ap (λ (g : List (List ℕ)). joined_answers (g ++ answer ∷ [])) said.0
 
--- whether an answer fits
+-- Whether an answer fits, by the stored output.
 pub fits_is : (contents : Contents) (acts : List ExchangeAct) (answer : List ℕ) (size : ℕ)
     → length (with_answer contents.answering contents.output answer) ≡ size → StandsFor contents acts
     → fits_response (answers acts) answer ≡ nat_lt size max_response
@@ -152,7 +146,7 @@ fits_is contents acts answer size e s =
     (joined_with contents.answering contents.output (answers acts) (response acts) answer s.shows)
     ∙ ap (λ (n : ℕ). nat_lt n max_response) e
 
--- After an act that changes the output alone, what is said of the text stands as before.
+-- An act that changes only the output leaves what is known of the text.
 output_stands : (contents new : Contents) (acts later : List ExchangeAct) (dropped answering : Bool) (output : List ℕ)
     → new ≡ record contents { answers_dropped = dropped; answering = answering; output = output }
     → text later ≡ text acts → messages_finished later ≡ messages_finished acts
@@ -177,7 +171,7 @@ output_stands contents new acts later dropped answering output is texts finished
       shows = shows;
     })
 
--- an answer was put behind those before it
+-- An answer is appended.
 pub answered_stands : (contents new : Contents) (acts : List ExchangeAct) (answer : List ℕ) → IsTrue (may_respond contents)
     → new ≡ record contents { answering = true; output = with_answer contents.answering contents.output answer }
     → StandsFor contents acts → StandsFor new (Answered answer ∷ acts)
@@ -192,7 +186,7 @@ answered_stands contents new acts answer may is s =
       readable_is contents acts s ∙ nothing_there (shown_by contents) parts.2,
     ) s
 
--- all answers were dropped
+-- All answers are dropped.
 pub dropped_stands : (contents new : Contents) (acts : List ExchangeAct) → IsTrue (may_respond contents)
     → new ≡ record contents { answers_dropped = true; answering = false; output = [] }
     → StandsFor contents acts → StandsFor new (AnswersDropped ∷ acts)
@@ -201,12 +195,11 @@ dropped_stands contents new acts may is s =
     output_stands contents new acts (AnswersDropped ∷ acts) _ _ _ is refl refl refl refl s.no_response (λ unended. refl) refl
     (refl, readable_is contents acts s ∙ nothing_there (shown_by contents) parts.2) s
 
--- what isn't true is false
 pub not_true : (b : Bool) → IsTrue (not b) → b ≡ false
 not_true true h = absurd cc
 not_true false h = refl
 
--- while a message is too long it stays so
+-- A message that is too long stays so.
 long_on : (long : Bool) (message first rest : List ℕ) (n : ℕ) → long ≡ nat_lt max_message (length message) → length first ≡ n
     → (long ≡ false → message ≡ rest)
     → (long || nat_lt max_message (length rest + n)) ≡ nat_lt max_message (length (message ++ first))
@@ -218,14 +211,14 @@ long_on false message first rest n e f whole =
     let size : length rest + n ≡ length (message ++ first) = omega (arith, length-append message first, ap length (whole refl)) in
     ap (nat_lt max_message) size
 
--- of a message that isn't too long all bytes are kept
+-- If the message isn't too long, all its bytes are stored.
 grown : (long more : Bool) (message first rest : List ℕ) → (long || more) ≡ false → (long ≡ false → message ≡ rest)
     → message ++ first ≡ cond (long || more) [] (rest ++ first)
 grown false false message first rest short whole = ap (λ (l : List ℕ). l ++ first) (whole refl)
 grown false true message first rest short whole = absurd cc
 grown true more message first rest short whole = absurd cc
 
--- text was taken in
+-- Text is accepted.
 pub accept_stands : (contents new : Contents) (acts : List ExchangeAct) (bytes : List ℕ) (ended : Bool) → IsTrue (is_open contents)
     → new ≡ after_accept contents bytes ended
     → StandsFor contents acts → StandsFor new (Accepted bytes ended ∷ acts)
@@ -255,7 +248,7 @@ accept_stands contents new acts bytes ended open_now is s =
       shows = s.shows;
     })
 
--- what was read is taken from what is kept
+-- Bytes that are read are removed from the output.
 read_said : (answering : Bool) (out : List ℕ) (given : List (List ℕ)) (readable : List ℕ) (count : ℕ)
     → count ≤ length (readable_of answering out)
     → IsShown answering out given readable → IsShown answering (drop count out) given (drop count readable)
@@ -263,7 +256,7 @@ read_said true out given readable zero few said = said
 read_said true out given readable (suc count) few said = absurd (omega arith)
 read_said false out given readable count few said = (said.0, ap (drop count) said.1)
 
--- bytes of the response were read
+-- Bytes of the response are read.
 pub read_stands : (contents new : Contents) (acts : List ExchangeAct) (count : ℕ) → count ≤ length (shown_by contents)
     → new ≡ record contents { output = drop count contents.output }
     → StandsFor contents acts → StandsFor new (ResponseRead count ∷ acts)
@@ -273,13 +266,12 @@ read_stands contents new acts count few is s =
     (λ later. left ∙ drop_all count (response acts) (omega (arith, ap length (s.no_response later)))) s.no_answers s.answers_dropped
     (rw left (read_said contents.answering contents.output (answers acts) (response acts) count few s.shows)) s
 
--- without a response nothing is shown
 said_nothing : (answering : Bool) (out : List ℕ) (given : List (List ℕ)) (readable : List ℕ)
     → is_something (readable_of answering out) ≡ true → IsShown answering out given readable → IsShown answering [] given []
 said_nothing true out given readable some said = absurd cc
 said_nothing false out given readable some said = (said.0, refl)
 
--- a response was dropped
+-- A response is interrupted.
 pub interrupted_stands : (contents new : Contents) (acts : List ExchangeAct) → is_something (shown_by contents) ≡ true
     → new ≡ record contents { output = [] }
     → StandsFor contents acts → StandsFor new (Interrupted ∷ acts)
@@ -287,13 +279,12 @@ interrupted_stands contents new acts some is s =
     output_stands contents new acts (Interrupted ∷ acts) _ _ _ is refl refl refl refl (λ later. refl) s.no_answers s.answers_dropped
     (said_nothing contents.answering contents.output (answers acts) (response acts) some s.shows) s
 
--- without answers the response is what it was
 said_alone : (answering : Bool) (out : List ℕ) (given : List (List ℕ)) (readable : List ℕ) → answering ≡ false
     → IsShown answering out given readable → IsShown answering out [] readable
 said_alone true out given readable none said = absurd cc
 said_alone false out given readable none said = (refl, said.1)
 
--- a message that hasn't ended was dropped
+-- The text is dropped while its message hasn't ended.
 pub text_dropped_stands : (contents new : Contents) (acts : List ExchangeAct) → IsTrue (is_open contents)
     → new ≡ record empty { answering = contents.answering; output = contents.output } → StandsFor contents acts
     → StandsFor new (TextDropped ∷ acts)
@@ -315,7 +306,7 @@ text_dropped_stands contents new acts open_now is s =
       shows = said_alone contents.answering contents.output (answers acts) (response acts) none s.shows;
     })
 
--- after a device clear nothing is left
+-- A device clear leaves nothing.
 pub cleared_stands : (new : Contents) (acts : List ExchangeAct) → new ≡ empty → StandsFor new (Interrupted ∷ TextDropped ∷ acts)
 cleared_stands new acts is =
     rw is (record {
@@ -334,7 +325,7 @@ cleared_stands new acts is =
       shows = (refl, refl);
     })
 
--- before any act nothing is stored
+-- Before any act, nothing is stored.
 pub new_stands : (new : Contents) → new ≡ empty → StandsFor new []
 new_stands new is =
     rw is (record {

@@ -1,4 +1,4 @@
--- What is printed in several calls, or in a loop.
+-- What is printed in several calls, or in a loop, is the specified text.
 use Rattle.std.proofs.Common.{◌≡◌, ℕ, suc, add-one, ◌+◌, ◌<◌, ◌≤◌, ◌-◌, min, Bool, true, false, List, [], ◌∷◌, ◌++◌, length, take, drop, map, Option, subst, refl, sym, ap, ◌∙◌, append_assoc, append-nil, slice_index_or, arith}
 use Rattle.std.specs.Prelude.{not, if◌then◌else◌}
 use Rattle.std.specs.List.{concat, range_with_len}
@@ -15,14 +15,14 @@ use Rattle.sv_explain.specs.Value.{same_value, value_text}
 use Rattle.sv_explain.specs.Lines.{value_line, lines_of, has_link, links_without}
 use Rattle.sv_explain.specs.Inside.Names.{texts_of}
 
--- the pieces in which the line of a value is printed
+-- The pieces in which the line of a value is printed.
 pub line_text : (owner name text : List ℕ)
     → 61 ∷ 32 ∷ (owner ++ ((name ++ 32 ∷ []) ++ (text ++ 10 ∷ []))) ≡ value_line (owner ++ name) text
 line_text owner name text = ap (λ (l : List ℕ). 61 ∷ 32 ∷ l)
     (ap (λ (l : List ℕ). owner ++ l) (append_assoc name (32 ∷ []) (text ++ 10 ∷ []))
     ∙ sym (append_assoc owner name (32 ∷ (text ++ 10 ∷ []))))
 
--- the pieces in which the line of a link is printed
+-- The pieces in which the line of a link is printed.
 pub link_text : (name same lid text : List ℕ) → same ≡ name
     → (61 ∷ 32 ∷ (same ++ (lid ++ 32 ∷ []))) ++ (text ++ 10 ∷ []) ≡ value_line (name ++ lid) text
 link_text name same lid text e = ap (λ (l : List ℕ). 61 ∷ 32 ∷ l)
@@ -30,7 +30,7 @@ link_text name same lid text e = ap (λ (l : List ℕ). 61 ∷ 32 ∷ l)
     ∙ ap (λ (l : List ℕ). l ++ (text ++ 10 ∷ [])) (sym (append_assoc name lid (32 ∷ [])))
     ∙ append_assoc (name ++ lid) (32 ∷ []) (text ++ 10 ∷ []))
 
--- the pieces in which the line of a list of numbers is printed
+-- The pieces in which the line of a list of numbers is printed.
 pub list_text : (name numbers : List ℕ)
     → (61 ∷ 32 ∷ (name ++ [])) ++ (numbers ++ 10 ∷ []) ≡ 61 ∷ 32 ∷ (name ++ (numbers ++ 10 ∷ []))
 list_text name numbers = ap (λ (l : List ℕ). 61 ∷ 32 ∷ (l ++ (numbers ++ 10 ∷ []))) (append-nil name)
@@ -39,27 +39,25 @@ pub false_from_not : (b : Bool) → true ≡ not b → b ≡ false
 false_from_not true e = absurd cc
 false_from_not false e = refl
 
--- the text of what changed
+-- The text of a change is printed if there is a change.
 pub prints_something : (old new : Option (List ℕ)) (f g : Bool) (b : Bool) (text : List ℕ) → b ≡ false → Prints old f new g text
     → Prints old f new g (if b then [] else text)
 prints_something old new f g false text e x = x
 prints_something old new f g true text e x = absurd cc
 
--- all elements were printed
 pub prints_all : {X : Type 0} (f : X → List ℕ) (xs : List X) (i : ℕ) (old new : Option (List ℕ)) (a b : Bool) → length xs ≤ i
     → Prints old a new b (concat (map f (take i xs))) → Prints old a new b (concat (map f xs))
 prints_all f xs i old new a b h x = prints_as old new a b _ _ (texts_all f xs i h) x
 
--- ---- the lines of those values that changed
+-- ---- the lines of changed values
 
--- an index below the least of three numbers
 pub below_least : (a b c m n i : ℕ) → m ≡ min a b → n ≡ min m c → i < n → (i < a) × (i < b) × (i < c)
 below_least a b c m n i e f h = (grind arith, grind arith, grind arith)
 
 one_each : (a b c : ℕ) → min (min (suc a) (suc b)) (suc c) ≤ 0 → ⊥
 one_each a b c h = grind arith
 
--- no line without a name, or without a value
+-- Without a name or a value there is no line.
 no_lines : (owner : List ℕ) (names : List (Bor (List ℕ))) (olds news : List Value)
     → min (min (length names) (length olds)) (length news) ≤ 0 → lines_of owner (texts_of names) olds news ≡ []
 no_lines owner [] olds news h = refl
@@ -71,21 +69,21 @@ least_less : (a b c i : ℕ) → min (min a b) c ≤ i → min (min (a - i) (b -
 least_less a b c i h = grind arith
 
 module _ (owner : List ℕ) (names : List (Bor (List ℕ))) (olds news : List Value) where
-  -- the lines of the values from an index on
+  -- The lines of the values from an index on.
   abbrev lines_from : ℕ → List ℕ
   lines_from i = lines_of owner (texts_of (drop i names)) (drop i olds) (drop i news)
 
-  -- the line of one value, if it changed
+  -- The line of one value, if the value changed.
   abbrev line_at : ℕ → Bor (List ℕ) → Value → List ℕ
   line_at i n v = if same_value (slice_index_or olds i v) (slice_index_or news i v) then []
       else value_line (owner ++ (slice_index_or names i n).now) (value_text (slice_index_or news i v))
 
-  -- the first of them, and the rest
+  -- The first of these lines, and the others.
   lines_cut : (i : ℕ) (n : Bor (List ℕ)) (v : Value) → i < length names → i < length olds → i < length news
       → lines_from i ≡ line_at i n v ++ lines_from (i + 1)
   lines_cut i n v x y z = rw (add-one, drop-cons names i n, drop-cons olds i v, drop-cons news i v)
 
-  -- the line of one value more is printed
+  -- The line of another value is printed.
   pub values_more : (i : ℕ) (n : Bor (List ℕ)) (v : Value) (old mid new : Option (List ℕ)) (f g h : Bool)
       → (i < length names) × (i < length olds) × (i < length news)
       → (done : List ℕ) × (lines_from 0 ≡ done ++ lines_from i) × Prints old f mid g done
@@ -98,7 +96,7 @@ module _ (owner : List ℕ) (names : List (Bor (List ℕ))) (olds news : List Va
     prints_then old mid new f g h x.0 (line_at i n v) x.2 y,
   )
 
-  -- the loop is over: all lines are printed
+  -- After the loop, all lines are printed.
   pub values_all : (m n i : ℕ) (old new : Option (List ℕ)) (f g : Bool)
       → m ≡ min (length names) (length olds) → n ≡ min m (length news) → n ≤ i
       → (done : List ℕ) × (lines_from 0 ≡ done ++ lines_from i) × Prints old f new g done
@@ -111,11 +109,11 @@ module _ (owner : List ℕ) (names : List (Bor (List ℕ))) (olds news : List Va
 
 -- ---- the lines of links
 
--- the line of a link; none if the link is in another list
+-- The line of a link; empty if another list has the link.
 abbrev pub line_unless : (Listed → List ℕ) → List Listed → Listed → List ℕ
 line_unless line other link = if has_link other link.lid then [] else line link
 
--- the lines of the links that aren't in another list
+-- The lines of the links that another list doesn't have.
 pub without_lines : (line : Listed → List ℕ) (other links : List Listed)
     → concat (map (line_unless line other) links) ≡ concat (map line (links_without links other))
 without_lines line other [] = refl
@@ -129,7 +127,7 @@ without_lines line other (link ∷ links) = step (has_link other link.lid) refl 
 
 -- ---- texts by number
 
--- the text of one number more is printed
+-- The text of another number is printed.
 pub prints_next : (f : ℕ → List ℕ) (n : ℕ) (old mid new : Option (List ℕ)) (a b c : Bool)
     → Prints old a mid b (concat (map f (range_with_len 0 n))) → Prints mid b new c (f n)
     → Prints old a new c (concat (map f (range_with_len 0 (n + 1))))
@@ -138,7 +136,6 @@ prints_next f n old mid new a b c x y = prints_as old new a c _ _
     ∙ ap (λ (l : List ℕ). concat (map f (range_with_len 0 n)) ++ l) (append-nil (f n))))
     (prints_then old mid new a b c (concat (map f (range_with_len 0 n))) (f n) x y)
 
--- the text of two things that are equal to two others
 pub prints_of : {X : Type 0} (text : X → X → List ℕ) (a b c d : X) (old new : Option (List ℕ)) (f g : Bool) → a ≡ c → b ≡ d
     → Prints old f new g (text a b) → Prints old f new g (text c d)
 prints_of {X = X} text a b c d old new f g x y = prints_as old new f g (text a b) (text c d)

@@ -1,5 +1,4 @@
--- For all acts, there is a status byte that a serial poll would return, and a list of acts of the
--- interrupt channels.
+-- For any acts, there are a byte that a serial poll returns and a list of acts of the channels.
 use Rattle.std.proofs.Common.{◌≡◌, ℕ, Bool, true, false, eqb, List, [], ◌∷◌, refl, ap, ◌⊎◌, inl, inr, bit_and, bit_or, arith}
 use Rattle.std.specs.Prelude.{◌↔◌, ◌&&◌, ◌||◌, not, bit_xor}
 use Rattle.std.specs.Int.{bit_at}
@@ -16,9 +15,9 @@ use Rattle.sv_history.specs.Act.{DeviceAct, Linked, Waited, Channel, Applied, Ti
 use Rattle.sv_history.specs.Requests.{HearsOf, link_told, request_told}
 use Rattle.sv_history.specs.PolledStatus.{IsPolled}
 
--- ---- tests
+-- ---- decidable properties
 
--- A test tells whether it is so.
+-- A test decides whether a property holds.
 abbrev Test : Type 0 → Type 0
 Test P = (is : Bool) × ((is ≡ true) ↔ P)
 
@@ -50,7 +49,7 @@ not_by false same = (true, ((λ e. λ p. absurd (let z : false ≡ true = same.1
 not_test : {P : Type 0} → Test P → Test (P → ⊥)
 not_test p = not_by p.0 p.1
 
--- ---- a request for service
+-- ---- requests for service
 
 summary_word : (log : List InstrumentAct) → (word : ℕ) × ((k : ℕ) → (bit_at word k ≡ 1) ↔ SummaryBit k log)
 summary_word [] = (0, same_summaries 0 [] no_summary)
@@ -113,7 +112,7 @@ request_test (act ∷ log) =
 raised_test : (act : InstrumentAct) (log : List InstrumentAct) → Test (IsRaised (act ∷ log))
 raised_test act log = both_test (request_test (act ∷ log)) (not_test (request_test log))
 
--- ---- what a poll would give
+-- ---- the status byte of a serial poll
 
 six_alone : (k : ℕ) → (bit_at 64 k ≡ 1) ↔ (k ≡ 6)
 six_alone k = (
@@ -146,7 +145,7 @@ some_polled acts =
     let request = request_test log in
     polled_by log summary.0 request.0 summary.1 request.1
 
--- ---- what interrupt channels are told
+-- ---- the acts of the interrupt channels
 
 pub some_told : (acts : List DeviceAct) → (channel_log : List ChannelAct) × HearsOf acts channel_log
 some_told [] = ([], refl)

@@ -1,4 +1,4 @@
--- Which reply the header of a call decides, before its arguments are read.
+-- Which reply the header of a call determines, before its arguments are read.
 use Rattle.std.proofs.Common.{◌≡◌, Bool, true, false, cond, Option, Some, None, refl}
 use Rattle.std.specs.Prelude.{not, ◌==◌, if◌then◌else◌}
 use Rattle.sv_rpc.specs.declared.reply.Reply.{Reply}

@@ -37,7 +37,7 @@ happens_once IsSuch once log x y (first, a, is) (second, b, same) =
     let one = append_cancel_right first second (instrument_acts (device_acts log)) (once (instrument_acts (device_acts log)) _ _ a b) in
     is ∙ ap (λ (adds : List InstrumentAct). map OnDevice (map Applied adds) ++ log) one ∙ sym same
 
--- what a step of a call leaves
+-- The log after a suspended call resumes, and after one times out.
 abbrev pub went_on : Config → List Act → ℕ → ℕ → Wait → List Act
 went_on config log polled c wait =
     acts_of c (resume_effect config polled c wait (core_call_in (pending_call (of c log))) (device_acts log)) ++ log
@@ -45,7 +45,6 @@ went_on config log polled c wait =
 abbrev pub gave_up : List Act → ℕ → Wait → List Act
 gave_up log c wait = acts_of c (failure_effect (late wait) c (core_call_in (pending_call (of c log)))) ++ log
 
--- the number in an option
 some_of : (a b : ℕ) → Some a ≡ Some b → a ≡ b
 some_of a b e = cc
 
@@ -55,14 +54,14 @@ wait_of a b e = cc
 word_of : (acts : List DeviceAct) (a b : ℕ) → IsPolled a acts → IsPolled b acts → a ≡ b
 word_of acts a b x y = one_word (λ k. PolledBit k (instrument_acts acts)) a b x y
 
--- what can go on waits
+-- A call that can resume is suspended.
 able_waits : (acts : List DeviceAct) (c : ℕ) → CanResume acts c → waits c (wait_acts acts) ≡ None → ⊥
 able_waits acts c able none = absurd (let z = rw none at able in cc)
 
 expired_waits : (clock : ℕ) (acts : List WaitAct) (c : ℕ) → IsExpired clock acts c → waits c acts ≡ None → ⊥
 expired_waits clock acts c (wait, last, for, until, past) none = let z : Some wait ≡ None = sym for ∙ none in cc
 
--- one call and what it waits for
+-- The oldest call and its wait are unique.
 same_call : {A : Type 0} (acts : List WaitAct) (c d : ℕ) (for what : Wait) (f : ℕ → Wait → A) → c ≡ d → waits c acts ≡ Some for
     → waits d acts ≡ Some what → f c for ≡ f d what
 same_call acts c d for what f one x y =

@@ -1,4 +1,4 @@
--- A log's acts of one connection, and of the device: after further acts.
+-- The acts of one connection, and those of the device, in a log that further acts extend.
 use Rattle.std.proofs.Common.{◌≡◌, ◌≢◌, ℕ, List, [], ◌∷◌, ◌++◌, refl, sym, ap, ◌∙◌, append_assoc, eq-eqb}
 use Rattle.std.specs.Prelude.{map}
 use Rattle.std.proofs.lemmas.Bool.{ne_eqb}
@@ -7,14 +7,14 @@ use Rattle.sv_layers.specs.Act.{Act as InstrumentAct}
 use Rattle.sv_history.specs.Act.{Act, ConnAct, DeviceAct, Linked, Applied, On, OnDevice, of, device_acts, link_acts, wait_acts, instrument_acts, ticks}
 use Rattle.sv_history.specs.Effect.{Effect, acts_of}
 
--- an act of the connection itself, and of another
+-- An act of the connection itself, and of another one.
 pub of_mine : (c : ℕ) (act : ConnAct) (log : List Act) → of c (On c act ∷ log) ≡ act ∷ of c log
 of_mine c act log = rw (eq-eqb c c refl) refl
 
 pub of_other : (c d : ℕ) (act : ConnAct) (log : List Act) → d ≢ c → of d (On c act ∷ log) ≡ of d log
 of_other c d act log ne = rw (ne_eqb c d (λ e. ne (sym e))) refl
 
--- acts of what all share
+-- Acts of the device.
 pub of_shared : (c : ℕ) (adds : List DeviceAct) (log : List Act) → of c (map OnDevice adds ++ log) ≡ of c log
 of_shared c [] log = refl
 of_shared c (act ∷ adds) log = of_shared c adds log
@@ -23,7 +23,7 @@ pub device_shared : (adds : List DeviceAct) (log : List Act) → device_acts (ma
 device_shared [] log = refl
 device_shared (act ∷ adds) log = ap (λ (acts : List DeviceAct). act ∷ acts) (device_shared adds log)
 
--- acts of one connection
+-- Acts of one connection.
 of_own : (c : ℕ) (own : List ConnAct) (log : List Act) → of c (map (On c) own ++ log) ≡ own ++ of c log
 of_own c [] log = refl
 of_own c (act ∷ own) log = of_mine c act (map (On c) own ++ log) ∙ ap (λ (acts : List ConnAct). act ∷ acts) (of_own c own log)
@@ -36,7 +36,7 @@ device_own : (c : ℕ) (own : List ConnAct) (log : List Act) → device_acts (ma
 device_own c [] log = refl
 device_own c (act ∷ own) log = device_own c own log
 
--- acts of an effect
+-- The acts of an effect.
 effect_parts : (c : ℕ) (effect : Effect) (log : List Act)
     → acts_of c effect ++ log ≡ map (On c) effect.own ++ (map OnDevice effect.adds ++ log)
 effect_parts c effect log = append_assoc (map (On c) effect.own) (map OnDevice effect.adds) log
@@ -53,7 +53,7 @@ pub device_effect : (c : ℕ) (effect : Effect) (log : List Act) → device_acts
 device_effect c effect log = ap device_acts (effect_parts c effect log) ∙ device_own c effect.own (map OnDevice effect.adds ++ log)
     ∙ device_shared effect.adds log
 
--- acts of links, and of the instrument
+-- Acts of links, and of the instrument.
 pub link_acts_links : (links : List LinkAct) (acts : List DeviceAct) → link_acts (map Linked links ++ acts) ≡ links ++ link_acts acts
 link_acts_links [] acts = refl
 link_acts_links (act ∷ links) acts = ap (λ (xs : List LinkAct). act ∷ xs) (link_acts_links links acts)

@@ -48,7 +48,7 @@ gives_back config log other new same (c, wait, oldest, for, is) = (
   ),
 )
 
--- of two kinds of steps that are there where they are there of another log
+-- If a step of the first kind is possible, so is one of the second kind.
 abbrev pub Back : (List Act → Type 0) → (List Act → Type 0) → Type 0
 Back Here There = (new : List Act) → Here new → (there : List Act) × There there
 
@@ -68,7 +68,7 @@ pub still_settled : (c : ℕ) (act : ConnAct) (config : Config) (log : List Act)
 still_settled c act config log none = λ new next.
     let there = next_back config log (On c act ∷ log) refl new next in none there.0 there.1
 
--- nor does an act of an interrupt channel
+-- The same for an act of an interrupt channel.
 channel_happens : (act : ChannelAct) (IsSuch : List InstrumentAct → List InstrumentAct → Type 0) (log new : List Act)
     → InstrumentDoes IsSuch (OnDevice (Channel act) ∷ log) new → (there : List Act) × InstrumentDoes IsSuch log there
 channel_happens act IsSuch log new (adds, such, is) = (map OnDevice (map Applied adds) ++ log, (adds, such, refl))

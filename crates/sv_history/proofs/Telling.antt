@@ -1,5 +1,4 @@
--- The acts of the interrupt channels, as the device's acts determine them: there is one such list,
--- and the same channels are open in both.
+-- The device's acts determine the acts of the interrupt channels, and which channels are open.
 use Rattle.std.proofs.Common.{◌≡◌, ℕ, ◌+◌, zero, suc, Bool, true, false, List, [], ◌∷◌, ◌++◌, Option, Some, None, refl, sym, ap, subst, ◌∙◌, arith}
 use Rattle.std.specs.Prelude.{map, ◌↔◌, ◌==◌, is_some, if◌then◌else◌}
 use Rattle.sv_scan.specs.Condition.{bit}
@@ -20,7 +19,7 @@ same_flag false false P x y = refl
 same_flag true false P x y = absurd (let z : false ≡ true = y.1 (x.0 refl) in cc)
 same_flag false true P x y = absurd (let z : false ≡ true = x.1 (y.0 refl) in cc)
 
--- one list is told
+-- The device's acts determine only one list of acts of the interrupt channels.
 pub tells_once : (acts : List DeviceAct) (a b : List ChannelAct) → HearsOf acts a → HearsOf acts b → a ≡ b
 tells_once [] a b x y = x ∙ sym y
 tells_once (Channel act ∷ acts) a b (s, channel_log, x) (t, other, y) =
@@ -63,9 +62,9 @@ pub has_channel_told : (c : ℕ) (acts : List DeviceAct) (channel_log : List Cha
     → is_channel_open c channel_log ≡ has_channel c acts
 has_channel_told c acts channel_log x = ap (λ (o : Option Peer). is_some o) (peer_told c acts channel_log x)
 
--- ---- requests
+-- ---- service requests
 
--- so many requests more
+-- The acts, followed by `n` service requests.
 abbrev pub requests : ℕ → List ChannelAct → List ChannelAct
 requests zero channel_log = channel_log
 requests (suc n) channel_log = Requested ∷ requests n channel_log

@@ -1,4 +1,4 @@
--- A connection without acts is idle, isn't at fault, and isn't being dialed for.
+-- A connection without acts is idle, hasn't failed, and has no channel to connect.
 use Rattle.std.proofs.Common.{◌≡◌, ℕ, false, List, [], None, refl, sym, subst, rules}
 use Rattle.std.specs.Prelude.{not}
 use Rattle.sv_rpc.specs.Stream.{read}

@@ -1,5 +1,5 @@
--- After a Turn takes a call, and after as many Ticks as the call's longest wait has milliseconds,
--- the call has its reply.
+-- A call that a Turn takes has its reply after as many Ticks as its longest wait has milliseconds:
+-- the law `AnsweredInTime`.
 use Rattle.std.proofs.Common.{◌≡◌, ℕ, ◌+◌, ◌<◌, Bool, true, false, cond, eqb, List, [], ◌∷◌, ◌++◌, length, nat_lt, Option, Some, None, refl, sym, ap, subst, ◌∙◌, inl, inr, ◌⊎◌, append_assoc, eq-eqb, arith}
 use Rattle.std.specs.Prelude.{is_some, ⊤, Result, Err}
 use Rattle.std.specs.List.{AllByRecursion}
@@ -68,8 +68,9 @@ stays_role (Opened role ∷ acts) own h = absurd h
 stays_role (PortClosed ∷ acts) own h = absurd h
 stays_role (_ ∷ acts) own h = stays_role acts own h
 
--- A call was taken. Since then either no reply was sent and no other call was taken, and it is
--- pending; or there are more replies.
+-- `own` are the acts of the connection before the call `bytes` was taken, and `front` those since.
+-- Either the call is still pending, nothing was replied since and no other call was taken; or the
+-- connection has more replies than before.
 abbrev Goes : List ℕ → List ConnAct → List ConnAct → Type 0
 Goes bytes front own = ((length (replies (front ++ CallTaken bytes ∷ own)) ≡ length (replies own))
     × (pending_call (front ++ CallTaken bytes ∷ own) ≡ Some bytes) × NoCalls front)
@@ -143,7 +144,8 @@ age_front c bytes (OnDevice _ ∷ front) log h = age_front c bytes front log h
 
 -- ---- events that leave the connection open
 
--- The log goes on from the moment at which the call was taken, and the connection stays open.
+-- `log` continues the log that takes the call `bytes` after `before`. Since then the connection was
+-- neither opened nor closed.
 record Follows (c : ℕ) (bytes : List ℕ) (before log : List Act) : Type 0 where
   front : List Act
   is : log ≡ front ++ On c (CallTaken bytes) ∷ before
@@ -184,7 +186,7 @@ open_before bytes front own stays all =
     came_front [] older all = all
     came_front (act ∷ newer) older all = came_front newer older all.1
 
--- An event adds acts to a log, and takes none away.
+-- An event only adds acts to the log.
 event_extends : (config : Config) (event : PlainEvent) (history : List PlainEvent) (before log : List Act) → IsLogOf config history before
     → IsLogOf config (event ∷ history) log → Extends before log
 event_extends config event history before log was now =
@@ -193,7 +195,8 @@ event_extends config event history before log was now =
     (extends_then now.0 (own_acts config now.1 event now.0 ++ now.0) log (own_acts config now.1 event now.0, refl)
     (settles_extends now.8.0 config (own_acts config now.1 event now.0 ++ now.0) log now.8.1))
 
--- the acts of the Turn that takes the call
+-- The acts of a Turn that takes this call: the call is taken, its effect follows, and then the end
+-- of the suspended call that it aborts, if it aborts one.
 turn_is : (config : Config) (polled c : ℕ) (bytes : List ℕ) (request : Request) (found : Option (List ℕ)) (asked : Option Request)
     (log : List Act) → found ≡ Some bytes → asked ≡ Some request
     → let taken = acts_of c (request_effect config polled c request (device_acts log)) ++ On c (CallTaken bytes) ∷ log in
@@ -238,7 +241,8 @@ own_of : (c : ℕ) (bytes : List ℕ) (front before : List Act)
 own_of c bytes front before = of_join c front (On c (CallTaken bytes) ∷ before)
     ∙ ap (λ (l : List ConnAct). of c front ++ l) (rw (eq-eqb c c refl) refl)
 
--- the events after this Turn
+-- After the Turn and the events that follow it, the log still continues the log in which the call
+-- was taken.
 all_follow : (config : Config) (past events : List PlainEvent) (before log : List Act) (c : ℕ) (bytes : List ℕ) → IsLogOf config past before
     → next_call (of c before) ≡ Some bytes → IsLogOf config (events ++ Turn c ∷ past) log → AllByRecursion (LeavesOpen c) events
     → Follows c bytes before log

@@ -1,5 +1,6 @@
--- What the call of a connection waits for, until when, and on which link: over an act of others,
--- and over the same act.
+-- Two logs agree on the suspended call of a connection: on what it waits for, on its deadline and
+-- on its link. They still do after the same act in both, and after an act of another connection in
+-- one.
 use Rattle.std.proofs.Common.{◌≡◌, ◌≢◌, ℕ, eqb, List, ◌∷◌, refl, sym, inl, inr}
 use Rattle.std.proofs.lemmas.Bool.{ne_eqb, cases_Bool}
 use Rattle.sv_links.specs.Waiting.{WaitAct, Entered, Again, Left, waits, deadline, link}
@@ -9,7 +10,6 @@ pub record SameCall (c : ℕ) (acts other : List WaitAct) : Type 0 where
   pub until : deadline c acts ≡ deadline c other
   pub named : link c acts ≡ link c other
 
--- the connection of an act
 abbrev pub conn_of : WaitAct → ℕ
 conn_of (Entered conn link wait deadline) = conn
 conn_of (Again conn wait deadline) = conn
@@ -24,7 +24,6 @@ call_foreign c (Left conn) acts other ne same = search (ne_eqb conn c ne)
 pub call_sym : (c : ℕ) (acts other : List WaitAct) → SameCall c acts other → SameCall c other acts
 call_sym c acts other same = search sym
 
--- the same act
 pub call_same : (c : ℕ) (act : WaitAct) (acts other : List WaitAct) → SameCall c acts other → SameCall c (act ∷ acts) (act ∷ other)
 call_same c (Entered conn named wait last) acts other same = elim (cases_Bool (eqb conn c)) [
   | inl e ↦ record { wait = rw e refl; until = rw e refl; named = rw e refl }

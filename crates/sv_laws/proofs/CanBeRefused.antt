@@ -1,4 +1,4 @@
--- If a call finds no memory, the server accepts the event that refuses the call.
+-- If a Turn runs out of memory, a Refuse of the same call succeeds.
 use Rattle.std.proofs.Common.{◌≡◌, ℕ, Bool, true, false, cond, eqb, List, [], ◌∷◌, ◌++◌, Option, Some, None, nat_lt, refl, sym, ap, subst, ◌∙◌, inl, inr, append-nil}
 use Rattle.std.specs.Prelude.{not, is_none, option_map, ◌&&◌}
 use Rattle.std.proofs.lemmas.Bool.{cases_Bool}
@@ -35,7 +35,7 @@ use Rattle.sv_laws.proofs.EveryLog.Done.{IsDone, each_done}
 use Rattle.sv_laws.proofs.Facts.{not_both}
 use Rattle.sv_laws.proofs.NothingLost.{is_done, filter_none, left_modest}
 
--- ---- a call that is done
+-- ---- a call that is executed
 
 done_made : (c : ℕ) (arguments : Arguments) (adds acts : List DeviceAct) → is_create_link arguments ≡ false
     → Each (IsDone c arguments) adds acts → (links_made (link_acts adds) ≡ 0) × (wait_acts adds ≡ [])
@@ -48,9 +48,10 @@ creates_not : (arguments : Arguments) → takes_memory arguments ≡ false → i
 creates_not (CreateLink client_id lock_device lock_timeout device) e = absurd cc
 creates_not _ e = refl
 
--- ---- a call that waits
+-- ---- a call that is suspended
 
--- for something else than a peer, or than the lock with no link to name
+-- The call waits neither for its peer nor, without naming a link, for the lock. So the server needs
+-- no memory to suspend it: it is no create_intr_chan and no create_link.
 abbrev IsModest : Wait → Option ℕ → Type 0
 IsModest wait named = (is_dial (Some wait) ≡ false) × ((is_lock (Some wait) && is_none named) ≡ false)
 
@@ -73,7 +74,7 @@ device_modest (DeviceRead request_size io_timeout lock_timeout flags term_char) 
     by _ _ e = absurd cc
 device_modest _ acts wait until named e = absurd cc
 
--- a link of the connection has a number
+-- If a connection owns the link that a call names, the call names a link.
 own_named : (c : ℕ) (named : Option ℕ) (acts : List DeviceAct) → owns c named acts ≡ true → is_none named ≡ false
 own_named c (Some n) acts e = refl
 own_named c None acts e = absurd cc
@@ -130,7 +131,7 @@ entered_modest c named wait last h =
     filter_none (λ d. is_dialing d (Entered c named wait last ∷ [])) connections (λ d. entered_dials c d named wait last h.0) in
     modest_by (Waited (Entered c named wait last) ∷ []) (Entered c named wait last ∷ []) refl refl none nobody
 
--- ---- a call that takes none
+-- ---- a call that allocates no memory
 
 none_made : (adds : List DeviceAct) → links_made (link_acts adds) ≡ 0 → wait_acts adds ≡ [] → wants_memory adds ≡ false
 none_made adds none still = modest_by adds [] none still refl refl
@@ -146,7 +147,7 @@ admitted_modest config polled c arguments (Some (Fails error)) acts small e = re
 admitted_modest config polled c arguments (Some (Awaits wait until)) acts small e =
     entered_modest c (lid_of (link arguments)) wait (deadline config until acts) (waits_modest c arguments acts wait until small e)
 
--- what a record that was taken adds to what all share
+-- A record that aborts no call adds only its own effect to the acts of the device.
 taken_adds : (c : ℕ) (bytes : List ℕ) (effect : Effect) (log : List Act) → device_acts (taken_acts c bytes effect None log) ≡ effect.adds
 taken_adds c bytes effect log = device_effect c effect (On c (CallTaken bytes) ∷ []) ∙ append-nil effect.adds
 
@@ -187,7 +188,7 @@ request_modest config polled c bytes (CoreRequest call) log e =
     (admitted_modest config polled c call.arguments (stop_of c call.arguments (device_acts log)) (device_acts log)
     (is_small call.arguments call e) refl)
 
--- ---- so one that wants some can be refused
+-- ---- a call that allocates memory can be refused
 
 turn_refusable : (config : Config) (polled c : ℕ) (found : Option (List ℕ)) (request : Option Request) (log : List Act)
     → wants_memory (device_acts (turn_acts config polled c found request log)) ≡ true

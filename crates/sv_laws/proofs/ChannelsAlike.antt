@@ -1,5 +1,5 @@
--- All that the calls on the interrupt channel of a connection rest on: over an act of others, and
--- over the same act.
+-- Two logs agree on all that determines the calls on the interrupt channel of a connection. They
+-- still do after the same act in both, and after an act of another connection in one.
 use Rattle.std.proofs.Common.{◌≡◌, ◌≢◌, ℕ, ◌+◌, ◌<◌, ◌≤◌, suc, zero, Bool, eqb, ltb, List, [], ◌∷◌, ◌++◌, Option, Some, None, refl, sym, ap, ◌∙◌, inl, inr, arith}
 use Rattle.std.specs.Prelude.{filter, not}
 use Rattle.std.specs.List.{AllByRecursion, cons_option}
@@ -11,7 +11,7 @@ use Rattle.sv_links.specs.ChannelRepresentation.{IsSorted}
 use Rattle.sv_links.proofs.Asking.{below, above, other_links, none_below, sorted_filter}
 use Rattle.sv_links.proofs.Rising.{among, asked_at, with_link, enabled_enabled, enabled_disabled, enabled_sorted}
 
--- this connection's links that ask
+-- Of the links that have service requests enabled, those of connection `c`.
 abbrev pub own_links : ℕ → List Enabled → List Enabled
 own_links c links = filter (λ link. eqb link.conn c) links
 
@@ -22,11 +22,12 @@ pub record SameChannel (c : ℕ) (acts other : List ChannelAct) : Type 0 where
   pub sent : calls c acts ≡ calls c other
   pub all : all_calls c acts ≡ all_calls c other
 
--- If a link of this number asks, it is of another connection.
+-- If link `lid` has service requests enabled, it is a link of another connection than `c`.
 abbrev pub AsksElsewhere : ℕ → ℕ → List ChannelAct → Type 0
 AsksElsewhere c lid acts = (link : Enabled) → srq_enabled lid acts ≡ Some link → link.conn ≢ c
 
--- an act of others, on links whose numbers are none of this connection's that ask
+-- The act is of another connection, and concerns no link of connection `c` that has service
+-- requests enabled. A service request, which concerns all channels, isn't such an act.
 abbrev pub IsForeignChannel : ℕ → ChannelAct → List ChannelAct → Type 0
 IsForeignChannel c (SrqEnabled lid conn handle) acts = (conn ≢ c) × AsksElsewhere c lid acts
 IsForeignChannel c (SrqDisabled lid) acts = AsksElsewhere c lid acts
@@ -35,7 +36,7 @@ IsForeignChannel c (ChannelClosed conn) acts = conn ≢ c
 IsForeignChannel c Requested acts = ⊥
 IsForeignChannel c (ChannelTaken conn count) acts = conn ≢ c
 
--- ---- links that ask
+-- ---- links that have service requests enabled
 
 filter_comm : (p q : Enabled → Bool) (xs : List Enabled) → filter p (filter q xs) ≡ filter q (filter p xs)
 filter_comm p q [] = refl
@@ -50,7 +51,7 @@ filter_comm p q (x ∷ xs) = elim (cases_Bool (p x)) [
   ]
 ]
 
--- each link that asks is the one of its number
+-- Each link in the list is the one that `srq_enabled` gives for its number.
 
 with_asked : (acts : List ChannelAct) (n : ℕ) (first : Option Enabled) (xs : List Enabled) → srq_enabled n acts ≡ first
     → ((x : Enabled) → first ≡ Some x → x.lid ≡ n) → AllByRecursion (λ link. srq_enabled link.lid acts ≡ Some link) xs
@@ -63,7 +64,7 @@ among_asked a zero acts = tt
 among_asked a (suc n) acts =
     with_asked acts a (srq_enabled a acts) (among (a + 1) n acts) refl (asked_at a acts) (among_asked (a + 1) n acts)
 
--- so none of this connection's has a number that is asked elsewhere
+-- None of these links has the number `lid`.
 abbrev Differ : ℕ → List Enabled → Type 0
 Differ lid links = AllByRecursion (λ link. link.lid ≢ lid) links
 
@@ -89,7 +90,7 @@ all_weak lid low (x ∷ xs) lt h = (omega (arith, lt, h.0), all_weak lid low xs 
 lt_of : (a b : ℕ) → b ≢ a → a ≤ b → a < b
 lt_of a b ne le = omega (arith, ne, le)
 
--- none has this number, so those below it and those above it are all
+-- If no link has the number `lid`, the links below it and those above it are all links.
 parted : (lid : ℕ) (xs : List Enabled) → IsSorted xs → Differ lid xs → below lid xs ++ above lid xs ≡ xs
 parted lid [] sorted differ = refl
 parted lid (x ∷ xs) sorted differ =
@@ -126,7 +127,7 @@ own_disabled : (c lid : ℕ) (acts : List ChannelAct)
 own_disabled c lid acts = ap (own_links c) (enabled_disabled lid acts)
     ∙ filter_comm (λ link. eqb link.conn c) (λ other. not (eqb other.lid lid)) (enabled_links acts)
 
--- ---- over an act of others
+-- ---- an act of another connection
 
 pub channel_foreign : (c : ℕ) (act : ChannelAct) (acts other : List ChannelAct) → IsForeignChannel c act acts → SameChannel c acts other
     → SameChannel c (act ∷ acts) other
@@ -144,7 +145,7 @@ channel_foreign c (ChannelTaken conn count) acts other h same = search (ne_eqb c
 pub channel_sym : (c : ℕ) (acts other : List ChannelAct) → SameChannel c acts other → SameChannel c other acts
 channel_sym c acts other same = search sym
 
--- ---- over the same act
+-- ---- the same act in both logs
 
 pub channel_same : (c : ℕ) (act : ChannelAct) (acts other : List ChannelAct) → SameChannel c acts other
     → SameChannel c (act ∷ acts) (act ∷ other)

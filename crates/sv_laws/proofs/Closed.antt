@@ -1,4 +1,4 @@
--- The owners of links, where a connection is closed.
+-- Which connection owns a link after a connection was closed and its links were destroyed.
 use Rattle.std.proofs.Common.{◌≡◌, ◌≢◌, ℕ, Bool, true, false, eqb, cond, List, [], ◌∷◌, ◌++◌, Option, Some, None, refl, sym, ap, ◌∙◌, inl, inr, eq-eqb}
 use Rattle.std.specs.Prelude.{map, filter, find, option_map, ◌||◌}
 use Rattle.std.specs.List.{AllByRecursion}
@@ -12,14 +12,14 @@ use Rattle.sv_links.proofs.Closing.{gone, of_conn, has, locked_gone, has_owner}
 use Rattle.sv_laws.proofs.Facts.{some_same}
 use Rattle.sv_laws.proofs.LinksAlike.{IsForeignLink, MakesNone, owner_destroyed, owner_is_of, holder_locked}
 
--- a connection's links
+-- The live links of a connection.
 abbrev links_in : ℕ → List LinkAct → List Link
 links_in c acts = filter (of_conn c) (live acts)
 
 closing_gone : (c : ℕ) (acts : List LinkAct) → closing c acts ++ acts ≡ gone (links_in c acts) acts
 closing_gone c acts = sym (reverse_aux-eq (map Destroyed (links_of c acts)) acts)
 
--- the number of a link of its own is one of theirs
+-- A link that connection `c` owns is one of the links of `c`.
 owned_has : (c n : ℕ) (xs : List Link) → option_map (λ link. link.conn) (find (λ link. eqb link.lid n) xs) ≡ Some c
     → has n (filter (of_conn c) xs) ≡ true
 owned_has c n [] h = absurd cc
@@ -45,7 +45,8 @@ owner_gone n (y ∷ ys) acts = owner_gone n ys (Destroyed y.lid ∷ acts)
 owner_closed : (c n : ℕ) (acts : List LinkAct) → owner n (closing c acts ++ acts) ≡ cond (has n (links_in c acts)) None (owner n acts)
 owner_closed c n acts = ap (owner n) (closing_gone c acts) ∙ owner_gone n (links_in c acts) acts
 
--- an owner behind the closing was one in front of it, and is another connection
+-- A link that has an owner after connection `c` closed had the same owner before, and that owner
+-- isn't `c`.
 pub closed_before : (c d n : ℕ) (acts : List LinkAct) → owner n (closing c acts ++ acts) ≡ Some d → (d ≢ c) × (owner n acts ≡ Some d)
 closed_before c d n acts h = elim (cases_Bool (has n (links_in c acts))) [
   | inl e ↦ absurd (let z : None ≡ Some d = sym (owner_closed c n acts ∙ rw e refl) ∙ h in cc)
@@ -57,7 +58,7 @@ closed_before c d n acts h = elim (cases_Bool (has n (links_in c acts))) [
       )
 ]
 
--- its links lose the lock
+-- After a connection closed, none of its links holds the lock.
 pub closed_frees : (c lid : ℕ) (acts : List LinkAct) → owner lid acts ≡ Some c → holder (closing c acts ++ acts) ≡ Some lid → ⊥
 closed_frees c lid acts owns h =
     let free : is_locked lid (gone (links_in c acts) acts) ≡ false =
@@ -101,7 +102,7 @@ closed_own c last acts rising = all_numbers (λ n. owner n acts ≡ Some c) (lin
     (all_then (λ y. has y.lid (links_in c acts) ≡ true) (λ y. owner y.lid acts ≡ Some c) (links_in c acts)
     (λ y h. owner_is_of c (owner y.lid acts) (sym (has_owner c y.lid (live acts) last rising) ∙ h)) (all_has (links_in c acts)))
 
--- what isn't the connection's stays so
+-- A link that isn't one of connection `c` isn't one after some link was destroyed.
 still_other : (c n lid : ℕ) (acts : List LinkAct) → is_of c (owner n acts) ≡ false → is_of c (owner n (Destroyed lid ∷ acts)) ≡ false
 still_other c n lid acts h = elim (cases_Bool (eqb lid n)) [
   | inl e ↦ ap (is_of c) (owner_destroyed n lid acts) ∙ rw e refl
@@ -121,12 +122,14 @@ each_destroyed c [] behind acts h k = k
 each_destroyed c (n ∷ ns) behind acts h k =
     each_destroyed c ns (Destroyed n ∷ behind) acts (still_others c n (behind ++ acts) ns h.1) (h.0, k)
 
--- the closing of another connection is of others alone
+-- Closing another connection neither makes nor destroys a link of connection `c`, and neither locks
+-- nor unlocks a link.
 pub closed_foreign : (c d last : ℕ) (acts : List LinkAct) → d ≢ c → IsRising (live acts) last
     → Each (λ before act. IsForeignLink c act before) (closing d acts) acts
 closed_foreign c d last acts ne rising = each_destroyed c (links_of d acts) [] acts (closed_others c d last acts ne rising) tt
 
--- and none of it makes a link
+-- What holds of the destruction of any link, after any acts, holds of each act by which the links
+-- of a connection are destroyed.
 each_gone : (IsSuch : List LinkAct → LinkAct → Type 0) → ((before : List LinkAct) (n : ℕ) → IsSuch before (Destroyed n)) → (ns : List ℕ)
     (behind acts : List LinkAct)
     → Each IsSuch behind acts → Each IsSuch (reverse_aux (map Destroyed ns) behind) acts

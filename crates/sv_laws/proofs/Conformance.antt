@@ -1,4 +1,4 @@
--- What common commands and queries set, change and leave.
+-- What common commands and queries set, change and keep: the laws of specs/Conformance.antt.
 use Rattle.std.proofs.Common.{◌≡◌, ◌≢◌, ℕ, ◌+◌, ◌<◌, Bool, true, false, List, [], ◌∷◌, refl, sym, ap, subst, ◌∙◌, inl, inr, arith}
 use Rattle.std.specs.Int.{bit_at}
 use Rattle.std.specs.Prelude.{◌↔◌, ◌&&◌, ◌||◌}
@@ -36,7 +36,7 @@ any_same : (f g : ℕ → Bool) → ((k : ℕ) → f k ≡ g k) → (ks : List �
 any_same f g same [] = refl
 any_same f g same (k ∷ ks) = rw (same k, any_same f g same ks) refl
 
--- A bit of a condition that stays the same sets no event.
+-- A condition bit that doesn't change sets no event bit.
 bit_passes_none : (condition : List Act → ℕ) (name : RegisterName) (k : ℕ) (act : Act) (log : List Act)
     → has_bit (condition (act ∷ log)) k ≡ has_bit (condition log) k → passes condition name k (act ∷ log) ≡ false
 bit_passes_none condition name k act log same =
@@ -74,7 +74,8 @@ events_same : (name : RegisterName) (k : ℕ) (act : Act) (log : List Act) → c
 events_same name k act log same kept = since_same (λ place. passes (condition name) name k place ≡ true) (λ place. leaves name place ≡ true)
     act log kept (λ on. not_both _ on (passes_none (condition name) name k act log same))
 
--- All bits of the questionable condition but bit 9 are those of the scanner.
+-- Of the questionable condition, only bit 9 depends on anything but the scanner: it is the summary
+-- of the limit register. So STATus:PRESet changes no other bit of this condition.
 small : (b : Bool) → bit 0 b < 512
 small true = omega arith
 small false = omega arith
@@ -193,7 +194,8 @@ registers_turned one two f = record {
 
 -- ---- a request for service
 
--- With the same registers and the same response, the summary bits are the same.
+-- If two logs have the same registers and the same response, each summary bit that is set in one is
+-- set in the other.
 summary_moved : (one two : List Act) → SameRegisters one two → response (exchange_acts one) ≡ response (exchange_acts two) → (k : ℕ)
     → SummaryBit k one → SummaryBit k two
 summary_moved one two f same k (inl (is, (bit, stands, on))) = inl (
@@ -235,12 +237,13 @@ lasts_master [] h = h
 lasts_master (Polled ∷ log) h = absurd h
 lasts_master (_ ∷ log) h = h
 
--- While a request is pending, the master summary is set.
+-- While a request for service is pending, the master summary bit is set.
 pub request_master : (log : List Act) → Request log → Master log
 request_master [] s = absurd ((since_empty Reason Lasts).0 s).0
 request_master (act ∷ log) s = lasts_master (act ∷ log) ((since_step Reason Lasts act log).0 s).0
 
--- An act of message exchange that leaves the response neither raises nor ends a request.
+-- An act of message exchange that doesn't change the response neither raises nor ends a request for
+-- service.
 request_same : (act : ExchangeAct) (log : List Act) → response (exchange_acts (Exchanged act ∷ log)) ≡ response (exchange_acts log)
     → Request (Exchanged act ∷ log) ↔ Request log
 request_same act log same =
@@ -382,7 +385,7 @@ preset_leaves log new is =
 
 -- ---- SYSTem:ERRor?
 
--- Taking the oldest error changes no register.
+-- Removing the oldest error from the queue changes no register.
 taken_same : (log : List Act) → ((k : ℕ) → Stands k (done (EntryTaken ∷ log)) ↔ Stands k log) × SameElse (done (EntryTaken ∷ log)) log
 taken_same log =
     let end = exchanged_same UnitDone (EntryTaken ∷ log) in (

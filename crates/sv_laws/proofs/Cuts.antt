@@ -1,4 +1,5 @@
--- Cuts: two logs, of histories that differ only in where bytes, records or writes are cut.
+-- Histories that differ only in how bytes, records or writes are split: the laws of
+-- specs/Cuts.antt.
 pub mod ReadsOn
 pub mod SameView
 pub mod SameExchange

@@ -1,4 +1,5 @@
--- Each call that is taken on a connection is answered once, or waits: in every log.
+-- Each call that is taken on a connection is answered exactly once, or is suspended: the law
+-- `EachAnswered`.
 use Rattle.std.proofs.Common.{◌≡◌, ℕ, suc, ◌+◌, Bool, true, false, List, [], ◌∷◌, Option, Some, None, refl, ap, ◌∙◌, arith}
 use Rattle.std.specs.Prelude.{is_some}
 use Rattle.sv_links.specs.declared.waiting.Wait.{Wait}
@@ -36,7 +37,7 @@ all_paid (Faulted ∷ acts) all = paid_ends (calls_taken acts) (records_ended ac
 all_paid (Replied reply ∷ acts) all = paid_ends (calls_taken acts) (records_ended acts) (is_busy acts) (ap is_some all.0.1)
     (all_paid acts all.1)
 
--- a call has no answer exactly if it waits
+-- A call is pending exactly if it is suspended.
 waits_or_not : (config : Config) (history : List PlainEvent) (log : List Act) (c : ℕ) → IsLogOf config history log
     → (found : Option Wait) → waits c (wait_acts (device_acts log)) ≡ found → is_busy (of c log) ≡ is_some found
 waits_or_not config history log c was None none = ap is_some (busy_waits config history log was c none)

@@ -1,5 +1,5 @@
--- The present wait of a suspended call began fewer milliseconds ago than its longest wait for this
--- thing.
+-- The present wait of a suspended call has lasted fewer milliseconds than its timeout for this
+-- wait: the law `EachWaitInTime`.
 use Rattle.std.proofs.Common.{◌≡◌, ◌≢◌, ℕ, ◌+◌, ◌<◌, ◌≤◌, ◌==◌, Bool, true, false, List, [], ◌∷◌, ◌++◌, Option, Some, None, refl, sym, ap, subst, ◌∙◌, inl, inr, ◌⊎◌, append_assoc, eq-eqb, arith, eqb}
 use Rattle.std.specs.Prelude.{map, if◌then◌else◌}
 use Rattle.std.proofs.lemmas.Bool.{cases_eq, cases_Bool, ne_eqb, cases_lt}
@@ -45,7 +45,8 @@ use Rattle.sv_laws.proofs.EveryLog.EachEvent.{StepsKeep, step_keeps, turn_keeps,
 
 -- ---- when a wait began
 
--- the milliseconds that had passed when the newest wait of a connection began
+-- How many milliseconds had passed when the newest wait of connection `c` started; 0 if it never
+-- waited.
 abbrev began : ℕ → List DeviceAct → ℕ
 began c [] = 0
 began c (Waited (Entered d link wait last) ∷ acts) = if d == c then ticks acts else began c acts
@@ -82,10 +83,10 @@ began_done d c arguments [] acts h = refl
 began_done d c arguments (Waited act ∷ adds) acts h = absurd h.0
 began_done d c arguments (_ ∷ adds) acts h = began_done d c arguments adds acts h.1
 
--- ---- until when a call waits
+-- ---- the deadline of a wait
 
--- The call waits for a peer; or the deadline of its wait comes no later after its begin than the
--- longest wait for this thing.
+-- The call waits for its peer; or the deadline of its wait is the start of the wait plus a timeout,
+-- and this timeout is at most the longest wait for the same thing.
 abbrev DatedBy : Config → Wait → Option ℕ → ℕ → Arguments → Type 0
 DatedBy config wait until start arguments = (waits_for_peer arguments ≡ true)
     ⊎ ((timeout : ℕ) × (until ≡ Some (config.clock + start + timeout)) × (timeout ≤ time_for wait arguments))
@@ -105,7 +106,8 @@ dated_none config c own acts none = λ wait call is busy. some_none (waits c (wa
 dated_idle : (config : Config) (c : ℕ) (own : List ConnAct) (acts : List DeviceAct) → pending_call own ≡ None → Dated config c own acts
 dated_idle config c own acts none = λ wait call is busy. some_none (core_call_in (pending_call own)) call (ap core_call_in none) busy
 
--- These acts leave the wait of a connection, and when it began.
+-- The suspended call of connection `c` is the same after both lists of acts, and so is the start of
+-- its wait.
 abbrev SameWait : ℕ → List DeviceAct → List DeviceAct → Type 0
 SameWait c after acts = SameCall c (wait_acts after) (wait_acts acts) × (began c after ≡ began c acts)
 
@@ -139,7 +141,7 @@ dated_happened : (config : Config) (adds : List InstrumentAct) (log : List Act) 
 dated_happened config adds log all = dated_shared config (map Applied adds) log all (wait_acts_happened adds (device_acts log))
     (λ d. began_happened d adds (device_acts log))
 
--- ---- a suspended call ends, or waits anew
+-- ---- a suspended call ends, or is suspended again
 
 dated_left : (config : Config) (c xid : ℕ) (outcome : CallOutcome) (log : List Act) → AllDated config log
     → wait_acts (outcome.adds ++ Waited (Left c) ∷ device_acts log) ≡ Left c ∷ wait_acts (device_acts log)
@@ -228,7 +230,7 @@ dated_only : (config : Config) (c : ℕ) (own : List ConnAct) (log : List Act) �
 dated_only config c own log all mine = dated_effect config c (record { own = own; adds = [] }) log all
     (λ d ne. (same_none d (wait_acts (device_acts log)), refl)) mine
 
--- No call of the connection waits.
+-- The case that the connection has no suspended call.
 dated_free : (config : Config) (c : ℕ) (own : List ConnAct) (log : List Act) → AllDated config log
     → waits c (wait_acts (device_acts log)) ≡ None → AllDated config (acts_of c (record { own = own; adds = [] }) ++ log)
 dated_free config c own log all none =

@@ -1,4 +1,4 @@
--- What holds in the log of every history, and how its steps follow one another.
+-- Invariants of the logs of all histories, and how the steps of a log follow one another.
 pub mod Done
 pub mod Taken
 pub mod Fit

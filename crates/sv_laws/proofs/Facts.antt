@@ -1,8 +1,7 @@
--- Facts of lists and options.
+-- Facts about lists, options and truth values.
 use Rattle.std.proofs.Common.{◌≡◌, List, [], ◌∷◌, ◌++◌, Bool, true, false, Option, Some, None, sym, subst, ◌∙◌}
 use Rattle.std.specs.List.{AllByRecursion}
 
--- what is the same within `Some`
 pub some_same : {A : Type 0} (a b : A) → Some a ≡ Some b → a ≡ b
 some_same a b e = cc
 
@@ -14,11 +13,11 @@ some_none {A} {B} found b none some = absurd (let z : None ≡ Some b = sym none
 pub not_both : {A : Type 0} (b : Bool) → b ≡ true → b ≡ false → A
 not_both {A} b on off = absurd (let z : true ≡ false = sym on ∙ off in cc)
 
--- What holds of all in two lists holds of all in both together.
+-- What holds of all elements of two lists holds of all elements of one after the other.
 pub all_join : {A : Type 0} (P : A → Type 0) (a b : List A) → AllByRecursion P a → AllByRecursion P b → AllByRecursion P (a ++ b)
 all_join P [] b h k = k
 all_join P (x ∷ a) b h k = (h.0, all_join P a b h.1 k)
 
--- What is so of two is so of what is the same as they.
+-- A relation that holds of two values holds of values that are equal to them.
 pub moved : {A : Type 0} (AreSo : A → A → Type 0) (one two a b : A) → a ≡ one → b ≡ two → AreSo one two → AreSo a b
 moved {A} AreSo one two a b x y v = subst (λ (l : A). AreSo l b) (sym x) (subst (λ (l : A). AreSo one l) (sym y) v)

@@ -1,4 +1,4 @@
--- After device_clear, `*RST` and `*CLS`, the instrument is fresh (`IsFresh`).
+-- After device_clear, `*RST` and `*CLS`, the instrument is fresh (`IsFresh`): the law `FreshStart`.
 use Rattle.std.proofs.Common.{◌≡◌, ℕ, true, false, List, [], ◌∷◌, ◌++◌, refl, ap, subst, ◌∙◌, inl, inr, append-nil}
 use Rattle.std.specs.Prelude.{map}
 use Rattle.std.specs.List.{AllByRecursion}
@@ -36,11 +36,11 @@ scan_text [] log h = refl
 scan_text (Exchanged act ∷ more) log h = scan_text more log h.1
 scan_text (_ ∷ more) log h = absurd h.0
 
--- There is no response, and no answer.
+-- There is no response, and the current message has no answers.
 abbrev IsQuiet : List Act → Type 0
 IsQuiet log = (response (exchange_acts log) ≡ []) × (answers (exchange_acts log) ≡ [])
 
--- To finish a message without answers leaves the response.
+-- Finishing a message without answers makes no response.
 quiet_finished : (log : List Act) → IsQuiet log → IsQuiet (Exchanged Finished ∷ log)
 quiet_finished log quiet = (rw quiet.1 quiet.0, refl)
 
@@ -51,7 +51,7 @@ quiet_text (Exchanged Finished ∷ more) log h quiet = quiet_finished (more ++ l
 quiet_text (Scanned act ∷ more) log h quiet = quiet_text more log h.1 quiet
 quiet_text (_ ∷ more) log h quiet = absurd h.0
 
--- The text after these acts is what they sent, if there was none before.
+-- If the program text is all that was sent, it still is after more text was accepted.
 sent_text : (more sent log : List Act) → AllByRecursion IsTextOrScan more
     → text (exchange_acts log) ≡ symbols_of (exchange_acts sent)
     → text (exchange_acts (more ++ log)) ≡ symbols_of (exchange_acts (more ++ sent))
@@ -62,7 +62,7 @@ sent_text (Exchanged Finished ∷ more) sent log h same = sent_text more sent lo
 sent_text (Scanned act ∷ more) sent log h same = sent_text more sent log h.1 same
 sent_text (_ ∷ more) sent log h same = absurd h.0
 
--- With the same acts of the scanner, the scanner has the same settings.
+-- Whether the scanner has its default settings depends only on the acts of the scanner.
 defaults_moved : (one two : List Act) → scan_acts one ≡ scan_acts two → HasDefaults two → HasDefaults one
 defaults_moved one two same has = record {
   list = ap (λ (l : List ScanAct). scan_list (effective l)) same ∙ has.list;

@@ -185,7 +185,7 @@ core_close c log all d opened =
       | inr ne ↦ ap open_role (of_closed c d log ne) ∙ all d (rw (ne_eqb c d (λ e. ne (sym e))) at now)
     ]
 
--- A Dialed that isn't refused ends a create_intr_chan that waits for its peer.
+-- If a Dialed isn't refused, a create_intr_chan of the connection waits for its peer.
 pub dials : (far shut dialing : Bool) → cond (far || shut) (Some NoConn) (cond dialing None (Some NoDial)) ≡ None → dialing ≡ true
 dials true shut dialing e = absurd cc
 dials false true dialing e = absurd cc

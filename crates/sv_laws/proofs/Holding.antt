@@ -1,5 +1,5 @@
 -- The link that holds the lock keeps it until its connection lets it go. A link gets the lock
--- because a call asks for it, in the order in which calls were taken.
+-- because a call asks for it, in the order in which the calls were taken.
 use Rattle.std.proofs.Common.{◌≡◌, ◌≢◌, ℕ, Bool, true, false, eqb, List, [], ◌∷◌, ◌++◌, Some, None, refl, sym, ap, subst, ◌∙◌, inl, inr, ◌⊎◌, eq-eqb}
 use Rattle.std.specs.Prelude.{map, not, ◌&&◌, ◌||◌}
 use Rattle.std.proofs.lemmas.Bool.{cases_eq, ne_eqb}
@@ -18,9 +18,9 @@ use Rattle.sv_laws.proofs.EveryLog.Fit.{AllSuit}
 use Rattle.sv_laws.proofs.EveryLog.EachEvent.{fit_log}
 use Rattle.sv_laws.proofs.EveryLog.Keeps.{IsEarliest, MayTake, AllKeep, keep_before, held_is}
 
--- ---- which acts end the holding of the lock
+-- ---- which acts free the lock
 
--- the device's acts of a log end with those of its older part
+-- The acts of the device in a suffix of the log are a suffix of the device's acts in the log.
 device_before : (newer older : List Act) → (more : List DeviceAct) × (device_acts (newer ++ older) ≡ more ++ device_acts older)
 device_before [] older = ([], refl)
 device_before (On c act ∷ newer) older = device_before newer older
@@ -31,7 +31,7 @@ suit_before : (newer older : List DeviceAct) → AllSuit (newer ++ older) → Al
 suit_before [] older all = all
 suit_before (act ∷ newer) older all = suit_before newer older all.1
 
--- a link that is locked holds the lock, and the other way round
+-- A link is locked exactly if it holds the lock.
 locked_holds : (acts : List DeviceAct) → AllSuit acts → AllKeep acts → (lid : ℕ) → is_locked lid (link_acts acts) ≡ true
     → holder (link_acts acts) ≡ Some lid
 locked_holds acts suits keeps lid on = is_holder lid (holder (link_acts acts)) (sym on ∙ held_is acts suits keeps lid)
@@ -47,7 +47,8 @@ or_on false b e = e
 off_and : (a b : ℕ) (on : Bool) → a ≢ b → on ≡ true → (not (eqb a b) && on) ≡ true
 off_and a b on ne e = rw (ne_eqb a b ne) e
 
--- A locked link stays locked, but for an act that unlocks or destroys it.
+-- A locked link stays locked, unless its connection was closed, or takes a device_unlock or a
+-- destroy_link of the link.
 stays_locked : (act : Act) (older : List Act) (c lid : ℕ) → IsPlaced older act → owner lid (link_acts (device_acts older)) ≡ Some c
     → is_locked lid (link_acts (device_acts older)) ≡ true
     → (is_locked lid (link_acts (device_acts (act ∷ older))) ≡ true) ⊎ (is_open (of c older) ≡ false) ⊎ ReleasesLock c lid older
@@ -82,7 +83,7 @@ holder_keeps config history log newer older act c lid was is holds owns ends =
 
 -- ---- which link gets the lock
 
--- The call that left last, before links were made, is one call.
+-- If only links were made since a call left the queue, the acts determine which call it was.
 left_last : (made other : List LinkAct) (c d : ℕ) (acts more : List DeviceAct)
     → map Linked made ++ Waited (Left c) ∷ acts ≡ map Linked other ++ Waited (Left d) ∷ more → (c ≡ d) × (acts ≡ more)
 left_last [] [] c d acts more e = (cc, cc)
@@ -90,8 +91,8 @@ left_last [] (act ∷ other) c d acts more e = absurd cc
 left_last (act ∷ made) [] c d acts more e = absurd cc
 left_last (act ∷ made) (one ∷ other) c d acts more e = left_last made other c d acts more (cc)
 
--- A link that may take the lock by the order of suspension may get it by the order in which calls
--- were taken.
+-- A link that may take the lock by the order in which calls were suspended may get it by the order
+-- in which they were taken.
 gets_by : (lid : ℕ) (older : List Act) → AllPlaced older → (holder (link_acts (device_acts older)) ≡ None → HasTurn older)
     → MayTake lid (device_acts older) → MayGet lid older
 gets_by lid older placed turn (inl holds) = inl holds

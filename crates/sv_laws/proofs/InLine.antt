@@ -1,4 +1,4 @@
--- Suspended calls stand in line in the order in which they were taken.
+-- Suspended calls are queued in the order in which they were taken.
 use Rattle.std.proofs.Common.{◌≡◌, ◌≢◌, ℕ, ◌≤◌, Bool, true, false, cond, eqb, List, [], ◌∷◌, length, Option, Some, None, refl, sym, ap, subst, ◌∙◌, inl, inr, eq-eqb, arith}
 use Rattle.std.proofs.lemmas.Bool.{cases_Bool, cases_eq, ne_eqb}
 use Rattle.sv_logs.specs.Since.{newest}
@@ -14,7 +14,6 @@ use Rattle.sv_laws.proofs.EveryLog.Known.{mapped}
 
 -- ---- when a call was suspended
 
--- no call was suspended later than now
 newest_most : (is_such : List WaitAct → Bool) (acts : List WaitAct) → length (newest is_such acts) ≤ length acts
 newest_most is_such [] = omega arith
 newest_most is_such (act ∷ acts) = by (is_such (act ∷ acts)) (newest_most is_such acts)
@@ -23,7 +22,7 @@ newest_most is_such (act ∷ acts) = by (is_such (act ∷ acts)) (newest_most is
     by true le = omega arith
     by false le = omega (arith, le)
 
--- the call that is suspended last came last
+-- A call that was just suspended was suspended later than any other.
 entered_last : (c d : ℕ) (named : Option ℕ) (wait : Wait) (last : Option ℕ) (acts : List WaitAct) → d ≢ c
     → arrival c (Entered c named wait last ∷ acts) ≤ arrival d (Entered c named wait last ∷ acts) → ⊥
 entered_last c d named wait last acts ne le =
@@ -32,7 +31,7 @@ entered_last c d named wait last acts ne le =
     rw (eq-eqb c c refl, ne_eqb c d (λ e. ne (sym e))) at le in
     omega (arith, most, less)
 
--- ---- a call that waits behind an act
+-- ---- suspended calls after an act
 
 entered_other : (e c : ℕ) (named : Option ℕ) (wait : Wait) (last : Option ℕ) (acts : List WaitAct) → e ≢ c
     → (waits c (Entered e named wait last ∷ acts) ≡ waits c acts) × (arrival c (Entered e named wait last ∷ acts) ≡ arrival c acts)
@@ -51,9 +50,9 @@ left_before e c v acts is = elim (cases_Bool (eqb e c)) [
   | inr off ↦ rw off at is
 ]
 
--- ---- so the order of suspension is the order in which the calls were taken
+-- ---- the order of suspension is the order in which the calls were taken
 
--- a call of another connection is taken
+-- Which of two calls was taken later doesn't change when a call is taken on a third connection.
 taken_other : (e c d : ℕ) (bytes : List ℕ) (log : List Act) → e ≢ c → e ≢ d → is_later c d log ≡ true
     → is_later c d (On e (CallTaken bytes) ∷ log) ≡ true
 taken_other e c d bytes log off_c off_d later = rw (ne_eqb e d off_d, ne_eqb e c off_c) later
@@ -93,7 +92,7 @@ in_line (OnDevice (Waited (Left e)) ∷ log) c d v w all ne x y le =
     in_line log c d v w all.1 ne (left_before e c v acts x) (left_before e d w acts y) le
 in_line (_ ∷ log) c d v w all ne x y le = in_line log c d v w all.1 ne x y le
 
--- the call that was suspended first came first
+-- Of the calls that wait for the lock, the one that was suspended first was taken first.
 pub first_is : (c : ℕ) (log : List Act) → AllPlaced log → IsEarliest c (device_acts log) → IsFirst c log
 first_is c log all first =
     (first.0, λ d waits_too ne. in_line log c d Lock Lock all (λ same. ne (sym same)) first.0 waits_too (first.1 d waits_too))

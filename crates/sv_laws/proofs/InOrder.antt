@@ -1,4 +1,4 @@
--- Replies come in the order of the calls.
+-- Replies come in the order of the calls: the law `InOrder`.
 use Rattle.std.proofs.Common.{◌≡◌, ℕ, zero, suc, Bool, true, false, cond, List, [], ◌∷◌, ◌++◌, length, Option, Some, None, refl, sym, ap, subst, ◌∙◌}
 use Rattle.std.specs.Prelude.{slice_get, ◌||◌, is_some}
 use Rattle.sv_rpc.specs.Stream.{records_of}
@@ -29,7 +29,7 @@ next_by true busy found call e = absurd cc
 next_by false true found call e = absurd cc
 next_by false false found call e = (refl, e)
 
--- ---- in every log
+-- ---- the invariant
 
 record IsOrdered (acts : List ConnAct) : Type 0 where
   done : AreInOrder (records_of (stream acts)) (replies acts)

@@ -1,4 +1,4 @@
--- A call that has no reply yet was taken fewer milliseconds ago than its longest wait.
+-- A pending call was taken fewer milliseconds ago than its longest wait: the law `InTime`.
 use Rattle.std.proofs.Common.{◌≡◌, ◌≢◌, ℕ, ◌+◌, ◌<◌, ◌≤◌, Bool, true, false, List, [], ◌∷◌, ◌++◌, Option, Some, None, refl, sym, ap, subst, ◌∙◌, inl, inr, ◌⊎◌, append_assoc, eq-eqb, arith}
 use Rattle.std.specs.Prelude.{map, ⊤}
 use Rattle.std.proofs.lemmas.Bool.{cases_eq, ne_eqb, cases_lt}
@@ -45,11 +45,11 @@ use Rattle.sv_laws.proofs.EveryLog.Fit.{Fit, of_each}
 use Rattle.sv_laws.proofs.EveryLog.BusyWaits.{busy_waits}
 use Rattle.sv_laws.proofs.EveryLog.EachEvent.{StepsKeep, step_keeps, turn_keeps, refuse_keeps, done_waits, entered_waits, idle_free, close_adds, device_closed, of_closed, fit_log}
 
--- ---- until when a call waits
+-- ---- the deadline of a suspended call
 
--- The call waits for a peer; or its wait has a deadline that hasn't passed. At this deadline the
--- call will be no older than `bound` allows. If it waits for the lock, it will be at least as old
--- as its lock timeout.
+-- The call waits for its peer; or its wait has a deadline that hasn't passed. At this deadline the
+-- call will be at most `bound` milliseconds old; and if it waits for the lock, at least as old as
+-- its lock timeout.
 abbrev pub Within : ℕ → ℕ → Wait → Option ℕ → Arguments → Type 0
 Within old clock wait until arguments = (waits_for_peer arguments ≡ true)
     ⊎ ((last : ℕ) × (until ≡ Some last) × (last + old ≤ clock + bound wait arguments) × (clock ≤ last)
@@ -161,7 +161,7 @@ timely_happened : (config : Config) (adds : List InstrumentAct) (log : List Act)
 timely_happened config adds log all =
     timely_shared config (map Applied adds) log all (no_ticks_happened adds) (wait_acts_happened adds (device_acts log))
 
--- ---- a suspended call ends, or waits anew
+-- ---- a suspended call ends, or is suspended again
 
 timely_left : (config : Config) (c xid : ℕ) (outcome : CallOutcome) (log : List Act) → AllTimely config log → NoTicks outcome.adds
     → wait_acts (outcome.adds ++ Waited (Left c) ∷ device_acts log) ≡ Left c ∷ wait_acts (device_acts log)
@@ -190,7 +190,7 @@ timely_ended config c does log all ends = by (core_call_in (pending_call (of c l
         (timely_none (age c log) (config.clock + ticks (device_acts log)) c (of c log) (Left c ∷ wait_acts (device_acts log))
         (left_none c (wait_acts (device_acts log))))
 
--- A call that waits for the lock is no older than its lock timeout.
+-- A call that waits for the lock is at most as old as its lock timeout.
 lock_old : (old clock : ℕ) (until : Option ℕ) (arguments : Arguments) → waits_for_peer arguments ≡ false
     → Within old clock Lock until arguments → old ≤ lock_time arguments
 lock_old old clock until arguments other (inl peer) = not_both (waits_for_peer arguments) peer other
@@ -381,7 +381,7 @@ timely_dialed config c false call (Some peer) log all =
     timely_left config c call.xid (dialed_to c false call.arguments (Some peer)) log all tt refl
 timely_dialed config c ok call None log all = timely_left config c call.xid (dialed_to c ok call.arguments None) log all tt refl
 
--- A millisecond passes.
+-- A millisecond passes, and the deadline hasn't come before it.
 later : (old clock : ℕ) (wait : Wait) (until : Option ℕ) (arguments : Arguments) → ((last : ℕ) → until ≡ Some last → last ≤ clock → ⊥)
     → Within old clock wait until arguments → Within (old + 1) (clock + 1) wait until arguments
 later old clock wait until arguments never (inl dial) = inl dial
@@ -434,7 +434,7 @@ timely_event config history Tick polled channel_log log was free fit all =
     subst (AllTimely config) (sym (append_assoc (map OnDevice (map Applied adds)) (OnDevice Ticked ∷ []) log))
     (timely_happened config adds (OnDevice Ticked ∷ log) (timely_tick config history log was all))
 
--- Nothing waits in the empty log.
+-- The empty log has no suspended call.
 pub timely_none_yet : (config : Config) → AllTimely config []
 timely_none_yet config c wait call is busy = absurd (let z : None ≡ Some wait = is in cc)
 
@@ -445,7 +445,7 @@ timely_log config =
 
 -- ---- the law
 
--- When its wait for the lock ends at the deadline, a call is at least as old as its lock timeout.
+-- If a call waits for the lock until its deadline, it is then at least as old as its lock timeout.
 pub lock_old_enough : (old clock : ℕ) (until : Option ℕ) (arguments : Arguments) (last : ℕ) → until ≡ Some last → last ≤ clock
     → Within old clock Lock until arguments → lock_time arguments ≤ old
 lock_old_enough old clock until arguments last is ends (inl peer) = peer_old old arguments peer

@@ -1,5 +1,5 @@
--- Isolation: two logs, with the events of other connections and without them, are alike for the
--- connection whose link holds the lock.
+-- Isolation: the log with the events of other connections and the log without them are alike for
+-- the connection whose link holds the lock.
 pub mod Alike
 pub mod Shut
 pub mod OthersEvents

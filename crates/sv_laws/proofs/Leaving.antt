@@ -1,4 +1,5 @@
--- Where a call that waited for the lock leaves the suspended calls, and what comes next.
+-- A call that stops waiting for the lock is executed while the lock is free, or fails, or its
+-- connection is closed.
 use Rattle.std.proofs.Common.{◌≡◌, ℕ, false, List, [], ◌∷◌, ◌++◌, None, refl, sym, ap, subst, ◌∙◌, inl, inr, ◌⊎◌, append_assoc, append-nil}
 use Rattle.std.specs.Prelude.{map, ⊤}
 use Rattle.sv_logs.proofs.Each.{Each}
@@ -15,23 +16,22 @@ use Rattle.sv_history.specs.Resuming.{leaving}
 use Rattle.sv_laws.specs.LockFair.{WaitsForLock, IsExecuted, FailsNext}
 use Rattle.sv_laws.proofs.EveryLog.Done.{IsDone}
 
--- The lock is free and the call is executed; or its connection is closed; or it fails.
+-- The lock is free and the call is executed, or its connection is closed, or the call fails.
 abbrev pub Ends : Config → ℕ → List Act → List Act → Type 0
 Ends config c newer older = ((holder (link_acts (device_acts older)) ≡ None) × IsExecuted config c newer older)
     ⊎ (is_open (of c older) ≡ false) ⊎ FailsNext c newer older
 
--- So ends the call that leaves by this act, if it waited for the lock.
+-- If this act ends a wait for the lock, the call ends in one of these three ways.
 abbrev pub EndsAt : Config → List Act → Act → List Act → Type 0
 EndsAt config newer (OnDevice (Waited (Left c))) older = WaitsForLock (device_acts older) c → Ends config c newer older
 EndsAt config newer act older = ⊤
 
--- So ends each call that waited for the lock and left in this log, behind which these newer acts
--- came.
+-- Each call of this log that stopped waiting for the lock ends so. The acts `newer` follow the log.
 abbrev pub AllEnd : Config → List Act → List Act → Type 0
 AllEnd config newer [] = ⊤
 AllEnd config newer (act ∷ older) = EndsAt config newer act older × AllEnd config (newer ++ act ∷ []) older
 
--- ---- more acts come
+-- ---- further acts follow
 
 ends_more : (config : Config) (c : ℕ) (more newer older : List Act) → Ends config c newer older → Ends config c (more ++ newer) older
 ends_more config c more newer older (inl (free, (rest, call, polled, said, known, is))) = inl (
@@ -71,9 +71,9 @@ all_more config more newer (act ∷ older) so = (
 all_before : (config : Config) (more log : List Act) → AllEnd config [] log → AllEnd config more log
 all_before config more log so = subst (λ (l : List Act). AllEnd config l log) (append-nil more) (all_more config more [] log so)
 
--- ---- among which no call leaves
+-- ---- acts by which no call leaves the queue
 
--- By none of these acts a call leaves the suspended calls.
+-- By none of these acts does a call leave the queue of suspended calls.
 abbrev pub NoneLeaves : List Act → Type 0
 NoneLeaves [] = ⊤
 NoneLeaves (OnDevice (Waited (Left c)) ∷ acts) = ⊥
@@ -92,7 +92,7 @@ pass_over config (act ∷ acts) newer log h so = (
 pub ended_quiet : (config : Config) (acts log : List Act) → NoneLeaves acts → AllEnd config [] log → AllEnd config [] (acts ++ log)
 ended_quiet config acts log h so = pass_over config acts [] log h (all_before config acts log so)
 
--- ---- a call leaves, and these acts come behind
+-- ---- a call leaves the queue, and these acts follow
 
 pub ended_before : (config : Config) (c : ℕ) (acts log : List Act) → NoneLeaves acts
     → (WaitsForLock (device_acts log) c → Ends config c acts log) → AllEnd config [] log
@@ -146,7 +146,7 @@ pub none_links : (links : List LinkAct) → NoneLeaves (map OnDevice (map Linked
 none_links [] = tt
 none_links (act ∷ links) = none_links links
 
--- ---- so it ends at its place
+-- ---- the same for a suffix of the log
 
 pub all_at : (config : Config) (newer front rest : List Act) → AllEnd config front (newer ++ rest) → AllEnd config (front ++ newer) rest
 all_at config [] front rest so = subst (λ (l : List Act). AllEnd config l rest) (sym (append-nil front)) so

@@ -1,5 +1,5 @@
--- Whose link a number is, and which link holds the lock: over an act of others, and over the same
--- act.
+-- Acts of other connections, and the same act in two logs, leave the owners of links and the lock
+-- holder alike.
 use Rattle.std.proofs.Common.{◌≡◌, ◌≢◌, ℕ, Bool, true, false, eqb, cond, List, [], ◌∷◌, ◌++◌, Option, Some, None, refl, sym, ap, ◌∙◌, inl, inr, ◌⊎◌, eq-eqb}
 use Rattle.std.specs.Prelude.{not, filter, find, option_map, ◌&&◌, ⊤}
 use Rattle.std.proofs.lemmas.Bool.{ne_eqb, cases_Bool, cases_eq, eqb-true, eqb-false}
@@ -9,12 +9,11 @@ use Rattle.sv_links.proofs.Tables.{other_than}
 use Rattle.sv_laws.proofs.Facts.{some_same}
 use Rattle.sv_logs.proofs.Since.{both_true}
 
--- ---- the owner of a number
+-- ---- the owner of a link number
 
 abbrev owner_in : ℕ → List Link → Option ℕ
 owner_in n xs = option_map (λ link. link.conn) (find (λ link. eqb link.lid n) xs)
 
--- a link more at the end
 pushed : (n c : ℕ) (xs : List Link) (link : Link) → owner_in n xs ≡ Some c → owner_in n (xs ++ link ∷ []) ≡ Some c
 pushed n c [] link h = absurd cc
 pushed n c (x ∷ xs) link h = elim (cases_Bool (eqb x.lid n)) [
@@ -39,7 +38,8 @@ pushed_of c n (x ∷ xs) link ne = elim (cases_Bool (eqb x.lid n)) [
   | inr e ↦ rw e (pushed_of c n xs link ne)
 ]
 
--- without the links of a number
+-- Removing the links with a number leaves this number without an owner, and all other owners
+-- unchanged.
 owner_left : (lid n : ℕ) (xs : List Link) → owner_in n (filter (other_than lid) xs) ≡ cond (eqb lid n) None (owner_in n xs)
 owner_left lid n [] = elim (cases_Bool (eqb lid n)) [ inl e ↦ rw e refl | inr e ↦ rw e refl ]
 owner_left lid n (x ∷ xs) = elim (cases_Bool (eqb x.lid lid)) [
@@ -55,14 +55,14 @@ owner_left lid n (x ∷ xs) = elim (cases_Bool (eqb x.lid lid)) [
   ]
 ]
 
--- a link that is made leaves an owner
 pub owner_made : (n c lid conn : ℕ) (acts : List LinkAct) → owner n acts ≡ Some c → owner n (Made lid conn ∷ acts) ≡ Some c
 owner_made n c lid conn acts h = pushed n c (live acts) (record { lid = lid; conn = conn }) h
 
 pub owner_made_other : (n lid conn : ℕ) (acts : List LinkAct) → lid ≢ n → owner n (Made lid conn ∷ acts) ≡ owner n acts
 owner_made_other n lid conn acts ne = pushed_other n (live acts) (record { lid = lid; conn = conn }) ne
 
--- an owner behind that act was one in front of it, or is the connection that made the link
+-- A link's owner after another link is made is its owner before, or the connection that made that
+-- link.
 made_in : (n c : ℕ) (xs : List Link) (link : Link) → owner_in n (xs ++ link ∷ []) ≡ Some c → (owner_in n xs ≡ Some c) ⊎ (c ≡ link.conn)
 made_in n c [] link h = elim (cases_Bool (eqb link.lid n)) [
   | inl e ↦ inr (sym (some_same link.conn c (rw e at h)))
@@ -83,7 +83,8 @@ owner_destroyed n lid acts = owner_left lid n (live acts)
 pub owner_destroyed_other : (n lid : ℕ) (acts : List LinkAct) → lid ≢ n → owner n (Destroyed lid ∷ acts) ≡ owner n acts
 owner_destroyed_other n lid acts ne = owner_destroyed n lid acts ∙ rw (ne_eqb lid n ne) refl
 
--- an owner behind that act was one in front of it
+-- A number that has an owner after a link is destroyed isn't that link's, and had this owner
+-- before.
 pub owner_before : (n c lid : ℕ) (acts : List LinkAct) → owner n (Destroyed lid ∷ acts) ≡ Some c → (lid ≢ n) × (owner n acts ≡ Some c)
 owner_before n c lid acts h = elim (cases_eq lid n) [
   | inl e ↦
@@ -99,13 +100,12 @@ pub owner_is_of : (c : ℕ) (found : Option ℕ) → is_of c found ≡ true → 
 owner_is_of c (Some other) e = ap (λ (n : ℕ). Some n) (eqb-true other c e)
 owner_is_of c None e = absurd cc
 
--- ---- which numbers are of one connection's links
+-- ---- which links one connection owns
 
 abbrev pub OwnsAlike : ℕ → List LinkAct → List LinkAct → Type 0
 OwnsAlike c acts other = (n : ℕ) → is_of c (owner n acts) ≡ is_of c (owner n other)
 
--- an act of others: no link of the connection's is made or destroyed, and no lock is taken or given
--- up
+-- The act makes and destroys no link of the connection, and neither takes nor frees the lock.
 abbrev pub IsForeignLink : ℕ → LinkAct → List LinkAct → Type 0
 IsForeignLink c (Made lid conn) acts = conn ≢ c
 IsForeignLink c (Destroyed lid) acts = is_of c (owner lid acts) ≡ false
@@ -125,7 +125,6 @@ links_foreign c (Destroyed lid) acts other h alike = λ n. elim (cases_eq lid n)
 links_foreign c (Locked lid) acts other h alike = absurd h
 links_foreign c (Unlocked lid) acts other h alike = absurd h
 
--- an act that makes no link
 abbrev pub MakesNone : LinkAct → Type 0
 MakesNone (Made lid conn) = ⊥
 MakesNone act = ⊤
@@ -143,7 +142,7 @@ links_same c (Destroyed lid) acts other h alike = λ n.
 links_same c (Locked lid) acts other h alike = alike
 links_same c (Unlocked lid) acts other h alike = alike
 
--- ---- the holder
+-- ---- the lock holder
 
 find_true : (test : ℕ → Bool) (m : ℕ) (xs : List ℕ) → find test xs ≡ Some m → test m ≡ true
 find_true test m [] h = absurd cc
@@ -152,7 +151,7 @@ find_true test m (x ∷ xs) h = elim (cases_Bool (test x)) [
   | inr e ↦ find_true test m xs (rw e at h)
 ]
 
--- what is found is found by a narrower test that it passes
+-- The first element that passes a test is also the first to pass a narrower test, if it passes it.
 find_narrow : (wide narrow : ℕ → Bool) (m : ℕ) (xs : List ℕ) → ((x : ℕ) → narrow x ≡ true → wide x ≡ true) → narrow m ≡ true
     → find wide xs ≡ Some m → find narrow xs ≡ Some m
 find_narrow wide narrow m [] so is h = absurd cc
@@ -173,7 +172,6 @@ not_same a b e same = absurd (let z : not true ≡ true = rw (eq-eqb a b same) a
 pub holder_locked : (lid : ℕ) (acts : List LinkAct) → is_locked lid acts ≡ false → holder acts ≡ Some lid → ⊥
 holder_locked lid acts free h = let z : false ≡ true = sym free ∙ find_true (λ n. is_locked n acts) lid (lock_order acts) h in cc
 
--- the link that holds the lock behind an act isn't freed by it
 pub not_unlocked : (lid n : ℕ) (acts : List LinkAct) → holder (Unlocked n ∷ acts) ≡ Some lid → n ≢ lid
 not_unlocked lid n acts h =
     let found = find_true (λ (m : ℕ). is_locked m (Unlocked n ∷ acts)) lid (lock_order acts) h in
@@ -184,7 +182,6 @@ not_destroyed lid n acts h =
     let found = find_true (λ (m : ℕ). is_locked m (Destroyed n ∷ acts)) lid (lock_order acts) h in
     not_same n lid ((both_true (not (eqb n lid)) (is_locked lid acts)).0 found).0
 
--- a link that gets the lock holds it
 pub locked_now : (n : ℕ) (acts : List LinkAct) → holder (Locked n ∷ acts) ≡ Some n
 locked_now n acts = rw (eq-eqb n n refl) refl
 
@@ -196,7 +193,8 @@ still_found lid n acts ne h =
     ((both_true (not (eqb n lid)) (is_locked lid acts)).1
     (rw (ne_eqb n lid ne) refl, find_true (λ m. is_locked m acts) lid (lock_order acts) h)) h
 
--- the same act leaves the same holder, where it leaves this one
+-- If a link holds the lock in one log after an act, and in another log before it, it holds the lock
+-- there after this act too.
 pub holder_same : (lid : ℕ) (act : LinkAct) (acts other : List LinkAct) → holder other ≡ Some lid → holder (act ∷ acts) ≡ Some lid
     → holder (act ∷ other) ≡ Some lid
 holder_same lid (Made n conn) acts other h now = h
@@ -204,7 +202,7 @@ holder_same lid (Destroyed n) acts other h now = still_found lid n other (not_de
 holder_same lid (Locked n) acts other h now = locked_now n other ∙ sym (locked_now n acts) ∙ now
 holder_same lid (Unlocked n) acts other h now = still_found lid n other (not_unlocked lid n acts now) h
 
--- and its owner
+-- A link that holds the lock after an act still has its owner.
 pub owner_kept : (c lid : ℕ) (act : LinkAct) (acts : List LinkAct) → holder (act ∷ acts) ≡ Some lid → owner lid acts ≡ Some c
     → owner lid (act ∷ acts) ≡ Some c
 owner_kept c lid (Made n conn) acts now h = owner_made lid c n conn acts h

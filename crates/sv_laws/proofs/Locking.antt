@@ -15,17 +15,16 @@ use Rattle.sv_history.specs.CoreChannel.{own_call}
 use Rattle.sv_laws.specs.LockFair.{AsksForLock, LockIsTaken, LockIsFreed}
 use Rattle.sv_laws.proofs.LinksAlike.{locked_now, not_unlocked}
 
--- A call that asks for the lock succeeds with this result: a device_lock, or a create_link that
--- made this link.
+-- The result is that of a device_lock that succeeds, or of a create_link that made this link.
 abbrev Succeeds : ℕ → ℕ → ℕ → Option Outcome → Type 0
 Succeeds lid abort_port most result =
     (result ≡ Some (Plain NoError)) ⊎ (result ≡ Some (Link NoError (pos lid) abort_port most))
 
--- The link of a call holds the lock behind it.
+-- The link holds the lock after a call with this outcome.
 abbrev Holds : ℕ → List DeviceAct → CallOutcome → Type 0
 Holds lid acts outcome = holder (link_acts (outcome.adds ++ acts)) ≡ Some lid
 
--- a device_lock that isn't locked out
+-- A device_lock that succeeds gives its link the lock.
 lock_holds : (out : Bool) (n lid abort_port most : ℕ) (acts : List DeviceAct) → n ≡ lid
     → let outcome = cond out (only (Plain DeviceLocked)) (answer_with (Linked (Locked n) ∷ []) (Plain NoError)) in
     Succeeds lid abort_port most outcome.result → Holds lid acts outcome
@@ -33,7 +32,7 @@ lock_holds true n lid abort_port most acts same (inl done) = absurd cc
 lock_holds true n lid abort_port most acts same (inr done) = absurd cc
 lock_holds false n lid abort_port most acts same done = locked_now n (link_acts acts) ∙ ap (λ (m : ℕ). Some m) same
 
--- a create_link that asks for the lock, where a number is left for its link
+-- A create_link that asks for the lock and succeeds gives its new link the lock.
 made_holds : (left : Bool) (c n port size lid abort_port most : ℕ) (acts : List DeviceAct)
     → let outcome = cond (not left) (only (Link OutOfResources (pos 0) 0 0))
     (answer_with (Linked (Locked n) ∷ Linked (Made n c) ∷ []) (Link NoError (pos n) port size)) in
@@ -61,7 +60,7 @@ lock_is_taken config polled c lid abort_port most arguments acts outcome is asks
 
 -- ---- device_unlock
 
--- A device_unlock that succeeds was called on the link that holds the lock.
+-- A device_unlock that succeeds was called on the lock holder, which then holds the lock no more.
 released : (same : Bool) (lid : ℕ) (acts : List DeviceAct)
     → let outcome = cond same (answer_with (Linked (Unlocked lid) ∷ []) (Plain NoError)) (only (Plain NoLock)) in
     outcome.result ≡ Some (Plain NoError) → (same ≡ true) × (holder (link_acts (outcome.adds ++ acts)) ≢ Some lid)

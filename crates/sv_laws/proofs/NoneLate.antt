@@ -1,4 +1,4 @@
--- No call waits past its deadline, and none waits for what is there.
+-- Between two events no suspended call is past its deadline, and none can resume.
 use Rattle.std.proofs.Common.{◌≡◌, ℕ, ◌+◌, ◌<◌, Bool, true, List, Option, Some, None, refl}
 use Rattle.std.specs.Prelude.{not}
 use Rattle.sv_links.specs.declared.waiting.Wait.{Wait}
@@ -18,7 +18,7 @@ use Rattle.sv_laws.proofs.EveryLog.EachEvent.{fit_log}
 use Rattle.sv_laws.proofs.EveryLog.Steps.{log_settled, rested}
 use Rattle.sv_laws.proofs.Facts.{not_both}
 
--- ---- the oldest of those that can go on
+-- ---- the oldest suspended call that can resume
 
 abbrev goes : List DeviceAct → ℕ → Bool
 goes acts d = is_there (holder (link_acts acts)) (not (has_ended (exchange_acts acts))) (is_answerable (instrument_acts acts))
@@ -45,7 +45,7 @@ pub oldest_going : (acts : List DeviceAct) → AllSuit acts → (found : Option 
 oldest_going acts all =
     let first = least (wait_acts acts) (goes acts) 16 in (first.0, going_by acts all first.0 first.1)
 
--- ---- so none is late, and none waits for what is there
+-- ---- no suspended call is past its deadline or can resume
 
 none_expired : (config : Config) (log : List Act) → IsSettled config log → (found : Option ℕ)
     → IsOldest (wait_acts (device_acts log)) (IsExpired (config.clock + ticks (device_acts log)) (wait_acts (device_acts log))) found

@@ -1,4 +1,6 @@
--- If peers take no less than before, no event is refused that wasn't refused before.
+-- Two histories differ only in their Took events, and no more bytes wait after the second one. An
+-- event that isn't a Took, and isn't refused after the first one, isn't refused after the second
+-- one.
 use Rattle.std.proofs.Common.{◌≡◌, ℕ, ◌≤◌, Bool, true, false, cond, List, length, Option, Some, None, refl, sym, ap, ◌∙◌, arith, le-ltb}
 use Rattle.std.specs.Prelude.{◌||◌, not, is_some, is_none, nat_lt}
 use Rattle.std.proofs.lemmas.Bool.{ltb-false}
@@ -20,14 +22,14 @@ use Rattle.sv_laws.specs.Taking.{is_took, NoneRefused}
 use Rattle.sv_laws.proofs.Cuts.SameView.{SameConnection, next_call_same, next_request_same}
 use Rattle.sv_laws.proofs.Taking.{TakenAlike, logs_alike, retook}
 
--- ---- if peers take more, no event is refused for it
+-- ---- where no more bytes wait, no further event is refused
 
 open_by : (far opened : Bool) → (far || not opened) ≡ false → opened ≡ true
 open_by true opened e = absurd cc
 open_by false true e = refl
 open_by false false e = absurd cc
 
--- If there was room for a reply, there still is.
+-- An event that wasn't refused isn't refused if the reply still finds room.
 room_by : (shut one two : Bool) (refused : Refused) → (one ≡ false → shut ≡ false → two ≡ false)
     → cond shut (Some NoConn) (cond one (Some refused) None) ≡ None → cond shut (Some NoConn) (cond two (Some refused) None) ≡ None
 room_by true one two refused so e = absurd cc

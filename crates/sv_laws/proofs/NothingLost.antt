@@ -1,4 +1,4 @@
--- An event that fits the server's answers (open, room, next call) is never refused.
+-- An event that the answers of the server's queries allow (`Suits`) is never refused.
 use Rattle.std.proofs.Common.{◌≡◌, ℕ, ◌<◌, Bool, true, false, cond, eqb, List, [], ◌∷◌, ◌++◌, length, filter, Option, Some, None, refl, sym, ap, subst, ◌∙◌, inl, inr, arith, le-ltb, append-nil}
 use Rattle.std.specs.Prelude.{map, not, is_some, ◌||◌, Result, Ok, Err}
 use Rattle.std.proofs.lemmas.Bool.{cases_Bool}
@@ -35,7 +35,7 @@ use Rattle.sv_history.proofs.Telling.{tells_once, has_channel_told}
 use Rattle.sv_laws.proofs.ShutIsClear.{clear_free, shut_is_clear}
 use Rattle.sv_laws.proofs.Facts.{some_none, not_both}
 
--- ---- what isn't refused, and wants no memory, is done
+-- ---- an event that isn't refused and needs no memory succeeds
 
 pub is_done : (config : Config) (channel_log : List ChannelAct) (event : PlainEvent) (log : List Act) (result : Result Did Refused)
     → refusal config channel_log event log ≡ None → did event log ≡ Done
@@ -45,7 +45,7 @@ is_done config channel_log event log (Ok what) free does modest h = ap Ok (h.1 �
 is_done config channel_log event log (Err NoMemory) free does modest h = not_both _ h.3 (modest h.1)
 is_done config channel_log event log (Err _) free does modest h = some_none _ _ free h
 
--- ---- which want none
+-- ---- events that need no memory
 
 waits_none : (c d : ℕ) → waits d (Left c ∷ []) ≡ None
 waits_none c d = elim (cases_Bool (eqb c d)) [ inl e ↦ rw e refl | inr e ↦ rw e refl ]
@@ -104,7 +104,6 @@ none_wanted acts none still =
     let b : creating (wait_acts acts) ≡ 0 = ap creating still in
     let c : dialing (wait_acts acts) ≡ 0 = ap dialing still in rw (a, b, c) refl
 
--- what happens to the instrument
 none_behind : (adds : List InstrumentAct) (log : List Act) → link_acts (device_acts log) ≡ [] → wait_acts (device_acts log) ≡ []
     → wants_memory (device_acts (map OnDevice (map Applied adds) ++ log)) ≡ false
 none_behind adds log none still = rw (device_shared (map Applied adds) log) (none_wanted (map Applied adds ++ device_acts log)
@@ -118,7 +117,7 @@ pub happened_wants : (adds : List InstrumentAct)
     → wants_memory (device_acts (map OnDevice (map Applied adds) ++ OnDevice Ticked ∷ [])) ≡ false
 happened_wants adds = none_behind adds (OnDevice Ticked ∷ []) refl refl
 
--- ---- which are of an open one
+-- ---- room, bytes that wait, or a peer to dial mean that a port is open
 
 not_shut : (c : ℕ) (log : List Act) → c < 16 → is_open (of c log) ≡ true → is_shut c log ≡ false
 not_shut c log lt opened = ap (λ (b : Bool). b || not (is_open (of c log))) (le-ltb 15 c (omega (arith, lt))) ∙ ap not opened
@@ -151,7 +150,7 @@ open_dialing config history log c dial was some = some_role (open_role (of c log
     let none = clear_free (of c log) (shut_is_clear config history log c was shut) in
     let z : None ≡ Some dial = sym (ap (λ (call : Option (List ℕ)). dial_in (core_call_in call)) none) ∙ some in cc)
 
--- ---- so each is done
+-- ---- the law
 
 not_none : (b : Bool) → not b ≡ false → b ≡ true
 not_none true e = refl

@@ -1,4 +1,4 @@
--- A history determines one log.
+-- A history has at most one log.
 use Rattle.std.proofs.Common.{◌≡◌, ℕ, zero, suc, List, [], ◌∷◌, ◌++◌, sym, ap, ◌∙◌, subst}
 use Rattle.sv_layers.specs.StatusByte.{PolledBit}
 use Rattle.sv_layers.proofs.PolledByte.{one_word}
@@ -15,7 +15,6 @@ use Rattle.sv_history.specs.History.{own_acts, IsLogOf}
 use Rattle.sv_laws.specs.Laws.{OneLog}
 use Rattle.sv_history.proofs.OneStep.{next_once}
 
--- the steps that are due lead to one log
 pub one_end : (n m : ℕ) (config : Config) (log a b : List Act) → SettlesIn n config log a → SettlesIn m config log b → a ≡ b
 one_end zero zero config log a b x y = x.1 ∙ sym y.1
 one_end zero (suc m) config log a b x y = absurd (x.0 y.0 y.1)
@@ -23,7 +22,6 @@ one_end (suc n) zero config log a b x y = absurd (y.0 x.0 x.1)
 one_end (suc n) (suc m) config log a b x y =
     let same = next_once config log x.0 y.0 x.1 y.1 in one_end n m config y.0 a b (rw same at x.2) y.2
 
--- a history has at most one log
 pub one_log : OneLog
 one_log config [] a b x y = x.1 ∙ sym y.1
 one_log config (event ∷ history) a b x y =
@@ -34,7 +32,8 @@ one_log config (event ∷ history) a b x y =
     let settled = subst (λ (word : ℕ). Settles config (own_acts config word event x.0 ++ x.0) b) polled there in
     one_end x.8.0 settled.0 config (own_acts config x.1 event x.0 ++ x.0) a b x.8.1 settled.1
 
--- A history sends what another does, where their logs send the same by what they tell.
+-- If the logs of two histories give the same bytes on a port, the second history sends what the
+-- first sends.
 pub sends_moved : (port : Port) (config : Config) (history other : List PlainEvent) (log also : List Act) (bytes : List ℕ)
     → IsLogOf config history log → IsLogOf config other also
     → ((channel_log : List ChannelAct) → HearsOf (device_acts log) channel_log → (heard : List ChannelAct)

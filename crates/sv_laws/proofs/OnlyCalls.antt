@@ -1,4 +1,5 @@
--- To a connection, an event adds its own act; everything that follows it are acts of calls.
+-- After the act that an event itself adds to a connection, only acts of calls follow: a call taken,
+-- a fault or a reply.
 use Rattle.std.proofs.Common.{◌≡◌, ℕ, eqb, true, false, List, [], ◌∷◌, ◌++◌, Option, Some, None, refl, sym, ap, subst, ◌∙◌, inl, inr, append_assoc}
 use Rattle.std.specs.Prelude.{map}
 use Rattle.std.proofs.lemmas.Bool.{cases_Bool}
@@ -41,7 +42,7 @@ replies_calls : (xid : ℕ) (result : Option Outcome) → AreCalls (replies xid 
 replies_calls xid (Some result) = tt
 replies_calls xid None = tt
 
--- ---- acts of calls behind these
+-- ---- acts of calls that follow a log
 
 abbrev Behind : (ℕ → List ConnAct) → List Act → Type 0
 Behind base log = (c : ℕ) → (calls : List ConnAct) × AreCalls calls × (of c log ≡ calls ++ base c)
@@ -67,7 +68,7 @@ behind_shared : (base : ℕ → List ConnAct) (adds : List DeviceAct) (log : Lis
 behind_shared base adds log all d =
     subst (λ (l : List ConnAct). (calls : List ConnAct) × AreCalls calls × (l ≡ calls ++ base d)) (sym (of_shared d adds log)) (all d)
 
--- ---- a suspended call ends, or waits anew
+-- ---- a suspended call ends or is suspended again
 
 behind_ended : (base : ℕ → List ConnAct) (c : ℕ) (does : Arguments → CallOutcome) (log : List Act) → Behind base log
     → Behind base (acts_of c (effect_of c does (core_call_in (pending_call (of c log)))) ++ log)
@@ -88,7 +89,7 @@ pub request_calls : (config : Config) (polled c : ℕ) (request : Request) (acts
 request_calls config polled c (CoreRequest call) acts = replies_calls call.xid _
 request_calls config polled c _ acts = tt
 
--- the act that an event is
+-- An event's own act is added to its own connection only.
 on_mine : (c d : ℕ) (act : ConnAct) (log : List Act) (brought : List ConnAct) → (eqb c d ≡ true → brought ≡ act ∷ [])
     → (eqb c d ≡ false → brought ≡ []) → of d (On c act ∷ log) ≡ brought ++ of d log
 on_mine c d act log brought mine other = elim (cases_Bool (eqb c d)) [

@@ -1,5 +1,5 @@
--- To an interrupt channel, an event adds its own act; after it the channel is closed, or requests
--- are queued.
+-- After the act that an event itself adds to the log of the interrupt channels, a channel is only
+-- closed, or calls are appended on it.
 use Rattle.std.proofs.Common.{◌≡◌, ℕ, Bool, true, false, eqb, cond, List, [], ◌∷◌, ◌++◌, Option, Some, None, refl, sym, ap, subst, ◌∙◌, inl, inr, append_assoc, append-nil, add-zero, ◌+◌}
 use Rattle.std.specs.Prelude.{map, ⊤}
 use Rattle.std.specs.List.{fold, AllByRecursion}
@@ -41,7 +41,7 @@ use Rattle.sv_laws.proofs.EveryLog.Done.{IsDone, each_done}
 use Rattle.sv_logs.proofs.Each.{Each}
 use Rattle.sv_laws.proofs.EveryLog.EachEvent.{each_settled, StepsKeep, step_keeps, turn_keeps, refuse_keeps}
 
--- ---- acts that open no channel, and of which no peer takes bytes
+-- ---- acts that open no channel, take no bytes and let no time pass
 
 abbrev IsPlain : DeviceAct → Type 0
 IsPlain (Channel (ChannelOpened conn what)) = ⊥
@@ -60,7 +60,7 @@ plain_links : (links : List LinkAct) → ArePlain (map Linked links)
 plain_links [] = tt
 plain_links (act ∷ links) = (tt, plain_links links)
 
--- ---- what they tell
+-- ---- what these acts add to the log of the interrupt channels
 
 fold_adds : (p : Option Peer) (t : ℕ) (cs handles : List (List ℕ)) → (more : List (List ℕ)) × (fold (add_call p t) cs handles ≡ cs ++ more)
 fold_adds p t cs [] = ([], sym (append-nil cs))
@@ -173,7 +173,7 @@ plain_ended : (c : ℕ) (does : Arguments → CallOutcome) (call : Option CoreCa
 plain_ended c does (Some call) h = h call.arguments
 plain_ended c does None h = (tt, tt)
 
--- ---- acts behind these
+-- ---- logs that such acts continue
 
 abbrev Behind : List DeviceAct → List Act → Type 0
 Behind base log = (adds : List DeviceAct) × ArePlain adds × (device_acts log ≡ adds ++ base)
@@ -216,15 +216,15 @@ behind_none log = ([], tt, refl)
 no_tick : (log : List Act) → ticks (device_acts log) ≡ ticks (device_acts log) + 0
 no_tick log = sym (add-zero (ticks (device_acts log)))
 
--- what is told to channels, and how many milliseconds pass, before the acts that a list of acts
--- begins with
+-- The new log continues `base` by such acts. Compared with `log`, the base adds `told` to the log
+-- of the interrupt channels, and `passed` milliseconds.
 record BeginsBy (told : List ChannelAct) (passed : ℕ) (log new : List Act) : Type 0 where
   base : List DeviceAct
   behind : Behind base new
   hears : (channel_log : List ChannelAct) → HearsOf (device_acts log) channel_log → HearsOf base (told ++ channel_log)
   time : ticks base ≡ ticks (device_acts log) + passed
 
--- at most events nothing is told, and no time passes
+-- Most events add nothing to the log of the interrupt channels, and let no time pass.
 at_once : (log new : List Act) → Behind (device_acts log) new → BeginsBy [] 0 log new
 at_once log new all = record { base = device_acts log; behind = all; hears = λ channel_log x. x; time = no_tick log }
 
@@ -295,7 +295,7 @@ begins config Tick polled log =
       time = refl;
     }
 
--- what is settled behind an event
+-- The steps after an event's own acts add only such acts.
 ends_behind : (config : Config) (event : PlainEvent) (polled : ℕ) (before log : List Act) (n : ℕ)
     → SettlesIn n config (own_acts config polled event before ++ before) log → Behind (begins config event polled before).base log
 ends_behind config event polled before log n settles =
@@ -318,7 +318,7 @@ only_requests config event history before log channel_log later c was x is y =
     let settles = subst (λ (l : List Act). SettlesIn is.8.0 config (own_acts config is.1 event l ++ l) log) same is.8.1 in
     from_log config event is.1 before log channel_log later c x is.8.0 settles y
 
--- ---- and how many milliseconds passed
+-- ---- how far an event advances the clock
 
 pub ticks_event : (config : Config) (event : PlainEvent) (polled : ℕ) (before log : List Act) (n : ℕ)
     → SettlesIn n config (own_acts config polled event before ++ before) log

@@ -1,4 +1,4 @@
--- A new call that needs the lock isn't executed while another link holds the lock.
+-- A call that needs the lock, and is taken while another link holds it, isn't executed.
 use Rattle.std.proofs.Common.{◌≡◌, ◌≢◌, ℕ, ◌+◌, ◌≤◌, Bool, true, false, cond, List, ◌∷◌, ◌++◌, Option, Some, None, refl, sym, ap, subst, ◌∙◌, inl, inr, ◌⊎◌, arith}
 use Rattle.std.specs.Prelude.{not, is_some, ◌&&◌, option_map, ℤ}
 use Rattle.std.proofs.lemmas.Bool.{cases_eq, ne_eqb}
@@ -42,17 +42,17 @@ use Rattle.sv_laws.proofs.EveryLog.EachEvent.{each_settled, turn_parts, entered_
 
 -- ---- what stops a call that is locked out
 
--- A call that is locked out may fail with this error: 11 if it waits no time for the lock, or a
--- fault of its own.
+-- A call that is locked out may fail with error 11 if it waits no time for the lock, or with an
+-- error that is its own fault.
 abbrev MayFail : Arguments → ErrorCode → Type 0
 MayFail arguments error = ((error ≡ DeviceLocked) × (lock_time arguments ≡ 0)) ⊎ (is_own_fault error ≡ true)
 
--- A call is stopped: by such an error, or because it waits for the lock.
+-- The call is stopped: it fails with such an error, or it waits for the lock.
 abbrev IsStopped : Arguments → Option Stop → Type 0
 IsStopped arguments stop = ((error : ErrorCode) × MayFail arguments error × (stop ≡ Some (Fails error)))
     ⊎ ((until : Option ℕ) × (stop ≡ Some (Awaits Lock until)))
 
--- a create_link that asks for the lock
+-- A create_link that asks for the lock is stopped while a link holds the lock.
 link_stopped : (arguments : Arguments) (named more : Bool) (timeout : ℕ)
     → IsStopped arguments (cond (not named) (Some (Fails NotAccessible)) (cond (not more) (Some (Fails OutOfResources))
     (Some (Awaits Lock (Some timeout)))))
@@ -60,7 +60,7 @@ link_stopped arguments false more timeout = inl (NotAccessible, inr refl, refl)
 link_stopped arguments true false timeout = inl (OutOfResources, inr refl, refl)
 link_stopped arguments true true timeout = inr (Some timeout, refl)
 
--- a call on a link
+-- A call on a link that is locked out waits for the lock, or fails with error 11 and waits no time.
 lock_stopped : (lid : ℤ) (call : LinkCall) (found : Option LockWait) → lock_wait call ≡ found → is_some found ≡ true
     → IsStopped (OnLink lid call) (option_map lock_stop found)
 lock_stopped lid call (Some one) is some = by one.waits refl
@@ -81,7 +81,7 @@ call_stopped arguments true false true true lock other is out stops = stops
 call_stopped arguments true false true false lock other is out stops = absurd cc
 call_stopped arguments true false false locked lock other is out stops = absurd cc
 
--- A call that needs the lock is stopped where it is locked out.
+-- A call that needs the lock is stopped while it is locked out.
 stopped : (c : ℕ) (arguments : Arguments) (acts : List DeviceAct) → needs_lock arguments ≡ true
     → is_locked_out (holder (link_acts acts)) (lid_of (link_in arguments)) ≡ true → IsStopped arguments (stop_of c arguments acts)
 stopped c (CreateLink client_id true lock_timeout device) acts needs out =
@@ -93,22 +93,20 @@ stopped c (OnLink lid call) acts needs out =
     (lock_stopped lid call (lock_wait call) refl needs)
 stopped c _ acts needs out = absurd cc
 
--- a call that needs the lock waits for no peer
 no_peer : (arguments : Arguments) → needs_lock arguments ≡ true → waits_for_peer arguments ≡ true → ⊥
 no_peer (CreateLink client_id lock_device lock_timeout device) needs peer = cc
 no_peer (OnLink lid call) needs peer = cc
 no_peer _ needs peer = cc
 
--- a call is locked out if its link isn't the one that holds the lock
 out_of : (o named : Option ℕ) → (o ≡ None → ⊥) → o ≢ named → is_locked_out o named ≡ true
 out_of None named held ne = absurd (held refl)
 out_of (Some h) None held ne = refl
 out_of (Some h) (Some n) held ne = rw (ne_eqb n h (λ e. ne (ap (λ (m : ℕ). Some m) (sym e)))) refl
 
--- ---- where nothing is due
+-- ---- no step is due
 
--- Where the instrument is as in the log of a history, and no call can resume or is past its
--- deadline, no step is due.
+-- No step is due if the instrument is as after a history, and no suspended call can resume or is
+-- past its deadline.
 none_next : (config : Config) (history : List PlainEvent) (before log new : List Act) → IsLogOf config history before
     → instrument_acts (device_acts log) ≡ instrument_acts (device_acts before) → ((e : ℕ) → CanResume (device_acts log) e → ⊥)
     → ((e : ℕ) → IsExpired (config.clock + ticks (device_acts log)) (wait_acts (device_acts log)) e → ⊥) → IsNext config log new → ⊥
@@ -122,28 +120,28 @@ none_next config history before log new was same able late (inr (none, inr (stil
 none_next config history before log new was same able late (inr (none, inr (still, inr (idle, (e, wait, oldest, for, so))))) =
     late e oldest.0
 
--- a call that waits as in the log of a history isn't past its deadline
+-- A call that is suspended as after a history isn't past its deadline.
 none_late_alike : (config : Config) (history : List PlainEvent) (before : List Act) (e : ℕ) (acts : List WaitAct)
     → IsLogOf config history before → SameCall e acts (wait_acts (device_acts before))
     → IsExpired (config.clock + ticks (device_acts before)) acts e → ⊥
 none_late_alike config history before e acts was alike (wait, last, for, until, past) =
     (none_late config history before e was).0 (wait, last, sym alike.wait ∙ for, sym alike.until ∙ until, past)
 
--- ---- the call waits for the lock, or is refused
+-- ---- the call waits for the lock, or is answered with an error
 
--- A call waits for the lock where another link holds it, and until then nothing was due.
+-- The log `before` is that of a history, and in it the call is locked out.
 record IsBehind (config : Config) (c : ℕ) (bytes : List ℕ) (call : CoreCall) (before : List Act) : Type 0 where
   history : List PlainEvent
   was : IsLogOf config history before
   known : core_call_in (Some bytes) ≡ Some call
   out : is_locked_out (holder (link_acts (device_acts before))) (lid_of (link_in call.arguments)) ≡ true
 
--- A wait that begins now, and has this deadline, lasts as long as the call waits for the lock.
+-- A wait with this deadline that begins now lasts at least the call's lock timeout.
 abbrev IsLong : Config → CoreCall → List Act → Option ℕ → Type 0
 IsLong config call before last =
     (n : ℕ) → last ≡ Some n → config.clock + ticks (device_acts before) + lock_time call.arguments ≤ n
 
--- such is the wait for the lock of a call that needs it
+-- If a call that needs the lock waits for it, the wait lasts so long.
 long_by : (config : Config) (c : ℕ) (call : CoreCall) (before : List Act) (until : Option ℕ) → needs_lock call.arguments ≡ true
     → Begins Lock until call.arguments → IsLong config call before (deadline config until (device_acts before))
 long_by config c call before until needs (inl peer) = absurd (no_peer call.arguments needs peer)
@@ -153,12 +151,12 @@ long_by config c call before until needs (inr (timeout, is, most, least)) = λ n
     let sum : clock + timeout ≡ n = some_same (clock + timeout) n now in
     let less = least refl in omega (arith, sum, less)
 
--- the log in which it waits
+-- The log after the call was taken, and suspended until it gets the lock.
 abbrev suspended : ℕ → List ℕ → CoreCall → Option ℕ → List Act → List Act
 suspended c bytes call last before =
     OnDevice (Waited (Entered c (lid_of (link_in call.arguments)) Lock last)) ∷ On c (CallTaken bytes) ∷ before
 
--- The call is answered with an error: at once, or right behind its suspension.
+-- The call is answered with an error, at once or directly after it is suspended.
 abbrev IsRefused : ℕ → List ℕ → CoreCall → List Act → List Act → Type 0
 IsRefused c bytes call before log = (error : ErrorCode) × MayFail call.arguments error
     × ((log ≡ On c (Replied (result_reply call.xid (failure call.arguments error))) ∷ On c (CallTaken bytes) ∷ before)
@@ -170,9 +168,9 @@ abbrev StaysBehind : Config → ℕ → List ℕ → CoreCall → List Act → L
 StaysBehind config c bytes call before log =
     ((last : Option ℕ) × (log ≡ suspended c bytes call last before) × IsLong config call before last) ⊎ IsRefused c bytes call before log
 
--- ---- nothing is due behind it but its own timeout
+-- ---- no step but the call's own timeout is due
 
--- such a call can't resume, and neither can another
+-- While the call waits for the lock, no suspended call can resume.
 none_behind : (config : Config) (c : ℕ) (bytes : List ℕ) (call : CoreCall) (before : List Act) (last : Option ℕ) (e : ℕ)
     → IsBehind config c bytes call before → CanResume (device_acts (suspended c bytes call last before)) e → ⊥
 none_behind config c bytes call before last e is able = elim (cases_eq e c) [
@@ -190,14 +188,14 @@ none_behind config c bytes call before last e is able = elim (cases_eq e c) [
       (none_late config is.history before e is.was).1 (rw (alike.wait, alike.named) at able)
 ]
 
--- the calls of others behind its suspension and its end
+-- Suspending the call, and ending its suspension, leaves the other suspended calls alone.
 left_alike : (c e : ℕ) (named last : Option ℕ) (acts : List WaitAct) → e ≢ c → SameCall e (Left c ∷ Entered c named Lock last ∷ acts) acts
 left_alike c e named last acts ne =
     let one = same_other c e (Entered c named Lock last) acts refl ne in
     let two = same_other c e (Left c) (Entered c named Lock last ∷ acts) refl ne in
     record { wait = two.wait ∙ one.wait; until = two.until ∙ one.until; named = two.named ∙ one.named }
 
--- nothing is due where it is answered
+-- Once the call is answered, no step is due.
 none_refused : (config : Config) (c : ℕ) (bytes : List ℕ) (call : CoreCall) (before log new : List Act)
     → IsBehind config c bytes call before → IsRefused c bytes call before log → IsNext config log new → ⊥
 none_refused config c bytes call before log new is (error, may, inl so) next =
@@ -225,7 +223,7 @@ none_refused config c bytes call before log new is (error, may, inr (last, so)) 
       | inr other ↦ none_late_alike config is.history before e now is.was (left_alike c e named last acts other) late
     ]) (subst (λ (l : List Act). IsNext config l new) so next)
 
--- only its own timeout ends its wait
+-- If the call times out at once, its lock timeout is 0, and it is answered with error 11.
 refused_late : (config : Config) (c : ℕ) (bytes : List ℕ) (call : CoreCall) (before : List Act) (last : Option ℕ) (new : List Act) (e : ℕ)
     (wait : Wait) → IsBehind config c bytes call before → IsLong config call before last → e ≡ c
     → let log = suspended c bytes call last before in
@@ -276,7 +274,7 @@ behind_step config c bytes call before log new is (inl (last, same, long)) next 
           (same_other c e (Entered c named Lock last) acts refl ne) oldest.0)
     ]
 
--- ---- the Turn that takes it
+-- ---- the Turn that takes the call
 
 behind_turn : (config : Config) (polled c : ℕ) (bytes : List ℕ) (call : CoreCall) (before : List Act) (stop : Option Stop)
     → needs_lock call.arguments ≡ true → stop_of c call.arguments (device_acts before) ≡ stop → IsStopped call.arguments stop
@@ -306,7 +304,7 @@ behind_settled config polled c bytes call before log is next asks needs settles 
     (λ one new so due. behind_step config c bytes call before one new is so due)
     settles.0 (own_acts config polled (Turn c) before ++ before) log begins settles.1
 
--- ---- so it is locked out
+-- ---- the call is locked out
 
 locked_out : (config : Config) (c : ℕ) (bytes : List ℕ) (call : CoreCall) (before log : List Act)
     → StaysBehind config c bytes call before log → IsLockedOut c bytes call before log

@@ -1,5 +1,5 @@
--- A call stops waiting for the lock if it came first and the lock is free, if its connection
--- closes, if its timeout has passed, or if a device_abort names its link.
+-- A call stops waiting for the lock only if the lock is free and the call came first, its
+-- connection closes, its lock timeout has passed, or a device_abort names its link.
 use Rattle.std.proofs.Common.{◌≡◌, ℕ, ◌+◌, ◌<◌, ◌≤◌, nat_lt, Bool, true, false, cond, List, [], ◌∷◌, ◌++◌, Option, Some, None, refl, sym, ap, subst, ◌∙◌, inl, inr, ◌⊎◌, append_assoc}
 use Rattle.std.specs.Prelude.{map, not, is_some, ◌&&◌, ℤ, pos, negsuc}
 use Rattle.std.proofs.lemmas.Bool.{eqb-true}
@@ -58,24 +58,25 @@ use Rattle.sv_laws.proofs.Placed.{IsPlaced, AllPlaced, placed_before, placed_log
 use Rattle.sv_laws.proofs.Sound.{Sound, free_of}
 use Rattle.sv_laws.proofs.SoundEvents.{sound_event, sound_step, sound_none, place_of}
 
--- ---- where a call leaves
+-- ---- a call leaves the queue
 
--- Why a call fails with this error: its lock timeout has passed, or a device_abort names its link.
+-- The call fails with this error because its lock timeout has passed, or because a device_abort
+-- names its link.
 abbrev IsCause : ℕ → Arguments → ErrorCode → List Act → Type 0
 IsCause c arguments error older = ((error ≡ DeviceLocked) × (lock_time arguments ≤ age c older)) ⊎ ((error ≡ Abort) × IsAborted c older)
 
--- A call of this connection that waits for the lock has cause to fail with this error.
+-- If the call of this connection waits for the lock, it has such a cause to fail with this error.
 abbrev HasCause : ℕ → ErrorCode → List Act → Type 0
 HasCause c error older = WaitsForLock (device_acts older) c → (call : CoreCall) → core_call_in (pending_call (of c older)) ≡ Some call
     → IsCause c call.arguments error older
 
--- Each call that waited for the lock, and left in this log, ended by one of three ways.
+-- Each call of the log that stopped waiting for the lock ended in one of the three ways (`Ends`).
 abbrev IsEnded : Config → List Act → Type 0
 IsEnded config log = AllEnd config [] log
 
--- ---- a suspended call ends, or waits anew
+-- ---- a suspended call ends or is suspended again
 
--- one with an error
+-- A suspended call may fail with an error if it has cause to.
 ended_failed : (config : Config) (error : ErrorCode) (c : ℕ) (log : List Act) → HasCause c error log → Fit log → IsEnded config log
     → IsEnded config (acts_of c (failure_effect error c (core_call_in (pending_call (of c log)))) ++ log)
 ended_failed config error c log cause fit so = by (core_call_in (pending_call (of c log))) refl
@@ -100,14 +101,14 @@ ended_continued config polled c call None log said known free so =
     (none_done c call.arguments outcome.adds before (each_done config polled c call.arguments before))
     (λ w. inl (free w, ([], call, polled, said, known, refl))) so
 
--- ---- with what is known of the device
+-- ---- together with the invariants of suspended calls
 
 record Passing (config : Config) (log : List Act) : Type 0 where
   sound : Sound log
   timely : AllTimely config log
   ended : IsEnded config log
 
--- a call that times out while it waits for the lock has waited as long as its lock timeout says
+-- A call that times out while it waits for the lock was taken at least its lock timeout ago.
 late_cause : (config : Config) (c : ℕ) (wait : Wait) (last : ℕ) (log : List Act) → AllTimely config log
     → waits c (wait_acts (device_acts log)) ≡ Some wait → until_of c (wait_acts (device_acts log)) ≡ Some last
     → last ≤ config.clock + ticks (device_acts log) → HasCause c (late wait) log
@@ -165,7 +166,7 @@ ended_request config polled c (CoreRequest call) log so =
 ended_request config polled c request log so =
     ended_effect config c (request_effect config polled c request (device_acts log)) log tt so
 
--- the call that a device_abort ends names the device_abort's link
+-- The suspended call that a device_abort ends names the same link as the device_abort.
 aborted_names : (owner : Option ℕ) (lid : ℕ) (acts : List DeviceAct) (d : ℕ) → if_waiting owner (Some lid) acts ≡ Some d
     → named_link d (wait_acts acts) ≡ Some lid
 aborted_names (Some c) lid acts d e = by (is_some (waits c (wait_acts acts))) (is_this lid (named_link c (wait_acts acts))) refl e
@@ -178,7 +179,7 @@ aborted_names (Some c) lid acts d e = by (is_some (waits c (wait_acts acts))) (i
     by false named is e = absurd cc
 aborted_names None lid acts d e = absurd cc
 
--- a device_abort is one by its bytes
+-- That the next call is a device_abort follows from its bytes alone.
 abort_asked : (acts : List ConnAct) (bytes : List ℕ) (xid : ℕ) (lid : ℤ) → next_call acts ≡ Some bytes
     → next_request acts ≡ Some (AbortRequest xid lid) → request_of AbortChannel (call_at bytes) ≡ AbortRequest xid lid
 abort_asked acts bytes xid lid next asks = by (open_role acts) (ap (request_for (open_role acts)) (sym next) ∙ asks)
@@ -221,7 +222,8 @@ ended_turn config polled c (Some bytes) (Some request) log fit lt so next asks =
     by _ asks fit so = so
 ended_turn config polled c _ _ log fit lt so next asks = so
 
--- a peer was connected or not, which no call that waits for the lock waits for
+-- A call that ends because its peer was connected or couldn't be connected didn't wait for the
+-- lock.
 ended_dialed : (config : Config) (c : ℕ) (ok : Bool) (call : CoreCall) (peer : Option Peer) (log : List Act)
     → (WaitsForLock (device_acts log) c → ⊥) → IsEnded config log
     → IsEnded config (acts_of c (call_effect call.xid (leaving c (dialed_to c ok call.arguments peer))) ++ log)
@@ -309,7 +311,7 @@ passes_left : (config : Config) (c : ℕ) (newer older : List Act) → AllPlaced
 passes_left config c newer older placed keep w (inl (free, goes)) = inl (free, first_is c older placed (keep w free), goes)
 passes_left config c newer older placed keep w (inr other) = inr other
 
--- no call that waits is suspended anew
+-- While the call of a connection waits for the lock, no other call of it is suspended.
 none_anew : (c : ℕ) (named : Option ℕ) (wait : Wait) (last : Option ℕ) (older : List Act)
     → IsPlaced older (OnDevice (Waited (Entered c named wait last))) → AllPlaced older → WaitsForLock (device_acts older) c → ⊥
 none_anew c named wait last older (bytes, before, is) placed w =

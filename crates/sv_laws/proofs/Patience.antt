@@ -1,5 +1,4 @@
--- The longest wait of a call, by its arguments: when it begins to wait, and after it waited for the
--- lock.
+-- The arguments of a call bound how long it waits: first for the lock, and then for the device.
 use Rattle.std.proofs.Common.{◌≡◌, ◌≢◌, ℕ, ◌+◌, ◌≤◌, Bool, true, false, cond, List, Option, Some, None, refl, subst, inl, inr, ◌⊎◌, arith}
 use Rattle.std.specs.Prelude.{not, is_some, ◌&&◌, option_map, ℤ}
 use Rattle.sv_vxi.specs.declared.error_code.ErrorCode.TheVariants.{InvalidLink, ParameterError, NotAccessible, NotSupported, OutOfResources, InvalidAddress, AlreadyEstablished}
@@ -20,7 +19,7 @@ use Rattle.sv_laws.specs.InTime.{lock_patience, lock_time, patience, waits_for_p
 use Rattle.sv_laws.proofs.Facts.{some_same}
 use Rattle.sv_laws.proofs.Sound.{again_is}
 
--- the longest that a call can have waited in all when this wait ends
+-- The most milliseconds that a call can have waited in all when this wait ends.
 abbrev pub bound : Wait → Arguments → ℕ
 bound Lock arguments = lock_time arguments
 bound _ arguments = patience arguments
@@ -31,21 +30,21 @@ bound_most Lock (OnLink lid call) = omega arith
 bound_most Lock _ = omega arith
 bound_most _ arguments = omega arith
 
--- One wait of a call is no longer than all its waits together.
+-- A single wait is at most as long as all waits of the call up to its end.
 pub time_bound : (wait : Wait) (arguments : Arguments) → time_for wait arguments ≤ bound wait arguments
 time_bound Lock arguments = omega arith
 time_bound _ arguments = omega arith
 
--- If so many milliseconds are within `bound` even after the longest wait for the lock, they are no
--- longer than this wait at most.
+-- What this bound leaves after the longest wait for the lock is at most the timeout of the wait
+-- itself.
 pub time_left : (wait : Wait) (arguments : Arguments) (n : ℕ) → n + lock_time arguments ≤ bound wait arguments
     → n ≤ time_for wait arguments
 time_left Lock arguments n le = omega (arith, le)
 time_left _ arguments n le = omega (arith, le)
 
--- ---- after the lock
+-- ---- the wait after that for the lock
 
--- After a call waited for the lock, its next wait isn't for the lock, and is within `bound` even
+-- The call waited for the lock. Its next wait isn't for the lock, and ends within `bound` even
 -- after the longest wait for the lock.
 abbrev pub IsThen : Wait → Arguments → Wait × ℕ → Type 0
 IsThen wait arguments next = (wait ≡ Lock) × (waits_for_peer arguments ≡ false) × (next.1 + lock_time arguments ≤ bound next.0 arguments)
@@ -86,10 +85,10 @@ then_is ForInput arguments acts next e = absurd cc
 then_is Response arguments acts next e = absurd cc
 then_is Dial arguments acts next e = absurd cc
 
--- ---- a call begins to wait
+-- ---- the first wait of a call
 
--- A call that begins to wait waits for a peer; or it waits no longer than its timeout says, and for
--- the lock exactly so long.
+-- The call waits for its peer; or its timeout is at most that of its arguments, and for the lock
+-- exactly that.
 abbrev pub Begins : Wait → Option ℕ → Arguments → Type 0
 Begins wait until arguments = (waits_for_peer arguments ≡ true)
     ⊎ ((timeout : ℕ) × (until ≡ Some timeout) × (timeout ≤ time_for wait arguments) × (wait ≡ Lock → lock_time arguments ≤ timeout))

@@ -1,5 +1,5 @@
--- What holds of nothing and is kept by each event's own acts behind a settled log, and by each
--- step, holds of the log of every history.
+-- A property that the empty log has, and that each event's own acts and each step keep, holds for
+-- the log of every history.
 use Rattle.std.proofs.Common.{◌≡◌, ℕ, List, [], ◌∷◌, ◌++◌, Option, Some, None, refl}
 use Rattle.sv_links.specs.Waiting.{IsOldest}
 use Rattle.sv_links.specs.Channels.{ChannelAct}
@@ -13,13 +13,13 @@ use Rattle.sv_laws.proofs.NoneLate.{oldest_going, going_waits}
 use Rattle.sv_laws.proofs.EveryLog.Fit.{Fit, AllSuit}
 use Rattle.sv_laws.proofs.EveryLog.EachEvent.{each_settled, fit_event, fit_log, fit_step}
 
--- An event's own acts keep it, behind the log of a history.
+-- An event's own acts, which follow the log of a history, keep the property.
 abbrev pub EventsKeep : Config → (List Act → Type 0) → Type 0
 EventsKeep config IsSo = (history : List PlainEvent) (event : PlainEvent) (polled : ℕ) (channel_log : List ChannelAct) (log : List Act)
     → IsLogOf config history log → refusal config channel_log event log ≡ None → Fit log → IsSo log
     → IsSo (own_acts config polled event log ++ log)
 
--- So does each step.
+-- Each step keeps the property.
 abbrev pub EachStepKeeps : Config → (List Act → Type 0) → Type 0
 EachStepKeeps config IsSo = (log new : List Act) → Fit log → IsSo log → IsNext config log new → IsSo new
 
@@ -36,7 +36,7 @@ each_place config IsSo empty event step (one ∷ history) log (before, polled, c
     settles.0 (own_acts config polled one before ++ before) log
     (fit_event config one polled channel_log before free fit, event history one polled channel_log before was free fit so) settles.1).1
 
--- Where no suspended call resumes, none can.
+-- If no step resumes a call, no suspended call can resume.
 pub none_resumes : (config : Config) (log : List Act) → AllSuit (device_acts log) → ((new : List Act) → Resumes config log new → ⊥)
     → (c : ℕ)
     → CanResume (device_acts log) c → ⊥

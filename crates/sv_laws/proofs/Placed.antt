@@ -1,7 +1,7 @@
--- In every log each act has its place: a call is taken while none of its connection waits, and
--- begins to wait right behind; a link lets the lock go where its connection asks for it, or is
--- closed; and a link gets the lock where the call of its connection asks for it, and where no call
--- waits for it, or right behind a call that waited for it.
+-- Where acts stand in a log. A call is taken while its connection has none suspended, and suspended
+-- directly after it is taken. A link frees the lock because its connection calls for it or is
+-- closed. A link gets the lock because its connection's call asks for it, and it is this call's
+-- turn.
 use Rattle.std.proofs.Common.{◌≡◌, ℕ, ◌+◌, Bool, true, false, List, [], ◌∷◌, ◌++◌, length, nat_lt, Option, Some, None, refl, sym, ap, subst, ◌∙◌, inl, inr, ◌⊎◌, append_assoc}
 use Rattle.std.specs.Prelude.{map, pos, ⊤}
 use Rattle.std.specs.List.{AllByRecursion}
@@ -55,30 +55,27 @@ use Rattle.sv_laws.proofs.EveryLog.Known.{rises}
 use Rattle.sv_laws.proofs.EveryLog.Keeps.{named_lives}
 use Rattle.sv_laws.proofs.EveryLog.EachEvent.{idle_free, turn_parts, refuse_keeps, close_adds}
 
--- ---- where an act can stand
+-- ---- where an act may stand
 
--- The connection of this link lets it go, or is closed.
+-- The connection that owns this link calls device_unlock or destroy_link on it, or is closed.
 abbrev pub MayFree : ℕ → List Act → Type 0
 MayFree lid older =
     (c : ℕ) → owner lid (link_acts (device_acts older)) ≡ Some c → (is_open (of c older) ≡ false) ⊎ ReleasesLock c lid older
 
--- No call waits for the lock; or a call was suspended until now, and since then only links were
--- made.
+-- No call waits for the lock; or a call has left the queue, and since then only links were made.
 abbrev pub HasTurn : List Act → Type 0
 HasTurn older = ((d : ℕ) → WaitsForLock (device_acts older) d → ⊥)
     ⊎ ((c : ℕ) × (made : List LinkAct) × (before : List Act)
     × (older ≡ map OnDevice (map Linked made) ++ OnDevice (Waited (Left c)) ∷ before))
 
--- The connection of this link has a call that isn't answered, and it asks for the lock for this
--- link.
+-- The connection that owns this link has an unanswered call that asks for the lock for this link.
 abbrev IsAsked : ℕ → List Act → Type 0
 IsAsked lid older = (c : ℕ) × (call : CoreCall) × (owner lid (link_acts (device_acts older)) ≡ Some c)
     × (core_call_in (pending_call (of c older)) ≡ Some call) × AsksForLock lid call.arguments
 
--- This act has its place behind these: a call is taken while none of its connection is suspended; a
--- call is suspended right behind its taking; a link gets the lock where a call asks for it, and a
--- free lock where it is a call's turn; a link is unlocked or destroyed where its connection lets it
--- go, or is closed.
+-- This act may follow these acts. A call is taken while its connection has none suspended. A call
+-- is suspended directly after it is taken. A link gets the lock if a call asks for it, and a free
+-- lock only in turn. A link is unlocked or destroyed if its connection calls for it, or is closed.
 abbrev pub IsPlaced : List Act → Act → Type 0
 IsPlaced older (On c (CallTaken bytes)) = waits c (wait_acts (device_acts older)) ≡ None
 IsPlaced older (OnDevice (Waited (Entered c named wait last))) =
@@ -88,7 +85,7 @@ IsPlaced older (OnDevice (Linked (Unlocked lid))) = MayFree lid older
 IsPlaced older (OnDevice (Linked (Destroyed lid))) = MayFree lid older
 IsPlaced older act = ⊤
 
--- Each act of the log has its place.
+-- Each act of the log may follow the acts before it.
 abbrev pub AllPlaced : List Act → Type 0
 AllPlaced [] = ⊤
 AllPlaced (act ∷ log) = IsPlaced log act × AllPlaced log
@@ -101,9 +98,9 @@ pub placed_before : (newer older : List Act) → AllPlaced (newer ++ older) → 
 placed_before [] older all = all
 placed_before (act ∷ newer) older all = placed_before newer older all.1
 
--- ---- acts of an effect
+-- ---- the acts of an effect
 
--- acts of a connection that take no call
+-- Acts of a connection that take no call may follow any acts.
 placed_own : (c : ℕ) (own : List ConnAct) (rest log : List Act) → NoCalls own → Each IsPlaced rest log
     → Each IsPlaced (map (On c) own ++ rest) log
 placed_own c [] rest log calls h = h
@@ -119,15 +116,15 @@ placed_happened : (adds : List InstrumentAct) (log : List Act) → AllPlaced log
 placed_happened [] log all = all
 placed_happened (act ∷ adds) log all = (tt, placed_happened adds log all)
 
--- ---- a call that is done
+-- ---- a call that is executed
 
--- The call of this connection isn't answered, and has these arguments.
+-- The connection has an unanswered call with these arguments.
 abbrev IsPending : ℕ → Arguments → List Act → Type 0
 IsPending c arguments log =
     (call : CoreCall) × (core_call_in (pending_call (of c log)) ≡ Some call) × (call.arguments ≡ arguments)
 
--- What a call that is done can do here: take the lock if it is its turn, and let its link go. The
--- link that it names is its connection's.
+-- The call may be executed here: if it takes a free lock, it is its turn; if it frees its link's
+-- lock, it may; and its connection owns the link that it names.
 record MayPlace (c : ℕ) (arguments : Arguments) (log : List Act) : Type 0 where
   turn : takes_lock arguments ≡ true → holder (link_acts (device_acts log)) ≡ None → HasTurn log
   frees : (lid : ℕ) (call : LinkCall) → arguments ≡ OnLink (pos lid) call → lets_go arguments ≡ true → MayFree lid log
@@ -135,18 +132,17 @@ record MayPlace (c : ℕ) (arguments : Arguments) (log : List Act) : Type 0 wher
   names : (lid : ℕ) → lid_of (link arguments) ≡ Some lid → owner lid (link_acts (device_acts log)) ≡ Some c
   pending : IsPending c arguments log
 
--- such a call asks for the lock for its link
 asked : (c lid : ℕ) (arguments : Arguments) (older : List Act) → IsPending c arguments older
     → owner lid (link_acts (device_acts older)) ≡ Some c → AsksForLock lid arguments → IsAsked lid older
 asked c lid arguments older (call, known, is) owns asks = (c, call, owns, known, subst (AsksForLock lid) (sym is) asks)
 
--- it stays a call's turn while links are made
+-- Making a link leaves it a call's turn.
 turn_made : (c lid : ℕ) (log : List Act) → HasTurn log → HasTurn (OnDevice (Linked (Made lid c)) ∷ log)
 turn_made c lid log (inl nobody) = inl nobody
 turn_made c lid log (inr (d, made, before, is)) =
     inr (d, Made lid c ∷ made, before, ap (λ (l : List Act). OnDevice (Linked (Made lid c)) ∷ l) is)
 
--- The acts of a call that is done have their places.
+-- The acts of the executed call may follow this log.
 abbrev ArePlaced : Config → ℕ → ℕ → Arguments → List Act → Type 0
 ArePlaced config polled c arguments log = Each IsPlaced (map OnDevice (own_call config polled c arguments (device_acts log)).adds) log
 
@@ -209,9 +205,9 @@ placed_done config polled c DestroyIntrChan log may =
     elim (cases_Bool (has_channel c (device_acts log))) [ inl e ↦ rw e (tt, tt) | inr e ↦ rw e tt ]
 placed_done config polled c _ log may = tt
 
--- ---- a suspended call ends, or waits anew
+-- ---- a suspended call ends or is suspended again
 
--- it ends, and does these acts
+-- A call that leaves the queue may add the acts of its outcome.
 placed_left : (c xid : ℕ) (outcome : CallOutcome) (log : List Act) → AllPlaced log
     → Each IsPlaced (map OnDevice outcome.adds) (OnDevice (Waited (Left c)) ∷ log)
     → AllPlaced (acts_of c (call_effect xid (leaving c outcome)) ++ log)
@@ -228,19 +224,19 @@ placed_left c xid outcome log all h = placed_effect c (call_effect xid (leaving 
         split [] = refl
         split (act ∷ adds) = ap (λ (l : List Act). OnDevice act ∷ l) (split adds)
 
--- it ends with an error
+-- A suspended call may fail with any error.
 placed_failed : (error : ErrorCode) (c : ℕ) (call : Option CoreCall) (log : List Act) → AllPlaced log
     → AllPlaced (acts_of c (failure_effect error c call) ++ log)
 placed_failed error c (Some call) log all = placed_left c call.xid (only (failure call.arguments error)) log all tt
 placed_failed error c None log all = (tt, all)
 
--- ---- with what is known of suspended calls
+-- ---- together with the invariant of suspended calls
 
 pub record Placed (log : List Act) : Type 0 where
   pub sound : Sound log
   pub placed : AllPlaced log
 
--- a call resumes, and doesn't let its link go
+-- A call that resumes may be executed, since no suspended call frees the lock of its link.
 placed_continued : (config : Config) (polled c : ℕ) (wait : Wait) (call : CoreCall) (next : Option (Wait × ℕ)) (log : List Act) → Fit log
     → Placed log → waits c (wait_acts (device_acts log)) ≡ Some wait → core_call_in (pending_call (of c log)) ≡ Some call
     → AllPlaced (acts_of c (call_effect call.xid (resume_outcome config polled c call.arguments next (device_acts log))) ++ log)
@@ -275,7 +271,7 @@ placed_step config log new fit so next = record { sound = sound_step config log 
 
 -- ---- a Turn
 
--- A call that is done where it is taken lets go the link that it names, which is its connection's.
+-- A call that is executed when it is taken may free its link's lock: its connection owns the link.
 taken_frees : (c : ℕ) (bytes : List ℕ) (call : CoreCall) (log : List Act) → stop_of c call.arguments (device_acts log) ≡ None
     → core_call_in (Some bytes) ≡ Some call → (lid : ℕ) (one : LinkCall) → call.arguments ≡ OnLink (pos lid) one
     → lets_go call.arguments ≡ true → MayFree lid (On c (CallTaken bytes) ∷ log)
@@ -344,12 +340,12 @@ placed_turn config polled c _ _ log fit all quiet next asks = all
 
 -- ---- a connection closes
 
--- Behind these acts each link has the owner that it had, or none.
+-- After these acts each link has the owner that it had before, or none.
 abbrev IsLessened : List LinkAct → List Act → Type 0
 IsLessened behind base =
     (n d : ℕ) → owner n (behind ++ link_acts (device_acts base)) ≡ Some d → owner n (link_acts (device_acts base)) ≡ Some d
 
--- its links are destroyed one by one
+-- The links of the connection are destroyed one by one.
 placed_links : (c : ℕ) (ns : List ℕ) (behind : List LinkAct) (base : List Act) → is_open (of c base) ≡ false
     → AllByRecursion (λ n. owner n (link_acts (device_acts base)) ≡ Some c) ns → IsLessened behind base
     → AllPlaced (map OnDevice (map Linked behind ++ Waited (Left c) ∷ []) ++ base)
@@ -420,6 +416,5 @@ placed_event config history event polled channel_log log was free fit so =
         subst AllPlaced (sym (append_assoc (map OnDevice (map Applied adds)) (OnDevice Ticked ∷ []) log))
         (placed_happened adds (OnDevice Ticked ∷ log) (tt, all))
 
--- in every log of a history
 pub placed_log : (config : Config) (history : List PlainEvent) (log : List Act) → IsLogOf config history log → Placed log
 placed_log config = each_place config Placed (record { sound = sound_none; placed = tt }) (placed_event config) (placed_step config)

@@ -1,4 +1,4 @@
--- Each reply answers the call that had no answer until then, and has its xid.
+-- Each reply answers the call that was unanswered until then, and has that call's xid.
 use Rattle.std.proofs.Common.{◌≡◌, ℕ, zero, suc, ◌≤◌, Bool, true, false, cond, List, [], ◌∷◌, ◌++◌, length, map, flat_map, take, drop, Option, Some, None, refl, sym, ap, subst, ◌∙◌, arith}
 use Rattle.std.specs.Prelude.{Result, Ok, Err, slice_get, ◌||◌}
 use Rattle.std.specs.List.{concat}
@@ -22,7 +22,7 @@ use Rattle.sv_laws.specs.Laws.{HasXidOf, RepliesMatch}
 use Rattle.sv_laws.proofs.EveryLog.EachAct.{IsReplyTo, AllCame, all_came}
 use Rattle.sv_laws.proofs.EveryLog.Taken.{xid_of}
 
--- ---- a call consists of bytes
+-- ---- each byte of a call is below 256
 
 no_bytes : IsBytes []
 no_bytes i = omega arith
@@ -93,7 +93,7 @@ call_bytes (Piece bytes ∷ acts) call all busy = call_bytes acts call all.1 bus
 call_bytes (BytesTaken count ∷ acts) call all busy = call_bytes acts call all.1 busy
 call_bytes _ call all busy = absurd cc
 
--- ---- it begins with its xid, and so does its reply
+-- ---- the xid of a call, and that of its reply
 
 xid_begins : (bytes : List ℕ) (found : Result PlainCall CallFault) (xid : ℕ) → CallIs bytes found → xid_of found ≡ Some xid
     → (after : List ℕ) × Begins bytes (Unsigned xid) after
@@ -130,7 +130,7 @@ has_xid call reply fits (xid, answer, fields, is, same) =
       ap (λ (l : List ℕ). take 4 (drop 4 l)) same ∙ reply_xid xid answer fields ∙ sym begins.1,
     )
 
--- ---- at each place
+-- ---- each reply of a log
 
 came_before : (newer older : List ConnAct) → AllCame (newer ++ older) → AllCame older
 came_before [] older all = all

@@ -1,4 +1,4 @@
--- What a call comes to is the same in two logs where what it rests on is.
+-- A call has the same outcome after two logs that agree in everything on which the outcome depends.
 use Rattle.std.proofs.Common.{◌≡◌, ℕ, false, List, ◌∷◌, ◌++◌, [], Option, Some, None, refl, ap, ◌∙◌, inl, inr, ◌⊎◌}
 use Rattle.std.specs.Prelude.{pos}
 use Rattle.sv_vxi.specs.declared.arguments.GenericCall.TheVariants.{Trigger}
@@ -20,7 +20,8 @@ use Rattle.sv_history.specs.Admission.{Stop, Fails, Awaits, device_wait, stop_of
 use Rattle.sv_history.specs.Effect.{call_effect}
 use Rattle.sv_history.specs.Resuming.{next_wait, resume_outcome, resume_effect}
 
--- What a call of a connection rests on, unless it makes a link.
+-- Two logs agree in everything on which a call of this connection depends, unless it is a
+-- create_link.
 pub record SameGround (c : ℕ) (acts other : List DeviceAct) : Type 0 where
   pub ended : has_ended (exchange_acts acts) ≡ has_ended (exchange_acts other)
   pub answerable : is_answerable (instrument_acts acts) ≡ is_answerable (instrument_acts other)
@@ -31,12 +32,12 @@ pub record SameGround (c : ℕ) (acts other : List DeviceAct) : Type 0 where
   pub opened : peer c (channel_acts acts) ≡ peer c (channel_acts other)
   pub clock : ticks acts ≡ ticks other
 
--- Either it makes none, or all links and all calls that wait are the same.
+-- The call isn't a create_link, or both logs have the same links and suspended calls.
 abbrev pub MayMake : Arguments → List DeviceAct → List DeviceAct → Type 0
 MayMake arguments acts other = (is_create_link arguments ≡ false)
     ⊎ ((link_acts acts ≡ link_acts other) × (wait_acts acts ≡ wait_acts other))
 
--- ---- what stops it
+-- ---- what stops a call
 
 owns_same : (c : ℕ) (named : Option ℕ) (acts other : List DeviceAct) → SameGround c acts other → owns c named acts ≡ owns c named other
 owns_same c None acts other ground = refl
@@ -48,7 +49,6 @@ wait_same c (DeviceWrite io_timeout lock_timeout flags bytes) acts other ground 
 wait_same c (DeviceRead request_size io_timeout lock_timeout flags term_char) acts other ground = rw ground.answerable refl
 wait_same c _ acts other ground = refl
 
--- any call
 pub stop_same : (c : ℕ) (arguments : Arguments) (acts other : List DeviceAct) → MayMake arguments acts other → SameGround c acts other
     → stop_of c arguments acts ≡ stop_of c arguments other
 stop_same c (CreateLink client_id lock_device lock_timeout device) acts other (inl none) ground = absurd cc
@@ -58,7 +58,7 @@ stop_same c (OnLink named call) acts other may ground =
 stop_same c (CreateIntrChan host_addr host_port prog_num prog_vers prog_family) acts other may ground = rw ground.opened refl
 stop_same c DestroyIntrChan acts other may ground = refl
 
--- ---- what it does
+-- ---- what a call does
 
 link_same : (polled c n : ℕ) (call : LinkCall) (acts other : List DeviceAct) → SameGround c acts other
     → link_call polled c n call acts ≡ link_call polled c n call other
@@ -86,7 +86,6 @@ admitted_by config polled c arguments None acts other may ground = done_same con
 admitted_by config polled c arguments (Some (Fails error)) acts other may ground = refl
 admitted_by config polled c arguments (Some (Awaits wait timeout)) acts other may ground = rw ground.clock refl
 
--- both together
 pub admitted_same : (config : Config) (polled c : ℕ) (arguments : Arguments) (acts other : List DeviceAct)
     → MayMake arguments acts other → SameGround c acts other
     → admission config polled c arguments (stop_of c arguments acts) acts
@@ -95,7 +94,7 @@ admitted_same config polled c arguments acts other may ground =
     ap (λ (stop : Option Stop). admission config polled c arguments stop acts) (stop_same c arguments acts other may ground)
     ∙ admitted_by config polled c arguments (stop_of c arguments other) acts other may ground
 
--- ---- where it resumes
+-- ---- what a call does when it resumes
 
 next_same : (c : ℕ) (wait : Wait) (arguments : Arguments) (acts other : List DeviceAct) → SameGround c acts other
     → next_wait wait arguments acts ≡ next_wait wait arguments other
@@ -113,7 +112,6 @@ continued_by config polled c arguments None acts other may ground =
     ap (λ (what : CallOutcome). record what { adds = what.adds ++ Waited (Left c) ∷ [] })
     (done_same config polled c arguments (Waited (Left c) ∷ acts) (Waited (Left c) ∷ other) made behind)
 
--- any call that resumes
 pub resumed_same : (config : Config) (polled c : ℕ) (wait : Wait) (call : CoreCall) (acts other : List DeviceAct)
     → MayMake call.arguments acts other → SameGround c acts other
     → resume_effect config polled c wait (Some call) acts ≡ resume_effect config polled c wait (Some call) other

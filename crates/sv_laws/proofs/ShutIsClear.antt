@@ -1,4 +1,4 @@
--- A connection that isn't open has no bytes and no call.
+-- Nothing happens on a connection that isn't open: no bytes come, and no call is pending.
 use Rattle.std.proofs.Common.{◌≡◌, ℕ, true, false, List, [], ◌∷◌, Some, None, refl, sym, ap, ◌∙◌}
 use Rattle.std.specs.Prelude.{is_some}
 use Rattle.sv_history.specs.Act.{ConnAct, Opened, Piece, CallTaken, Faulted, Replied, BytesTaken, PortClosed, of}
@@ -6,13 +6,11 @@ use Rattle.sv_history.specs.Connection.{is_open, open_role, pending_call}
 use Rattle.sv_laws.proofs.Brought.{IsClear, ShutIsClear}
 use Rattle.sv_laws.proofs.EveryLog.EachAct.{AllCame, all_came}
 
--- a call waits for its answer on open ones alone
 pub clear_free : (acts : List ConnAct) → IsClear acts → pending_call acts ≡ None
 clear_free [] h = refl
 clear_free (PortClosed ∷ acts) h = refl
 clear_free (_ ∷ acts) h = absurd h
 
--- so acts that came on an open one, or for a call, came on none that is shut
 not_open : {A : Type 0} (acts : List ConnAct) → open_role acts ≡ None → is_open acts ≡ true → A
 not_open {A} acts shut opened = absurd (let z : false ≡ true = sym (ap is_some shut) ∙ opened in cc)
 

@@ -1,4 +1,5 @@
--- In every log each act of the device keeps what `Keeps` says.
+-- An invariant of logs: each act of the device satisfies `Keeps`, and each suspended call fits its
+-- arguments. Calls that resume or fail keep it.
 use Rattle.std.proofs.Common.{◌≡◌, ◌≢◌, ℕ, ◌+◌, Bool, true, false, cond, eqb, List, [], ◌∷◌, ◌++◌, length, nat_lt, Option, Some, None, refl, sym, ap, subst, ◌∙◌, inl, inr, ◌⊎◌, eq-eqb, append_assoc, arith}
 use Rattle.std.specs.Prelude.{map, pos, not, option_map, find}
 use Rattle.std.proofs.lemmas.Bool.{cases_Bool}
@@ -36,22 +37,22 @@ use Rattle.sv_laws.proofs.EveryLog.Known.{owner_within}
 use Rattle.sv_laws.proofs.EveryLog.EachEvent.{done_waits}
 use Rattle.sv_laws.proofs.EveryLog.Keeps.{IsEarliest, MayTake, Keeps, AllKeep, NamesNone, keep_more, named_lives, out_or_this, lock_is_free}
 
--- ---- a suspended call is that of its connection
+-- ---- a suspended call fits its arguments
 
--- whether a call can take the lock
+-- Whether a call can take the lock: create_link and device_lock.
 abbrev pub takes_lock : Arguments → Bool
 takes_lock (CreateLink client_id lock_device lock_timeout device) = true
 takes_lock (OnLink lid (DeviceLock flags lock_timeout)) = true
 takes_lock _ = false
 
--- whether a call lets its link go
+-- Whether a call can free the lock of its link: device_unlock and destroy_link.
 abbrev pub lets_go : Arguments → Bool
 lets_go (OnLink lid DeviceUnlock) = true
 lets_go (OnLink lid DestroyLink) = true
 lets_go _ = false
 
 -- A suspended call has the link of its arguments, waits for the lock if it can take the lock, and
--- doesn't let its link go.
+-- can't free the lock of its link.
 abbrev pub Told : ℕ → List ConnAct → List WaitAct → Type 0
 Told c own acts = (wait : Wait) (call : CoreCall) → waits c acts ≡ Some wait → core_call_in (pending_call own) ≡ Some call
     → (named_link c acts ≡ lid_of (link call.arguments)) × (takes_lock call.arguments ≡ true → wait ≡ Lock)
@@ -78,7 +79,7 @@ same_none c acts = record { wait = refl; until = refl; named = refl }
 pub same_other : (c d : ℕ) (act : WaitAct) (acts : List WaitAct) → conn_of act ≡ c → d ≢ c → SameCall d (act ∷ acts) acts
 same_other c d act acts is ne = call_foreign d act acts acts (λ e. ne (sym e ∙ is)) (same_none d acts)
 
--- ---- acts of one connection, and of what all share
+-- ---- acts of one connection and acts of the device
 
 pub sound_effect : (c : ℕ) (effect : Effect) (log : List Act) → Sound log → Each Keeps effect.adds (device_acts log)
     → ((d : ℕ) → d ≢ c → SameCall d (wait_acts (effect.adds ++ device_acts log)) (wait_acts (device_acts log)))
@@ -108,14 +109,15 @@ pub sound_happened : (adds : List InstrumentAct) (log : List Act) → Sound log 
 sound_happened adds log so =
     sound_shared (map Applied adds) log so (keep_happened adds (device_acts log)) (wait_acts_happened adds (device_acts log))
 
--- ---- the acts of a call that is done
+-- ---- the acts of a call that is executed
 
--- whether a create_link asks for the lock
+-- Whether the call is a create_link that asks for the lock.
 abbrev pub asks_lock : Arguments → Bool
 asks_lock (CreateLink client_id lock_device lock_timeout device) = lock_device
 asks_lock _ = false
 
--- Nobody waits for the lock, or the call waited for it until now, and was the first.
+-- No call waits for the lock; or by the newest act this connection's call, which was suspended
+-- first, stops waiting for it.
 abbrev pub IsTurn : ℕ → List DeviceAct → Type 0
 IsTurn c acts = ((d : ℕ) → WaitsForLock acts d → ⊥)
     ⊎ ((before : List DeviceAct) × (acts ≡ Waited (Left c) ∷ before) × IsEarliest c before)
@@ -136,7 +138,6 @@ pushed_new n c (x ∷ xs) h = elim (cases_Bool (eqb x.lid n)) [
   | inr e ↦ rw e (pushed_new n c xs (rw e at h))
 ]
 
--- a link that is made is its connection's
 pub made_owner : (c lid : ℕ) (acts : List DeviceAct) → AllSuit acts → lid ≡ links_made (link_acts acts) + 1
     → owner lid (Made lid c ∷ link_acts acts) ≡ Some c
 made_owner c lid acts all next = pushed_new lid c (live (link_acts acts)) (by (owner lid (link_acts acts)) refl)
@@ -225,12 +226,12 @@ keep_done config polled c DestroyIntrChan acts may =
     elim (cases_Bool (has_channel c acts)) [ inl e ↦ rw e (tt, tt) | inr e ↦ rw e tt ]
 keep_done config polled c _ acts may = tt
 
--- ---- a suspended call ends, or waits anew
+-- ---- a suspended call ends or is suspended again
 
 pub left_none : (c : ℕ) (acts : List WaitAct) → waits c (Left c ∷ acts) ≡ None
 left_none c acts = rw (eq-eqb c c refl) refl
 
--- it ends with a result
+-- A suspended call that ends with a result keeps the invariant.
 pub sound_left : (c xid : ℕ) (outcome : CallOutcome) (log : List Act) → Sound log → Keeps (device_acts log) (Waited (Left c))
     → Each Keeps outcome.adds (Waited (Left c) ∷ device_acts log)
     → wait_acts (outcome.adds ++ Waited (Left c) ∷ device_acts log) ≡ Left c ∷ wait_acts (device_acts log)

@@ -1,5 +1,5 @@
--- An event's own acts keep what `Keeps` says; so it holds in every log, and the lock is given in
--- the order of the calls.
+-- Each event's own acts keep the invariant `Sound`, so it holds in every log. A call waits for the
+-- lock only while another link holds it.
 use Rattle.std.proofs.Common.{◌≡◌, ◌≢◌, ℕ, Bool, true, false, cond, List, [], ◌∷◌, ◌++◌, Option, Some, None, refl, sym, ap, subst, ◌∙◌, inl, inr, eq-eqb, append_assoc}
 use Rattle.std.specs.Prelude.{map, not, is_some, ◌&&◌, option_map}
 use Rattle.std.specs.List.{AllByRecursion}
@@ -136,7 +136,7 @@ waits_out c (OnLink lid call) acts until e =
 waits_out c (CreateIntrChan host_addr host_port prog_num prog_vers prog_family) acts until e = absurd (channel_not _ _ _ until e)
 waits_out c DestroyIntrChan acts until e = absurd cc
 
--- a device_lock waits for the lock
+-- A device_lock that is suspended waits for the lock.
 lock_by : (own asks : Bool) (waits : Bool) (timeout : ℕ) (wait : Wait) (until : Option ℕ)
     → cond (not own) (Some (Fails InvalidLink)) (cond asks (Some (cond waits (Awaits Lock (Some timeout)) (Fails DeviceLocked))) None)
     ≡ Some (Awaits wait until) → wait ≡ Lock
@@ -153,7 +153,7 @@ takes_waits c (OnLink lid (DeviceLock flags lock_timeout)) acts wait until e is 
     lock_by (owns c (lid_of (Some lid)) acts) (is_locked_out (holder (link_acts acts)) (lid_of (Some lid))) _ lock_timeout wait until e
 takes_waits c _ acts wait until e is = absurd cc
 
--- a call that lets its link go waits for nothing
+-- No device_unlock and no destroy_link is suspended.
 unlock_by : (own : Bool) (wait : Wait) (until : Option ℕ) → cond (not own) (Some (Fails InvalidLink)) None ≡ Some (Awaits wait until) → ⊥
 unlock_by false wait until e = cc
 unlock_by true wait until e = cc
@@ -166,7 +166,7 @@ waits_on c _ acts wait until e = refl
 
 -- ---- a Turn
 
--- No call waits for a free lock.
+-- No call waits for the lock while it is free.
 abbrev pub IsQuiet : List DeviceAct → Type 0
 IsQuiet acts = (d : ℕ) → WaitsForLock acts d → holder (link_acts acts) ≡ None → ⊥
 
@@ -183,7 +183,7 @@ sound_taken : (c : ℕ) (bytes : List ℕ) (log : List Act) → Sound log → wa
 sound_taken c bytes log so none =
     sound_on c (CallTaken bytes) log so (told_none c (CallTaken bytes ∷ of c log) (wait_acts (device_acts log)) none)
 
--- what adds nothing to the device
+-- An effect without acts of the device keeps the invariant.
 sound_only : (c : ℕ) (own : List ConnAct) (log : List Act) → Sound log → waits c (wait_acts (device_acts log)) ≡ None
     → Sound (acts_of c (record { own = own; adds = [] }) ++ log)
 sound_only c own log so none = sound_effect c (record { own = own; adds = [] }) log so tt
@@ -246,7 +246,7 @@ sound_request config polled c bytes request log fit so quiet next asks =
     by request taken none asks = sound_only c (request_effect config polled c request (device_acts log)).own (On c (CallTaken bytes) ∷ log)
         taken none
 
--- a device_abort ends the suspended call of another
+-- A device_abort, which ends another connection's suspended call, keeps the invariant.
 sound_aborted : (c : ℕ) (own : List ConnAct) (bytes : List ℕ) (found : Option ℕ) (log : List Act) → IsQuiet (device_acts log)
     → Sound (acts_of c (record { own = own; adds = [] }) ++ On c (CallTaken bytes) ∷ log)
     → let taken = acts_of c (record { own = own; adds = [] }) ++ On c (CallTaken bytes) ∷ log in Sound (abort_acts found taken ++ taken)
@@ -380,7 +380,6 @@ sound_step config log new fit so (inr (none, inr (still, inr (idle, (c, wait, ol
 pub sound_none : Sound []
 sound_none = record { keeps = tt; told = λ c wait call is busy. absurd (let z : None ≡ Some wait = is in cc) }
 
--- in every log of a history
 pub sound_log : (config : Config) (history : List PlainEvent) (log : List Act) → IsLogOf config history log → Sound log
 sound_log config = each_place config Sound sound_none (sound_event config) (sound_step config)
 

@@ -1,4 +1,4 @@
--- While nothing waits for time, milliseconds that pass only count.
+-- While nothing becomes due, milliseconds that pass only advance the clock.
 use Rattle.std.proofs.Common.{◌≡◌, ◌≢◌, ℕ, zero, suc, ◌+◌, ◌≤◌, false, List, [], ◌∷◌, ◌++◌, None, refl, sym, subst, arith}
 use Rattle.std.specs.Prelude.{map, replicate}
 use Rattle.std.proofs.lemmas.Bool.{ne_eqb}
@@ -23,7 +23,7 @@ use Rattle.sv_history.proofs.StillSettled.{first_back}
 use Rattle.sv_laws.proofs.EveryLog.Steps.{log_settled}
 use Rattle.sv_history.proofs.AlwaysTold.{some_polled, some_told}
 
--- ---- a millisecond makes no step due but that of a deadline
+-- ---- a millisecond makes no step due but a timeout
 
 tick_happens : (IsSuch : List InstrumentAct → List InstrumentAct → Type 0) (log new : List Act)
     → InstrumentDoes IsSuch (OnDevice Ticked ∷ log) new → (there : List Act) × InstrumentDoes IsSuch log there
@@ -43,14 +43,13 @@ goes_tick : (config : Config) (log new : List Act) → Resumes config log new
 goes_tick config log new (c, wait, polled, oldest, for, said, is) =
     (went_on config (OnDevice Ticked ∷ log) polled c wait, (c, wait, polled, oldest, for, said, refl))
 
--- Where no deadline comes within so many milliseconds and one more, none comes within so many
--- behind one.
+-- If no deadline comes within m + 1 milliseconds, then after one of them none comes within m.
 later : (config : Config) (acts : List DeviceAct) (m : ℕ) → IsUnhurried (suc m) config acts → IsUnhurried m config (Ticked ∷ acts)
 later config acts m still c expired =
     let same : config.clock + (ticks acts + 1) + m ≡ config.clock + ticks acts + suc m = omega arith in
     still c (subst (λ (clock : ℕ). IsExpired clock (wait_acts acts) c) same expired)
 
--- so none has come there
+-- So this millisecond makes no call time out.
 tick_gives : (m : ℕ) (config : Config) (log new : List Act) → IsUnhurried m config (Ticked ∷ device_acts log)
     → TimesOut config (OnDevice Ticked ∷ log) new → (there : List Act) × TimesOut config log there
 tick_gives m config log new still (c, wait, oldest, for, is) =
@@ -96,9 +95,9 @@ one_tick m config history log was (idle, still) before =
           (zero, (settled, refl)),
     )
 
--- ---- and more of them
+-- ---- several milliseconds
 
--- It is still for the milliseconds that are left.
+-- After n of n + m milliseconds in which nothing becomes due, nothing becomes due in the other m.
 still_left : (n m : ℕ) (config : Config) (log : List Act) → IsStill (n + m) config (device_acts log)
     → IsStill m config (device_acts (replicate n (OnDevice Ticked) ++ log))
 still_left zero m config log still =
@@ -112,7 +111,7 @@ ticks_more : (n : ℕ) (log : List Act) → ticks (device_acts (replicate n (OnD
 ticks_more zero log = omega arith
 ticks_more (suc n) log = let before = ticks_more n log in omega (arith, before)
 
--- So many of them pass, and some are left.
+-- The first n of n + m milliseconds in which nothing becomes due only advance the clock.
 so_far : (n m : ℕ) (config : Config) (history : List PlainEvent) (log : List Act) → IsLogOf config history log
     → IsStill (n + m) config (device_acts log) → config.clock + ticks (device_acts log) + (n + m) ≤ last_clock
     → IsLogOf config (replicate n Tick ++ history) (replicate n (OnDevice Ticked) ++ log)

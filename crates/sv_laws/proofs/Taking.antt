@@ -1,5 +1,5 @@
--- Two histories that differ only in their Took events send the same, if no service request was left
--- out in them.
+-- Two histories that differ only in their Took events send the same bytes, if neither leaves out a
+-- call of a service request.
 use Rattle.std.proofs.Common.{◌≡◌, ℕ, ◌+◌, ◌≤◌, Bool, true, false, List, [], ◌∷◌, ◌++◌, length, drop, Option, Some, None, refl, sym, ap, subst, ◌∙◌, inl, inr, arith}
 use Rattle.std.specs.Prelude.{◌==◌, ◌⊎◌, max, is_some, if◌then◌else◌}
 use Rattle.std.specs.List.{concat, filter_map, fold, range_with_len}
@@ -33,7 +33,7 @@ use Rattle.sv_laws.proofs.Cuts.SharedEvents.{SameNext}
 use Rattle.sv_laws.proofs.Cuts.KeptLogs.{IsKept, event_so}
 use Rattle.sv_laws.proofs.Cuts.SameView.{SameConnection, connection_none, connection_back, same_act, next_call_same, next_request_same}
 
--- ---- what channels were told, without what was taken
+-- ---- the log of the interrupt channels without the bytes taken
 
 abbrev pub untaken : List ChannelAct → List ChannelAct
 untaken [] = []
@@ -82,7 +82,7 @@ links_same acts =
     ∙ filter_map_same (λ lid. srq_enabled lid (untaken acts)) (λ lid. srq_enabled lid acts) (λ lid. enabled_same lid acts)
     (range_with_len 0 (past acts))
 
--- ---- calls of a channel that is never full
+-- ---- the calls of a channel that is never full
 
 abbrev add_free : Option Peer → List (List ℕ) → List ℕ → List (List ℕ)
 add_free (Some what) calls handle = calls ++ request (length calls + 1) what handle ∷ []
@@ -185,9 +185,9 @@ same_calls : (c : ℕ) (acts other : List ChannelAct) → NoneLeftOut c acts →
 same_calls c acts other h k same = all_free c acts h ∙ sym (free_all_same c acts) ∙ ap (free_all c) same ∙ free_all_same c other
     ∙ sym (all_free c other k)
 
--- ---- what the acts of the device tell
+-- ---- what acts of the device add to the log of the interrupt channels
 
--- What the first acts tell the channels, the other acts tell them too, except for what peers took.
+-- Both lists of acts lead to the same log of the interrupt channels, except for the bytes taken.
 abbrev pub TellsSo : List DeviceAct → List DeviceAct → Type 0
 TellsSo acts other = (channel_log : List ChannelAct) → HearsOf acts channel_log → (also : List ChannelAct) × HearsOf other also
     × (untaken channel_log ≡ untaken also)
@@ -226,7 +226,7 @@ tells_so_act (Applied act) acts other v tells channel_log (before, raised, hears
     )
 tells_so_act Ticked acts other v tells channel_log hears = tells channel_log hears
 
--- ---- two logs
+-- ---- two logs that differ only in the bytes taken
 
 pub record TakenAlike (log other : List Act) : Type 0 where
   pub device : SameDevice (device_acts log) (device_acts other)
@@ -315,7 +315,7 @@ took_intr c n log other v = record {
       let so = v.tells hears.0 hears.1 in (so.0, so.1, ap untaken hears.2 ∙ so.2);
 }
 
--- A Took changes a log only in what was taken: no step is due after it.
+-- A Took changes only which bytes were taken: no step is due after it.
 took_event : (port : Port) (n : ℕ) (config : Config) (past : List PlainEvent) (log : List Act) → IsLogOf config (Took port n ∷ past) log
     → (before : List Act) × IsLogOf config past before
     × ((other : List Act) → TakenAlike before other → TakenAlike log other)
@@ -353,7 +353,6 @@ logs_alike config (Other {past} {other} port n retook) log also x y =
     let so = took_event port n config other also y in
     taken_back also log (so.2 log (taken_back log so.0 (logs_alike config retook log so.0 x so.1)))
 
--- An event is a Took, or it isn't.
 took_or : (event : PlainEvent) → ((port : Port) × (n : ℕ) × (event ≡ Took port n)) ⊎ (is_took event ≡ false)
 took_or (Took port n) = inl (port, n, refl)
 took_or (Open c role) = inr refl
@@ -397,7 +396,7 @@ retook (event ∷ history) other e = elim (took_or event) [
       (let z : event ∷ without_took history ≡ without_took other = rw h at e in z)
 ]
 
--- ---- what they send
+-- ---- what the two histories send
 
 sent_alike : (port : Port) (config : Config) (history other : List PlainEvent) (channel_log heard : List ChannelAct) (log also : List Act)
     → IsLogOf config history log → IsLogOf config other also → HearsOf (device_acts log) channel_log → HearsOf (device_acts also) heard

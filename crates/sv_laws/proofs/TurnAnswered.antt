@@ -1,5 +1,5 @@
--- A record that a Turn takes is no call; or it is one, and is answered, or waits for what isn't
--- there.
+-- A record that a Turn takes isn't a call; or it is a call that is answered, or suspended and can't
+-- resume.
 use Rattle.std.proofs.Common.{◌≡◌, ℕ, true, List, ◌∷◌, ◌++◌, Option, Some, None, refl, sym, ap, subst, ◌∙◌, inl, inr, ◌⊎◌}
 use Rattle.std.specs.Prelude.{map, is_some, Result, Err}
 use Rattle.sv_rpc.specs.declared.call.CallFault.{CallFault}
@@ -31,15 +31,15 @@ use Rattle.sv_laws.proofs.EveryLog.Taken.{xid_of, xid_in}
 use Rattle.sv_laws.proofs.EveryLog.BusyWaits.{busy_waits}
 use Rattle.sv_laws.proofs.EveryLog.Fit.{of_each}
 
--- ---- the connection of the call
+-- ---- the acts of the call's connection
 
--- The record is no call; or it is one, and is answered or has no answer yet.
+-- The record isn't a call; or it is a call, and is answered or not answered yet.
 abbrev Stands : List ℕ → List ConnAct → List ConnAct → Type 0
 Stands call before acts = ((call_at call ≡ Err BadHeader) × (acts ≡ Faulted ∷ CallTaken call ∷ before))
     ⊎ ((call_at call ≡ Err BadHeader → ⊥) × (((reply : List ℕ) × (acts ≡ Replied reply ∷ CallTaken call ∷ before))
     ⊎ (acts ≡ CallTaken call ∷ before)))
 
--- what is recorded of a suspended call leaves that so
+-- A result answers the call; without a result it isn't answered yet.
 stands_replies : (xid : ℕ) (result : Option Outcome) (call : List ℕ) (before acts : List ConnAct) → (call_at call ≡ Err BadHeader → ⊥)
     → acts ≡ CallTaken call ∷ before → Stands call before (replies xid result ++ acts)
 stands_replies xid (Some result) call before acts some is =
@@ -60,7 +60,7 @@ stands_ended c does call before acts (inr (some, inr is)) = by (core_call_in (pe
     by (Some found) = stands_replies found.xid (does found.arguments).result call before acts some is
     by None = inr (some, inr is)
 
--- ---- in a log
+-- ---- the same in a log
 
 abbrev StandsIn : ℕ → List ℕ → List ConnAct → List Act → Type 0
 StandsIn c call before log = Stands call before (of c log)
@@ -82,11 +82,10 @@ steps_keep c call before config =
 
 -- ---- the Turn
 
--- a record that has an xid is a call
 is_call : {xid : ℕ} (found : Result PlainCall CallFault) → xid_of found ≡ Some xid → found ≡ Err BadHeader → ⊥
 is_call {xid = xid} found is bad = let z : None ≡ Some xid = rw bad at is in absurd cc
 
--- what its request comes to
+-- The request of a record answers it, suspends it, or shows that it isn't a call.
 stands_request : (config : Config) (polled c : ℕ) (call : List ℕ) (before : List ConnAct) (request : Request) (acts : List DeviceAct)
     → xid_of (call_at call) ≡ xid_in request
     → Stands call before ((request_effect config polled c request acts).own ++ CallTaken call ∷ before)
@@ -118,7 +117,7 @@ asks_some acts call opened next = by (open_role acts) (next_call acts) opened ne
     by (Some role) None o e = absurd cc
     by None found o e = absurd cc
 
--- one that has no answer waits
+-- An unanswered call is suspended.
 waits_on : (config : Config) (history : List PlainEvent) (log : List Act) (c : ℕ) (call : List ℕ) → IsLogOf config history log
     → pending_call (of c log) ≡ Some call → (wait : Wait) × (waits c (wait_acts (device_acts log)) ≡ Some wait)
 waits_on config history log c call was busy = by (waits c (wait_acts (device_acts log))) refl

@@ -1,4 +1,4 @@
--- Text cut at commas outside of parentheses.
+-- Text cut at the commas outside parentheses, one part after the other.
 use Rattle.std.proofs.Common.{◌≡◌, ℕ, zero, suc, ◌+◌, ◌<◌, ◌≤◌, ◌==◌, ◌&&◌, Bool, true, false, not, cond, List, [], ◌∷◌, ◌++◌, length, take, drop, refl, ap, ◌∙◌, slice_index_or, arith}
 use Rattle.std.proofs.lemmas.Bool.{eqb-true}
 use Rattle.std.specs.List.{sum_by}
@@ -6,14 +6,14 @@ use Rattle.std.proofs.lemmas.List.Sums.{sum_by-append}
 use Rattle.std.specs.List.{onto_first as onto}
 use Rattle.sv_lexer.specs.Parameters.{cut_outside, is_open, opens, first_size, part_place}
 
--- what stands in front counts only by whether a parenthesis is open
+-- The bytes before a text matter only by whether a parenthesis is open after them.
 cut_same : (a b bytes : List ℕ) → is_open a ≡ is_open b → cut_outside a bytes ≡ cut_outside b bytes
 cut_same a b [] e = refl
 cut_same a b (x ∷ bytes) e =
     let next : is_open (x ∷ a) ≡ is_open (x ∷ b) = ap (λ o. opens o x) e in
     rw (e, cut_same (x ∷ a) (x ∷ b) bytes next) refl
 
--- a byte in front of a part that a comma ends
+-- A part that ends at a comma stays one if a byte is put in front of it.
 step_ended : (b n k : ℕ) (bytes : List ℕ) (cut : List (List ℕ)) → n ≡ 1 + k → cut ≡ take k bytes ∷ cut_outside [] (drop (k + 1) bytes)
     → onto b cut ≡ take n (b ∷ bytes) ∷ cut_outside [] (drop (n + 1) (b ∷ bytes))
 step_ended b n k bytes cut e h =
@@ -21,7 +21,7 @@ step_ended b n k bytes cut e h =
     let next : n + 1 ≡ suc (k + 1) = omega (arith, e) in
     rw (h, next, size) refl
 
--- a part that a comma ends, and those behind it
+-- If a comma ends the first part, the part is cut off there, and the rest is cut on its own.
 pub cut_ended : (before bytes : List ℕ) (n : ℕ) → n ≡ first_size (is_open before) bytes → n < length bytes
     → cut_outside before bytes ≡ take n bytes ∷ cut_outside [] (drop (n + 1) bytes)
 cut_ended before [] n e lt = absurd (omega arith)
@@ -43,7 +43,7 @@ cut_ended before (b ∷ bytes) n e lt = at (is_open before) refl (b == 44) refl 
     at true o false c e h = step_ended b n _ bytes (cut_outside (b ∷ before) bytes) e (h (omega (arith, e, lt)))
     at false o false c e h = step_ended b n _ bytes (cut_outside (b ∷ before) bytes) e (h (omega (arith, e, lt)))
 
--- a part that no comma ends is all
+-- If no comma ends the first part, the whole text is one part.
 pub cut_last : (before bytes : List ℕ) (n : ℕ) → n ≡ first_size (is_open before) bytes → length bytes ≤ n
     → cut_outside before bytes ≡ bytes ∷ []
 cut_last before [] n e ge = refl
@@ -58,7 +58,7 @@ cut_last before (b ∷ bytes) n e ge = at (is_open before) (b == 44) e
     at true false e h = ap (onto b) (h (omega (arith, e, ge)))
     at false false e h = ap (onto b) (h (omega (arith, e, ge)))
 
--- a comma stands between
+-- The first part, a comma and the rest are the whole text.
 pub cut_whole : (inside : Bool) (bytes : List ℕ) (n : ℕ) → n ≡ first_size inside bytes → n < length bytes
     → bytes ≡ take n bytes ++ 44 ∷ drop (n + 1) bytes
 cut_whole inside [] n e lt = absurd (omega arith)
@@ -80,13 +80,13 @@ cut_whole inside (b ∷ bytes) n e lt = at inside (b == 44) refl e (cut_whole (o
     at true false c e h = step _ e (h (omega (arith, e, lt)))
     at false false c e h = step _ e (h (omega (arith, e, lt)))
 
--- where one part is left, it is the last
+-- If the remaining parts are one part, it is the last one.
 pub left_last : (k : ℕ) (cut : List (List ℕ)) (part : List ℕ) → drop k cut ≡ part ∷ [] → length cut ≡ k + 1
 left_last zero cut part h = ap length h
 left_last (suc k) [] part h = absurd cc
 left_last (suc k) (x ∷ cut) part h = let l = left_last k cut part h in omega (arith, l)
 
--- the part at a place, and those behind it
+-- The first of the remaining parts is the one with the next index.
 pub left_at : (k : ℕ) (cut others : List (List ℕ)) (part : List ℕ) → drop k cut ≡ part ∷ others
     → (k < length cut) × (slice_index_or cut k [] ≡ part)
 left_at zero [] others part h = absurd cc
@@ -107,7 +107,7 @@ take_next (suc k) [] others part h = absurd cc
 take_next (suc k) (x ∷ cut) others part h = let n : suc k + 1 ≡ suc (k + 1) = omega arith in
     rw n (ap (λ ps. x ∷ ps) (take_next k cut others part h))
 
--- the next part stands behind this one and its comma
+-- The next part begins after this one and its comma.
 pub place_next : (k : ℕ) (cut others : List (List ℕ)) (part : List ℕ) → drop k cut ≡ part ∷ others
     → part_place (k + 1) cut ≡ part_place k cut + (length part + 1)
 place_next k cut others part h =

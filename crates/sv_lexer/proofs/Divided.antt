@@ -1,4 +1,4 @@
--- A unit divided: white space in front, the header, and what stands behind it.
+-- A unit divided into leading white space, the header, and what follows the header.
 use Rattle.std.proofs.Common.{◌≡◌, ℕ, suc, ◌+◌, Bool, true, false, not, ◌&&◌, cond, List, [], ◌∷◌, ◌++◌, length, take, drop, refl, sym, ap, ◌∙◌, subst, append-nil, arith}
 use Rattle.std.specs.List.{list_all}
 use Rattle.std.proofs.lemmas.Bool.{and_parts, not-true}
@@ -10,11 +10,11 @@ use Rattle.sv_lexer.specs.Unit.{white_size, header_size, header, header_place, r
 use Rattle.sv_lexer.proofs.Standing.{start_dropped}
 use Rattle.sv_lexer.proofs.Ends.{run, behind_run, header_is, behind_is}
 
--- a byte that isn't white space
+-- Whether a byte isn't white space.
 abbrev pub is_dark : ℕ → Bool
 is_dark b = not (is_white b)
 
--- white space in front of text
+-- Leading white space is removed, and counts as part of the white space.
 pub start_over : (lead xs : List ℕ) → list_all is_white lead ≡ true → trim_start (lead ++ xs) ≡ trim_start xs
 start_over [] xs e = refl
 start_over (b ∷ lead) xs e =
@@ -28,7 +28,6 @@ white_over (b ∷ lead) xs e =
     let more = white_over lead xs parts.1 in
     ap (λ (t : Bool). cond t (1 + white_size (lead ++ xs)) 0) parts.0 ∙ omega (arith, more)
 
--- white space alone
 pub white_all : (xs : List ℕ) → list_all is_white xs ≡ true → white_size xs ≡ length xs
 white_all [] e = refl
 white_all (b ∷ xs) e =
@@ -36,7 +35,7 @@ white_all (b ∷ xs) e =
     let more = white_all xs parts.1 in
     ap (λ (t : Bool). cond t (1 + white_size xs) 0) parts.0 ∙ omega (arith, more)
 
--- what stands behind another byte doesn't count
+-- After another byte, more bytes don't change how much white space leads.
 pub white_same : (xs ys : List ℕ) → list_all is_white xs ≡ false → white_size (xs ++ ys) ≡ white_size xs
 white_same [] ys e = let f : true ≡ false = e in absurd cc
 white_same (b ∷ xs) ys e = at (is_white b) e (white_same xs ys)
@@ -46,7 +45,7 @@ white_same (b ∷ xs) ys e = at (is_white b) e (white_same xs ys)
     at true e h = ap (λ (n : ℕ). 1 + n) (h e)
     at false e h = refl
 
--- a header in front of other bytes
+-- A header's bytes come before the first white space after them.
 pub run_over : (head xs : List ℕ) → list_all is_dark head ≡ true → run (head ++ xs) ≡ head ++ run xs
 run_over [] xs e = refl
 run_over (b ∷ head) xs e =
@@ -60,7 +59,7 @@ behind_over (b ∷ head) xs e =
     let parts = and_parts (is_dark b) (list_all is_dark head) e in
     ap (λ (t : Bool). cond t (b ∷ (head ++ xs)) (behind_run (head ++ xs))) (not-true (is_white b) parts.0) ∙ behind_over head xs parts.1
 
--- where other bytes stand in front, or nothing does
+-- Without leading white space, nothing is removed.
 start_dark : (head xs : List ℕ) → (is_empty head ≡ true → trim_start xs ≡ xs) → list_all is_dark head ≡ true
     → trim_start (head ++ xs) ≡ head ++ xs
 start_dark [] xs s e = s refl
@@ -74,8 +73,8 @@ white_dark (b ∷ head) xs s e =
     let parts = and_parts (is_dark b) (list_all is_dark head) e in
     ap (λ (t : Bool). cond t (1 + white_size (head ++ xs)) 0) (not-true (is_white b) parts.0)
 
--- A unit is white space, a header and what stands behind it, which begins with white space; without
--- a header that is nothing.
+-- The unit is white space, a header, and a body that begins with white space. Without a header, the
+-- body is empty.
 pub record IsDivided (unit lead head body : List ℕ) : Type 0 where
   pub whole : unit ≡ lead ++ (head ++ body)
   pub white : list_all is_white lead ≡ true
@@ -83,7 +82,7 @@ pub record IsDivided (unit lead head body : List ℕ) : Type 0 where
   pub gap : run body ≡ []
   pub none : is_empty head ≡ true → body ≡ []
 
--- each unit is
+-- Each unit is divided so.
 run_both : (xs : List ℕ) → run xs ++ behind_run xs ≡ xs
 run_both [] = refl
 run_both (b ∷ xs) = at (is_white b) (run_both xs)
@@ -139,7 +138,7 @@ divided unit = record {
   none = start_none unit;
 }
 
--- Of a unit the header is this, and it stands here, as does the text of its parameters.
+-- The unit has this header, at this position, and the program data come from the body.
 pub record IsPlaced (unit head : List ℕ) (front : ℕ) (body : List ℕ) : Type 0 where
   pub heads : header unit ≡ head
   pub begins : header_place unit ≡ front
@@ -154,7 +153,7 @@ gap_all (b ∷ body) e = at (is_white b) e
     at true e = refl
     at false e = absurd cc
 
--- the header where these bytes stand behind white space
+-- The header of a unit that is divided so.
 pub header_run : (lead head xs : List ℕ) → list_all is_white lead ≡ true → list_all is_dark head ≡ true
     → (is_empty head ≡ true → trim_start xs ≡ xs) → header (lead ++ (head ++ xs)) ≡ head ++ run xs
 header_run lead head xs white dark none =

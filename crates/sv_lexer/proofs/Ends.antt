@@ -1,4 +1,4 @@
--- Removing white space from the end of text, computed from the front.
+-- Trailing white space is removed from the back; these lemmas compute it from the front.
 use Rattle.std.proofs.Common.{◌≡◌, ℕ, suc, ◌+◌, Bool, true, false, not, ◌&&◌, cond, List, [], ◌∷◌, ◌++◌, take, drop, refl, sym, ap, ◌∙◌, arith}
 use Rattle.std.specs.Prelude.{reverse}
 use Rattle.std.specs.List.{list_all, position_or_len}
@@ -8,7 +8,6 @@ use Rattle.sv_text.specs.Front.{is_empty}
 use Rattle.sv_text.specs.White.{is_white, trim_start, trim_end, trim}
 use Rattle.sv_lexer.specs.Unit.{white_size, header_size, header}
 
--- with a byte behind others there is something
 pub some_push : (xs : List ℕ) (b : ℕ) → is_empty (xs ++ b ∷ []) ≡ false
 some_push [] b = refl
 some_push (x ∷ xs) b = refl
@@ -17,7 +16,7 @@ none_of : (t : Bool) (xs : List ℕ) → cond (t && false) [] xs ≡ xs
 none_of true xs = refl
 none_of false xs = refl
 
--- white space in front, with a byte behind
+-- Removing leading white space, if a byte follows the text.
 start_push : (xs : List ℕ) (b : ℕ)
     → trim_start (xs ++ b ∷ []) ≡ cond (is_empty (trim_start xs)) (trim_start (b ∷ [])) (trim_start xs ++ b ∷ [])
 start_push [] b = refl
@@ -38,13 +37,12 @@ reversed b true (x ∷ xs) =
     reverse-append (x ∷ xs) (b ∷ []) ∙ sym (ap (λ (e : Bool). cond e [] (b ∷ reverse (x ∷ xs))) some)
 reversed b false (x ∷ xs) = reverse-append (x ∷ xs) (b ∷ [])
 
--- white space at the end, with a byte in front
+-- Removing trailing white space, if a byte comes before the text.
 pub end_cons : (b : ℕ) (xs : List ℕ) → trim_end (b ∷ xs) ≡ cond (is_white b && is_empty (trim_end xs)) [] (b ∷ trim_end xs)
 end_cons b xs =
     ap (λ (l : List ℕ). reverse (trim_start l)) (reverse-append (b ∷ []) xs) ∙ ap reverse (start_push (reverse xs) b)
     ∙ reversed b (is_white b) (trim_start (reverse xs))
 
--- white space alone
 pub end_white : (xs : List ℕ) → list_all is_white xs ≡ true → trim_end xs ≡ []
 end_white [] e = refl
 end_white (b ∷ xs) e =
@@ -52,20 +50,19 @@ end_white (b ∷ xs) e =
     end_cons b xs ∙ ap (λ (t : Bool). cond (t && is_empty (trim_end xs)) [] (b ∷ trim_end xs)) parts.0
     ∙ ap (λ (l : List ℕ). cond (is_empty l) [] (b ∷ l)) (end_white xs parts.1)
 
--- white space behind text
+-- Trailing white space doesn't change what is left without it.
 pub end_over : (xs tail : List ℕ) → list_all is_white tail ≡ true → trim_end (xs ++ tail) ≡ trim_end xs
 end_over [] tail e = end_white tail e
 end_over (b ∷ xs) tail e =
     end_cons b (xs ++ tail) ∙ ap (λ (l : List ℕ). cond (is_white b && is_empty l) [] (b ∷ l)) (end_over xs tail e) ∙ sym (end_cons b xs)
 
--- another byte behind text
+-- If the last byte isn't white space, nothing is removed.
 pub end_push : (xs : List ℕ) (b : ℕ) → is_white b ≡ false → trim_end (xs ++ b ∷ []) ≡ xs ++ b ∷ []
 end_push [] b e = end_cons b [] ∙ ap (λ (t : Bool). cond (t && is_empty (trim_end [])) [] (b ∷ trim_end [])) e
 end_push (x ∷ xs) b e =
     end_cons x (xs ++ b ∷ []) ∙ ap (λ (l : List ℕ). cond (is_white x && is_empty l) [] (x ∷ l)) (end_push xs b e)
     ∙ ap (λ (t : Bool). cond (is_white x && t) [] (x ∷ (xs ++ b ∷ []))) (some_push xs b) ∙ none_of (is_white x) (x ∷ (xs ++ b ∷ []))
 
--- text that isn't white space alone
 end_some : (xs : List ℕ) → list_all is_white xs ≡ false → is_empty (trim_end xs) ≡ false
 end_some [] e = let f : true ≡ false = e in absurd cc
 end_some (b ∷ xs) e = ap is_empty (end_cons b xs) ∙ at (is_white b) e (end_some xs)
@@ -75,7 +72,7 @@ end_some (b ∷ xs) e = ap is_empty (end_cons b xs) ∙ at (is_white b) e (end_s
     at true e h = ap (λ (s : Bool). is_empty (cond s [] (b ∷ trim_end xs))) (h e)
     at false e h = refl
 
--- has as much of it in front without that at its end
+-- Removing trailing white space keeps the leading one, unless the text is all white space.
 pub white_kept : (xs : List ℕ) → list_all is_white xs ≡ false → white_size (trim_end xs) ≡ white_size xs
 white_kept [] e = refl
 white_kept (b ∷ xs) e = ap white_size (end_cons b xs) ∙ at (is_white b) refl e (white_kept xs)
@@ -88,7 +85,7 @@ white_kept (b ∷ xs) e = ap white_size (end_cons b xs) ∙ at (is_white b) refl
         ∙ ap (λ (t : Bool). cond t (1 + white_size (trim_end xs)) 0) w ∙ ap (λ (n : ℕ). 1 + n) (h e)
     at false w e h = ap (λ (t : Bool). cond t (1 + white_size (trim_end xs)) 0) w
 
--- the bytes up to the first white space, and those from it on
+-- The bytes before the first white space, and the others.
 abbrev pub run : List ℕ → List ℕ
 run [] = []
 run (b ∷ xs) = cond (is_white b) [] (b ∷ run xs)
@@ -141,7 +138,7 @@ behind_trimmed (b ∷ xs) = at (is_white b) refl (behind_trimmed xs)
         ap behind_run (end_cons b xs) ∙ ap (λ (t : Bool). behind_run (cond (t && is_empty (trim_end xs)) [] (b ∷ trim_end xs))) w
         ∙ ap (λ (t : Bool). cond t (b ∷ trim_end xs) (behind_run (trim_end xs))) w ∙ h
 
--- the header, and what stands behind it
+-- The header of a unit, and what follows it.
 pub header_is : (unit : List ℕ) → header unit ≡ run (trim_start unit)
 header_is unit = run_taken (trim unit) ∙ run_trimmed (trim_start unit)
 

@@ -1,4 +1,4 @@
--- A unit whose bytes were read one by one is what it is when it is read at once.
+-- A unit read byte by byte has the fault and the parts that it has when it is read at once.
 use Rattle.std.proofs.Common.{◌≡◌, ℕ, ◌+◌, ◌-◌, ◌^◌, ◌<◌, ◌≤◌, ◌==◌, Bool, true, false, not, ◌&&◌, ◌||◌, cond, List, [], ◌∷◌, ◌++◌, length, take, get_or, max, nat_lt, nat_le, Option, Some, None, inl, inr, refl, sym, ap, ◌∙◌, subst, append_assoc, append-nil, arith}
 use Rattle.std.specs.List.{list_all}
 use Rattle.std.specs.Char.{is_ascii_graphic, is_ascii_alphabetic as is_letter}
@@ -22,7 +22,7 @@ use Rattle.sv_lexer.proofs.Headers.{header_some, longest_is}
 use Rattle.sv_lexer.proofs.Pushes.{all_push, rest_none, rest_there}
 use Rattle.sv_lexer.proofs.Stages.{at_next, header_at, may_end}
 
--- ---- a byte more
+-- ---- another byte
 
 illegal_cond : (t : Bool) (a b : Stage) → is_illegal a ≡ false → is_illegal b ≡ false → is_illegal (cond t a b) ≡ false
 illegal_cond true a b e f = e
@@ -65,7 +65,7 @@ legal_next stage b =
     at false true = yes (not (is_illegal stage)) ∙ ap not (sym (graphic_legal stage b))
     at false false = none (not (is_illegal stage))
 
--- nothing was read
+-- Before the first byte, nothing was read.
 pub reads_none : (p : Progress) → p.stage ≡ WhiteSpace → p.size ≡ 0 → p.header_start ≡ 0 → p.mnemonic ≡ 0 → p.longest ≡ 0 → Reads p []
 reads_none p stage size start mnemonic front = record {
   size = size;
@@ -80,7 +80,7 @@ reads_none p stage size start mnemonic front = record {
   });
 }
 
--- a byte behind those that were read
+-- One byte more is read.
 pub reads_push : (p new : Progress) (unit : List ℕ) (b : ℕ) → new ≡ progress_to (next p.stage b) p → Reads p unit
     → Reads new (unit ++ b ∷ [])
 reads_push p new unit b is h =
@@ -92,20 +92,20 @@ reads_push p new unit b is h =
       known = at_next p.stage p unit b size h.known;
     })
 
--- and the next one of some bytes
+-- The next of several bytes is read.
 pub reads_more : (p : Progress) (before bytes : List ℕ) (i : ℕ) → i < length bytes
     → Reads p (before ++ take i bytes ++ get_or bytes i 0 ∷ []) → Reads p (before ++ take (i + 1) bytes)
 reads_more p before bytes i lt h =
     subst (Reads p)
     (append_assoc before (take i bytes) (get_or bytes i 0 ∷ []) ∙ ap (λ (l : List ℕ). before ++ l) (sym (take_more bytes i 0 lt))) h
 
--- ---- what is wrong with it
+-- ---- the unit's fault
 
--- a mnemonic has at most 12 characters
+-- Whether a mnemonic has at most 12 characters.
 abbrev is_brief : List ℕ → Bool
 is_brief word = nat_le (length word) 12
 
--- the faults in their order
+-- The fault of a unit: -101, else -102, else -112, else none.
 abbrev fault_by : (legal spelled brief : Bool) → Option Code
 fault_by legal spelled brief =
     cond (not legal) (Some InvalidCharacter) (cond (not spelled) (Some SyntaxError) (cond (not brief) (Some ProgramMnemonicTooLong) None))
@@ -149,7 +149,7 @@ kept_le n =
       | inr le ↦ le-leb (in_u64 n) 12 (omega (arith, le)) ∙ sym (le-leb n 12 le)
     ]
 
--- words are brief exactly if the longest one is
+-- All mnemonics are short enough exactly if the longest one is.
 longest_brief : (parts : List (List ℕ)) → list_all is_brief parts ≡ nat_le (longest parts) 12
 longest_brief [] = refl
 longest_brief (part ∷ parts) =
@@ -186,13 +186,13 @@ fault_at Misspelled p unit legal h =
 fault_at Illegal p unit legal h = illegal unit legal
 fault_at stage p unit legal h = spelled stage p unit refl legal h
 
--- the fault of the unit is the fault of what was read
+-- The fault found byte by byte is the fault of the whole unit.
 pub fault_is : (p : Progress) (unit : List ℕ) → Reads p unit → unit_fault unit ≡ fault_of p.stage p
 fault_is p unit h = fault_at p.stage p unit h.legal h.known
 
--- ---- where its parts stand
+-- ---- the positions of the unit's parts
 
--- a place within a text is kept whole
+-- A position in a unit that isn't too long is stored exactly.
 whole : (place n : ℕ) (unit : List ℕ) → length unit ≤ 2 ^ 64 - 1 → n ≤ length unit → place ≡ in_u64 n → place ≡ n
 whole place n unit room within e = omega (arith, room, within, e)
 
@@ -202,7 +202,7 @@ header_within unit = stands_within unit (header unit) (header_place unit) (heade
 rest_ends : (unit : List ℕ) → rest_end unit ≤ length unit
 rest_ends unit = stands_within unit (rest unit) (rest_place unit) (rest_stands unit)
 
--- where nothing but white space stands behind the header
+-- Nothing but white space follows the header.
 cut_header : (stage : Stage) (p : Progress) (unit : List ℕ) → length unit ≤ 2 ^ 64 - 1 → is_header (header unit) ≡ true → rest unit ≡ []
     → IsRead stage p unit → IsCut unit p.header_start p.header_end p.header_end p.header_end
 cut_header stage p unit room is none h =
@@ -238,7 +238,7 @@ cut_at ProgramData p unit room none h = cut_data ProgramData p unit room h.spell
 cut_at DataSpace p unit room none h = cut_data DataSpace p unit room h.spelled h.ends.0 h
 cut_at _ p unit room none h = absurd cc
 
--- where there is no fault, its parts stand where they were read
+-- Without a fault, the parts of the unit are where the progress says.
 pub cut_is : (p : Progress) (unit : List ℕ) → length unit ≤ 2 ^ 64 - 1 → Reads p unit → fault_of p.stage p ≡ None
     → IsCut unit p.header_start p.header_end (data_of p.stage p.header_end p.data_start) (data_of p.stage p.header_end p.data_end)
 cut_is p unit room h none = cut_at p.stage p unit room none h.known

@@ -1,4 +1,4 @@
--- A header so far with one byte more.
+-- How each further byte changes the header read so far.
 use Rattle.std.proofs.Common.{◌≡◌, ℕ, ◌+◌, ◌==◌, Bool, true, false, ◌&&◌, cond, List, [], ◌∷◌, ◌++◌, length, max, refl, sym, ap, ◌∙◌, subst, append_assoc, arith}
 use Rattle.std.specs.Char.{is_ascii_alphabetic as is_letter}
 use Rattle.std.specs.List.{list_all, onto_first as onto}
@@ -18,12 +18,13 @@ use Rattle.sv_lexer.specs.declared.stage.Stage.TheVariants.{WhiteSpace, Asterisk
 use Rattle.sv_lexer.proofs.Ends.{some_push}
 use Rattle.sv_lexer.proofs.Words.{strip, strip_other, strip_front, sign_push, cut_some, words_some, joined, joined_none, last_push, others_push, others_last, parts_of, words_onward, words_more, words_sign, words_colon, words_word, word_no_sign, has_part}
 
--- The last word and the longest of the others have so many characters.
+-- The lengths of the last mnemonic and of the longest one before it are counted.
 pub record IsCounted (mnemonic front : ℕ) (head : List ℕ) : Type 0 where
   pub last_size : mnemonic ≡ in_u64 (length (last (words head)))
   pub front_size : front ≡ in_u64 (longest (others (words head)))
 
--- A header so far with one byte more ends in this, and is counted.
+-- With the next byte, the header has the form that this stage requires, and its mnemonics are
+-- counted.
 pub record IsPushed (stage : Stage) (n m : ℕ) (head : List ℕ) : Type 0 where
   pub spelled : HeaderEnds stage head
   pub counted : IsCounted (mnemonic_in stage n) (longest_in stage n m) head
@@ -52,7 +53,7 @@ and_true false = refl
 
 -- ---- words
 
--- the others and the last one
+-- All words are the last one and those before it.
 pub both : (test : List ℕ → Bool) (parts : List (List ℕ)) → has_part parts ≡ true
     → list_all test parts ≡ (list_all test (others parts) && test (last parts))
 both test parts some =
@@ -114,9 +115,9 @@ counted_colon n m head b all h =
       front_size = omega (arith, long, two, h.last_size, h.front_size);
     }
 
--- ---- what is spelled
+-- ---- well-formed headers
 
--- a letter where a mnemonic has to come
+-- A letter begins the mnemonic that must follow.
 begun_on : (head : List ℕ) (b : ℕ) → Awaits head → is_letter b ≡ true → IsUnsigned (head ++ b ∷ [])
 begun_on head b h l =
     let w = letter_word b l in
@@ -128,7 +129,7 @@ begun_on head b h l =
       unsigned = sign_push head b ∙ word_no_sign b w;
     }
 
--- a byte more of a mnemonic
+-- A letter, digit or underscore continues the mnemonic.
 word_on : (head : List ℕ) (b : ℕ) → IsUnsigned head → is_word_byte b ≡ true → IsUnsigned (head ++ b ∷ [])
 word_on head b h w =
     let all = words_word head b (header_some head h.header) h.unsigned w in
@@ -140,7 +141,7 @@ word_on head b h w =
       unsigned = sign_push head b ∙ word_no_sign b w;
     }
 
--- a colon behind a mnemonic
+-- After a colon, a mnemonic must follow.
 colon_on : (head : List ℕ) → is_common head ≡ false → IsUnsigned head → Awaits (head ++ 58 ∷ [])
 colon_on head c h =
     let all = words_colon head (header_some head h.header) h.unsigned c in record {
@@ -150,7 +151,7 @@ colon_on head c h =
       mnemonics = ap (list_all is_mnemonic) (ap others all ∙ others_push (words head) []) ∙ h.header;
     }
 
--- ---- what is misspelled, whatever comes
+-- ---- headers that are malformed, whatever follows
 
 common_none : (b : ℕ) (more : List ℕ) → is_letter b ≡ false → is_mnemonic (strip (b ∷ more)) ≡ false
 common_none b more l = at (b == 63 && is_empty more)
@@ -174,7 +175,7 @@ other_none b more l = at (b == 63 && is_empty more)
     at true = refl
     at false = cut_none (b == 58)
 
--- where the parts behind the last word's front are none
+-- If the last word, continued by further bytes, makes no mnemonics, the header is malformed.
 fails : (head more : List ℕ) → is_empty head ≡ false → is_query head ≡ false
     → list_all is_mnemonic (joined (last (words head)) (parts_of (is_common head) more)) ≡ false → is_header (head ++ more) ≡ false
 fails head more s q none =
@@ -191,7 +192,7 @@ unbegun head b more h l =
     at true = ap (λ (t : Bool). t && true) (common_none b more l)
     at false = ap (list_all is_mnemonic) (joined_none (cut_at 58 (strip (b ∷ more))) (cut_some 58 (strip (b ∷ more)))) ∙ other_none b more l
 
--- behind a mnemonic another byte, that isn't the query sign at the end
+-- After a mnemonic, a byte that neither continues nor ends it makes the header malformed.
 unended : (head : List ℕ) (b : ℕ) (more : List ℕ) → IsUnsigned head → is_word_byte b ≡ false → strip (b ∷ more) ≡ b ∷ strip more
     → (is_common head ≡ false → (b == 58) ≡ false) → is_header (head ++ b ∷ more) ≡ false
 unended head b more h w stays apart =
@@ -215,7 +216,7 @@ unended head b more h w stays apart =
         (none refl)
         ∙ onto_bad word (cut_at 58 (strip more)) m
 
--- ---- each stage
+-- ---- stages
 
 pushed_first : (b n m : ℕ) → IsCounted n m [] → Pushed (behind_graphic WhiteSpace b) n m [] b
 pushed_first b n m h = at (b == 42) refl (b == 58) refl (is_letter b) refl
@@ -260,7 +261,7 @@ awaited stage head b n m h counted then = at (is_letter b) refl
     at true l = then l (counted_word n m head b h.some h.unsigned (letter_word b l) counted) (begun_on head b h l)
     at false l = λ more. unbegun head b more h l
 
--- behind a mnemonic
+-- At a stage within a mnemonic.
 behind_word : (stage other : Stage) (head : List ℕ) (b n m : ℕ) → IsUnsigned head → IsCounted n m head
     → (IsUnsigned (head ++ b ∷ []) → IsCounted (one_more n) m (head ++ b ∷ []) → Pushed stage n m head b)
     → (is_word_byte b ≡ false → (b == 63) ≡ false → Pushed other n m head b)
@@ -310,7 +311,7 @@ pushed_sign head b n m h = λ more.
 asterisk_awaits : (head : List ℕ) → head ≡ 42 ∷ [] → Awaits head
 asterisk_awaits head e = subst Awaits (sym e) (record { some = refl; unsigned = refl; empty = refl; mnemonics = refl })
 
--- the unit ends in its header, or in front of it
+-- Whether no byte of the unit follows its header yet.
 abbrev pub is_first : Stage → Bool
 is_first WhiteSpace = true
 is_first Asterisk = true

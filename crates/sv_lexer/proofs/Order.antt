@@ -1,4 +1,4 @@
--- The tokens of a unit stand in their order.
+-- The tokens of a unit come in order: the header, then each parameter.
 use Rattle.std.proofs.Common.{◌≡◌, ℕ, zero, suc, ◌+◌, ◌<◌, ◌≤◌, List, [], ◌∷◌, length, take, ◌∙◌, slice_index_or, arith}
 use Rattle.std.proofs.lemmas.List.{length-take-le}
 use Rattle.std.proofs.lemmas.List.Sums.{sum_by-append}
@@ -9,11 +9,10 @@ use Rattle.sv_lexer.specs.Unit.{white_size, header_size, header, rest}
 use Rattle.sv_lexer.specs.Parameters.{part_place, parts}
 use Rattle.sv_lexer.proofs.Standing.{stands_trim, stands_within}
 
--- the part in front counts with its comma
 place_cons : (k : ℕ) (part : List ℕ) (parts : List (List ℕ)) → part_place (suc k) (part ∷ parts) ≡ length part + 1 + part_place k parts
 place_cons k part parts = sum_by-append (λ p. length p + 1) (part ∷ []) (take k parts) ∙ omega arith
 
--- a later part stands behind an earlier one and its comma
+-- A part begins after each part with a lower index and its comma.
 parts_in_order : (i j : ℕ) (parts : List (List ℕ)) → i < j → j < length parts
     → part_place i parts + length (slice_index_or parts i []) < part_place j parts
 parts_in_order i zero parts lt within = absurd (omega (arith, lt))

@@ -1,4 +1,4 @@
--- Where the parts of a unit stand with one byte more.
+-- The positions of a unit's parts after one more byte.
 use Rattle.std.proofs.Common.{◌≡◌, ℕ, ◌+◌, ◌<◌, Bool, true, false, not, ◌&&◌, cond, List, [], ◌∷◌, ◌++◌, length, refl, sym, ap, ◌∙◌, append_assoc, append-nil, arith}
 use Rattle.std.specs.List.{list_all}
 use Rattle.std.proofs.lemmas.Bool.{and_parts}
@@ -13,7 +13,6 @@ use Rattle.sv_lexer.proofs.Tokens.{rest_stands}
 use Rattle.sv_lexer.proofs.Ends.{run, end_cons, end_white, end_over, end_push, white_kept}
 use Rattle.sv_lexer.proofs.Divided.{is_dark, IsDivided, IsPlaced, divided, placed, header_run, white_over, white_same}
 
--- a test of all bytes, with one more
 pub all_push : (test : ℕ → Bool) (bytes : List ℕ) (b : ℕ) → list_all test (bytes ++ b ∷ []) ≡ (list_all test bytes && test b)
 all_push test bytes b = list_all-append test bytes (b ∷ []) ∙ ap (λ (t : Bool). list_all test bytes && t) (at (test b))
   where
@@ -21,7 +20,7 @@ all_push test bytes b = list_all-append test bytes (b ∷ []) ∙ ap (λ (t : Bo
     at true = refl
     at false = refl
 
--- nothing is left of white space alone
+-- Removing white space leaves nothing exactly of a text that is all white space.
 start_blank : (xs : List ℕ) → is_empty (trim_start xs) ≡ list_all is_white xs
 start_blank [] = refl
 start_blank (b ∷ xs) = at (is_white b) (start_blank xs)
@@ -78,7 +77,7 @@ long unit lead head body d =
     let all : length unit ≡ length (lead ++ (head ++ body)) = ap length d.whole in
     omega (arith, all, outer, inner)
 
--- where a unit ends with its header, nothing stands behind that
+-- If the unit ends with its header, nothing follows the header.
 none_behind : (unit lead head body : List ℕ) → IsDivided unit lead head body → header_end unit ≡ length unit → body ≡ []
 none_behind unit lead head body d ends =
     let p = placed unit lead head body d in
@@ -97,7 +96,7 @@ pub rest_none : (unit : List ℕ) → header_end unit ≡ length unit → rest u
 rest_none unit ends =
     let d = divided unit in (placed unit _ _ _ d).rests ∙ ap (λ (l : List ℕ). trim_start (trim_end l)) (none_behind unit _ _ _ d ends)
 
--- without program data, these would begin where the header ends
+-- Without program data, their position is the end of the header.
 pub rest_there : (unit : List ℕ) → rest unit ≡ [] → rest_place unit ≡ header_end unit
 rest_there unit e = at _ _ _ (divided unit)
   where
@@ -109,7 +108,7 @@ rest_there unit e = at _ _ _ (divided unit)
         let heads : length (header unit) ≡ length head = ap length p.heads in
         omega (arith, p.follows, p.begins, heads, none)
 
--- with program data, there is more than the header
+-- With program data, the unit is longer than its header.
 pub rest_within : (unit : List ℕ) → is_empty (rest unit) ≡ false → header_end unit < length unit
 rest_within unit e = at _ _ _ (divided unit)
   where
@@ -124,7 +123,7 @@ rest_within unit e = at _ _ _ (divided unit)
 
 -- ---- the header
 
--- the header where bytes more come behind it
+-- Bytes after a unit that ends with its header continue the header up to white space.
 header_over : (unit more : List ℕ) → header_end unit ≡ length unit → (is_empty (header unit) ≡ true → trim_start more ≡ more)
     → header (unit ++ more) ≡ header unit ++ run more
 header_over unit more ends start = at _ _ _ (divided unit)
@@ -154,7 +153,7 @@ header_closed unit b more ends some w =
     ∙ header_over unit (b ∷ more) ends (λ e. let f : false ≡ true = sym some ∙ e in absurd cc)
     ∙ ap (λ (t : Bool). header unit ++ cond t [] (b ∷ run more)) w ∙ append-nil (header unit)
 
--- A byte more of the header.
+-- The byte continues the header.
 pub record IsLonger (unit : List ℕ) (b : ℕ) : Type 0 where
   pub heads : header (unit ++ b ∷ []) ≡ header unit ++ b ∷ []
   pub begins : header_place (unit ++ b ∷ []) ≡ header_place unit
@@ -187,7 +186,7 @@ longer unit b ends w = at _ _ _ (divided unit)
           ends = omega (arith, size, nil, heads, all, q.begins);
         }
 
--- White space more, where there is nothing else.
+-- The byte is more leading white space.
 pub record IsWider (unit : List ℕ) (b : ℕ) : Type 0 where
   pub heads : header (unit ++ b ∷ []) ≡ []
   pub begins : header_place (unit ++ b ∷ []) ≡ length (unit ++ b ∷ [])
@@ -212,9 +211,9 @@ wider unit b e w = at _ _ _ (divided unit)
         let q = placed (unit ++ b ∷ []) (lead ++ b ∷ []) [] [] new in
         record { heads = q.heads; begins = q.begins ∙ ap (λ (l : List ℕ). length (l ++ b ∷ [])) (sym all) }
 
--- ---- behind the header
+-- ---- after the header
 
--- The header stays where it is.
+-- The header and its position stay.
 pub record IsSame (unit new : List ℕ) : Type 0 where
   pub heads : header new ≡ header unit
   pub begins : header_place new ≡ header_place unit
@@ -222,7 +221,7 @@ pub record IsSame (unit new : List ℕ) : Type 0 where
 pub end_same : (unit new : List ℕ) → IsSame unit new → header_end new ≡ header_end unit
 end_same unit new s = let heads : length (header new) ≡ length (header unit) = ap length s.heads in omega (arith, heads, s.begins)
 
--- what stands behind it has a byte more
+-- The byte is appended to what follows the header.
 more_behind : (unit lead head body : List ℕ) (b : ℕ) → IsDivided unit lead head body → is_empty head ≡ false → run (body ++ b ∷ []) ≡ []
     → IsDivided (unit ++ b ∷ []) lead head (body ++ b ∷ [])
 more_behind unit lead head body b d some gap = record {
@@ -238,7 +237,7 @@ same_of : (unit new head : List ℕ) (front : ℕ) (body more : List ℕ) → Is
     → IsSame unit new
 same_of unit new head front body more p q = record { heads = q.heads ∙ sym p.heads; begins = q.begins ∙ sym p.begins }
 
--- White space, where nothing else stands behind the header.
+-- The byte is white space between the header and the program data.
 pub record IsGap (unit new : List ℕ) : Type 0 where
   pub same : IsSame unit new
   pub rests : rest new ≡ []
@@ -264,7 +263,7 @@ gap_on unit b some e w = at _ _ _ (divided unit)
           ends = omega (arith, size, heads, all, q.begins);
         }
 
--- Program data: where there were none, they begin here.
+-- The byte belongs to the program data; if it is their first, they begin here.
 pub record IsData (unit new : List ℕ) : Type 0 where
   pub same : IsSame unit new
   pub some : is_empty (rest new) ≡ false
@@ -316,7 +315,7 @@ data_on unit b some lt w = at _ _ _ (divided unit)
             let here : length lead + length head + white_size (body ++ b ∷ []) ≡ rest_place unit = omega (arith, same, before, p.follows) in
             here ∙ ap (λ (t : Bool). cond t (length unit) (rest_place unit)) (sym e)
 
--- White space behind program data.
+-- The byte is white space after program data.
 pub record IsSpaced (unit new : List ℕ) : Type 0 where
   pub same : IsSame unit new
   pub rests : rest new ≡ rest unit

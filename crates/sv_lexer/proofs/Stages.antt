@@ -1,4 +1,4 @@
--- What is known of a unit with one byte more, at each of the stages that it may end in.
+-- What is known of a unit after one more byte, for each stage that it may have reached.
 use Rattle.std.proofs.Common.{◌≡◌, ℕ, ◌<◌, Bool, true, false, ◌&&◌, cond, List, [], ◌∷◌, ◌++◌, length, refl, sym, ap, ◌∙◌, subst, append_assoc, arith}
 use Rattle.std.specs.List.{list_all}
 use Rattle.std.specs.Char.{is_ascii_graphic}
@@ -18,12 +18,12 @@ use Rattle.sv_lexer.proofs.Pushes.{IsLonger, IsSame, longer, wider, header_on, h
 
 -- ---- headers
 
--- a header with its query sign
+-- A header that ends in a question mark is complete.
 signed_header : (text : List ℕ) → HeaderEnds QuerySign text → is_header text ≡ true
 signed_header text h =
     ap is_header h.1 ∙ ap (list_all is_mnemonic) (words_sign h.0 (header_some h.0 h.2.header) h.2.unsigned) ∙ h.2.header
 
--- where a mnemonic has to come, there is no header yet
+-- If a mnemonic must follow, the header isn't complete yet.
 awaits_none : (text : List ℕ) → Awaits text → is_header text ≡ false
 awaits_none text h =
     both is_mnemonic (words text) (words_some text)
@@ -34,7 +34,7 @@ awaits_none text h =
     none true = refl
     none false = refl
 
--- whether a header may end in this
+-- Whether the header is complete at this stage.
 abbrev pub may_end : Stage → Bool
 may_end WhiteSpace = false
 may_end Asterisk = false
@@ -50,7 +50,7 @@ header_at Mnemonic text h = h.1.header
 header_at QuerySign text h = signed_header text h
 header_at _ text h = h
 
--- ---- a byte more of the header
+-- ---- another byte of the header
 
 word_read : (stage : Stage) (q : Progress) (unit : List ℕ) (b : ℕ) → IsLonger unit b → q.header_start ≡ in_u64 (header_place unit)
     → q.header_end ≡ in_u64 (length (unit ++ b ∷ [])) → HeaderEnds stage (header unit ++ b ∷ [])
@@ -85,7 +85,7 @@ first_on stage p unit b first ends size w h =
     (λ more. header_on unit b more ends w)
     (pushed stage (header unit) b p.mnemonic p.longest first h.spelled (record { last_size = h.mnemonic; front_size = h.front }))
 
--- ---- white space in front
+-- ---- leading white space
 
 wider_on : (p : Progress) (unit : List ℕ) (b : ℕ) → one_more p.size ≡ in_u64 (length (unit ++ b ∷ [])) → is_white b ≡ true
     → IsRead WhiteSpace p unit → IsRead WhiteSpace (progress_to WhiteSpace p) (unit ++ b ∷ [])
@@ -101,9 +101,9 @@ wider_on p unit b size w h =
       front = h.front ∙ ap (λ (l : List ℕ). in_u64 (longest (others (words l)))) (sym heads);
     }
 
--- ---- behind the header
+-- ---- after the header
 
--- What was read of the header stays.
+-- The progress still has what was read of the header.
 record IsCarried (p q : Progress) : Type 0 where
   start : q.header_start ≡ p.header_start
   end : q.header_end ≡ p.header_end
@@ -130,7 +130,7 @@ gap_read stage p unit b size w is none h =
     carried stage HeaderSeparator p (progress_to HeaderSeparator p) unit (unit ++ b ∷ []) some
     (record { start = refl; end = refl; mnemonic = refl; longest_one = refl }) g.same is (g.rests, g.ends, size) h
 
--- where the program data begin
+-- The program data begin at their first byte.
 data_begun : (p : Progress) (unit : List ℕ) (place : ℕ) → (is_empty (rest unit) ≡ true → p.data_start ≡ in_u64 (length unit))
     → (is_empty (rest unit) ≡ false → p.data_start ≡ in_u64 (rest_place unit))
     → place ≡ cond (is_empty (rest unit)) (length unit) (rest_place unit) → p.data_start ≡ in_u64 place
@@ -169,13 +169,13 @@ space_read stage p unit b w is d h =
       g.ends,
     ) h
 
--- ---- a byte more
+-- ---- another byte
 
 misspelled_on : (unit : List ℕ) (b : ℕ) → ((more : List ℕ) → is_header (header (unit ++ more)) ≡ false)
     → (more : List ℕ) → is_header (header ((unit ++ b ∷ []) ++ more)) ≡ false
 misspelled_on unit b h more = ap (λ (l : List ℕ). is_header (header l)) (append_assoc unit (b ∷ []) more) ∙ h (b ∷ more)
 
--- white space ends the header
+-- White space ends an incomplete header, which can't be completed any more.
 ended : (unit : List ℕ) (b : ℕ) → header_end unit ≡ length unit → is_empty (header unit) ≡ false → is_white b ≡ true
     → is_header (header unit) ≡ false → (more : List ℕ) → is_header (header ((unit ++ b ∷ []) ++ more)) ≡ false
 ended unit b ends some w none more = ap is_header (header_closed unit b more ends some w) ∙ none
@@ -212,7 +212,7 @@ at_graphic Misspelled p unit b size w h = misspelled_on unit b h
 at_graphic Illegal p unit b size w h = tt
 at_graphic stage p unit b size w h = first_on stage p unit b refl h.ends size w h
 
--- a byte more
+-- The next byte leads from each stage to the next.
 pub at_next : (stage : Stage) (p : Progress) (unit : List ℕ) (b : ℕ) → one_more p.size ≡ in_u64 (length (unit ++ b ∷ [])) → At stage p unit
     → At (next stage b) (progress_to (next stage b) p) (unit ++ b ∷ [])
 at_next stage p unit b size h = at (is_white b) refl (is_ascii_graphic b)

@@ -1,4 +1,4 @@
--- The position of a part of a text in that text.
+-- The position of a part of a text in this text.
 use Rattle.std.proofs.Common.{◌≡◌, ℕ, suc, ◌+◌, ◌-◌, ◌≤◌, Bool, true, false, cond, List, [], ◌∷◌, ◌++◌, length, take, drop, refl, sym, ap, ◌∙◌, slice_range, arith}
 use Rattle.std.specs.Prelude.{reverse}
 use Rattle.std.proofs.lemmas.List.{append_assoc, append-nil, length-append, length-drop, length-take-le, reverse-append, reverse-reverse, take-append-drop}
@@ -8,11 +8,10 @@ use Rattle.sv_text.specs.White.{is_white, trim_start, trim_end, trim}
 use Rattle.sv_lexer.specs.Token.{StandsAt}
 use Rattle.sv_lexer.specs.Unit.{white_size}
 
--- a text stands in itself
 pub stands_self : (text : List ℕ) → StandsAt text 0 text
 stands_self text = ([], [], sym (append-nil text), refl)
 
--- what stands in a text stands in what that stands in
+-- Positions add up: a part of a text is a part of whatever contains the text.
 pub stands_in : (unit text part : List ℕ) (p q : ℕ) → StandsAt unit p text → StandsAt text q part → StandsAt unit (p + q) part
 stands_in unit text part p q outer inner = (
   outer.0 ++ inner.0,
@@ -21,7 +20,6 @@ stands_in unit text part p q outer inner = (
   length-append outer.0 inner.0 ∙ omega (arith, outer.3, inner.3),
 )
 
--- the first bytes, and those behind them
 pub stands_take : (n : ℕ) (text : List ℕ) → StandsAt text 0 (take n text)
 stands_take n text = ([], drop n text, sym (take-append-drop n text), refl)
 
@@ -33,11 +31,10 @@ stands_drop n text le = (
   length-take-le n text le,
 )
 
--- what stands behind a first part and one byte
 pub stands_behind : (text part behind : List ℕ) (b n : ℕ) → text ≡ part ++ b ∷ behind → n ≡ length part + 1 → StandsAt text n behind
 stands_behind text part behind b n e s = (part ++ b ∷ [], [], e ∙ simp (append_assoc, append-nil) refl, length-append part (b ∷ []) ∙ sym s)
 
--- without white space in front
+-- Removing leading white space drops as many bytes as there are of it.
 pub start_dropped : (text : List ℕ) → trim_start text ≡ drop (white_size text) text
 start_dropped [] = refl
 start_dropped (b ∷ text) = at (is_white b) (start_dropped text)
@@ -60,7 +57,7 @@ white_rest text =
 pub stands_start : (text : List ℕ) → StandsAt text (white_size text) (trim_start text)
 stands_start text = rw (start_dropped text) (stands_drop (white_size text) text (white_within text))
 
--- and behind
+-- Removing trailing white space leaves a prefix of the text.
 pub end_taken : (text : List ℕ) → text ≡ trim_end text ++ reverse (take (white_size (reverse text)) (reverse text))
 end_taken text =
     sym (reverse-reverse text)
@@ -71,7 +68,7 @@ end_taken text =
 pub stands_end : (text : List ℕ) → StandsAt text 0 (trim_end text)
 stands_end text = ([], reverse (take (white_size (reverse text)) (reverse text)), end_taken text, refl)
 
--- without white space at both ends
+-- Without white space around it, a text begins after its leading white space.
 pub stands_trim : (text : List ℕ) → StandsAt text (white_size text) (trim text)
 stands_trim text = rw (← plus_zero (white_size text))
     (stands_in text (trim_start text) (trim text) (white_size text) 0 (stands_start text) (stands_end (trim_start text)))
@@ -79,14 +76,12 @@ stands_trim text = rw (← plus_zero (white_size text))
     plus_zero : (n : ℕ) → n + 0 ≡ n
     plus_zero n = omega arith
 
--- a text that stands in another ends within it
 pub stands_within : (unit text : List ℕ) (p : ℕ) → StandsAt unit p text → p + length text ≤ length unit
 stands_within unit text p h =
     let whole : length unit ≡ length h.0 + length (text ++ h.1) = ap length h.2 ∙ length-append h.0 (text ++ h.1) in
     let inner : length (text ++ h.1) ≡ length text + length h.1 = length-append text h.1 in
     omega (arith, whole, inner, h.3)
 
--- the slice at the place of a text that stands in another
 pub slice_stands : (text part : List ℕ) (p q : ℕ) → StandsAt text p part → q ≡ p + length part → slice_range text p q ≡ part
 slice_stands text part p q h e =
     let front : List ℕ = h.0 in

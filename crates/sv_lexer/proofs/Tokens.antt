@@ -1,4 +1,4 @@
--- The tokens of a unit stand in it where they are said to.
+-- The tokens of a unit have the texts and positions that the specification states.
 use Rattle.std.proofs.Common.{◌≡◌, ℕ, ◌+◌, ◌<◌, ◌≤◌, List, [], ◌∷◌, length, drop, refl, sym, ap, ◌∙◌, slice_index_or, slice_range, arith}
 use Rattle.sv_text.specs.White.{is_white, trim}
 use Rattle.sv_text.proofs.Places.{place_within}
@@ -9,7 +9,6 @@ use Rattle.sv_lexer.specs.Inside.Finish.{IsCut}
 use Rattle.sv_lexer.specs.Parameters.{cut_outside, parts, part_place, count, parameter, parameter_place}
 use Rattle.sv_lexer.proofs.Standing.{stands_in, stands_take, stands_drop, stands_start, stands_trim, stands_within, slice_stands}
 
--- at an equal place
 stands_same : (unit text : List ℕ) (p q : ℕ) → p ≡ q → StandsAt unit p text → StandsAt unit q text
 stands_same unit text p q e h = rw (← e) h
 
@@ -26,7 +25,7 @@ rest_stands unit =
     (stands_drop (header_size unit) (trim unit) (place_within is_white (trim unit))))
     (stands_start behind)
 
--- the parts of a unit that was cut are its header and the text behind it
+-- The header and the program data, cut at the positions that were read, are those of the unit.
 pub cut_holds : (unit slice text : List ℕ) (header_start header_end data_start data_end : ℕ) (token : Token)
     → IsCut unit header_start header_end data_start data_end → slice ≡ slice_range unit header_start header_end
     → text ≡ slice_range unit data_start data_end → token.text.now ≡ slice → token.start ≡ in_u32 header_start → token.kind ≡ kind_of slice
@@ -53,7 +52,7 @@ cut_holds unit slice text header_start header_end data_start data_end token cut 
       rw (cut.data_begins, rests) (rest_stands unit),
     )
 
--- they are within it
+-- These positions are within the unit.
 pub cut_within : (unit : List ℕ) (header_start header_end data_start data_end : ℕ) → IsCut unit header_start header_end data_start data_end
     → (header_start ≤ header_end) × (header_end ≤ length unit) × (data_start ≤ data_end) × (data_end ≤ length unit)
 cut_within unit header_start header_end data_start data_end cut =
@@ -65,12 +64,11 @@ cut_within unit header_start header_end data_start data_end cut =
       omega (arith, rests, cut.data_ends),
     )
 
--- where there is a part, there is text
 parts_some : (text : List ℕ) (index : ℕ) → index < length (parts text) → parts text ≡ cut_outside [] text
 parts_some [] index lt = absurd (omega (arith, lt))
 parts_some (b ∷ text) index lt = refl
 
--- a part of the text, without white space around it, is a parameter
+-- A part of the program data without white space around it is the parameter with its index.
 pub parameter_holds : (unit text part : List ℕ) (base index place space : ℕ) (token : Token) → text ≡ rest unit → base ≡ rest_place unit
     → StandsAt unit base text
     → index < count unit → part ≡ slice_index_or (cut_outside [] text) index [] → place ≡ part_place index (cut_outside [] text)

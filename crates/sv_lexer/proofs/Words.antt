@@ -1,4 +1,4 @@
--- The words of a header so far, and of the header with bytes more.
+-- The mnemonics of a header, and how further bytes change them.
 use Rattle.std.proofs.Common.{◌≡◌, ℕ, suc, ◌-◌, ◌==◌, Bool, true, false, ◌&&◌, cond, List, [], ◌∷◌, ◌++◌, length, take, drop, refl, sym, ap, ◌∙◌, append_assoc, append-nil, arith}
 use Rattle.std.proofs.lemmas.Bool.{eqb-true}
 use Rattle.std.proofs.lemmas.Bool.Decides.{nat_tests}
@@ -11,7 +11,7 @@ use Rattle.sv_text.specs.declared.header.Lead.TheVariants.{Common, Root, Onward}
 use Rattle.sv_lexer.specs.Spelled.{is_word_byte, words}
 use Rattle.sv_lexer.specs.Partial.{last, others, is_common}
 
--- the query sign taken off, from the front
+-- A header without its question mark, computed from the front.
 abbrev pub strip : List ℕ → List ℕ
 strip [] = []
 strip (b ∷ more) = cond (b == 63 && is_empty more) [] (b ∷ strip more)
@@ -49,7 +49,7 @@ unsigned_is (b ∷ c ∷ more) = at (unsigned_is (c ∷ more))
         whole ∙ ap (λ (t : Bool). cond t (take (suc (length more)) (b ∷ c ∷ more)) (b ∷ c ∷ more)) same ∙ behind (is_query (c ∷ more))
         ∙ ap (λ (l : List ℕ). b ∷ l) (shorter ∙ h) ∙ kept (b == 63)
 
--- whether it is the last byte, from the front
+-- Whether a question mark is the last byte, computed from the front.
 abbrev pub is_signed : List ℕ → Bool
 is_signed [] = false
 is_signed (b ∷ []) = b == 63
@@ -77,7 +77,7 @@ sign_push text b = query_is (text ++ b ∷ []) ∙ at text
     at (x ∷ []) = refl
     at (x ∷ y ∷ text) = at (y ∷ text)
 
--- another byte than the query sign stays, and one with bytes behind it
+-- A byte stays if it isn't a question mark or another byte follows.
 pub strip_other : (b : ℕ) (more : List ℕ) → (b == 63) ≡ false → strip (b ∷ more) ≡ b ∷ strip more
 strip_other b more e = ap (λ (t : Bool). cond (t && is_empty more) [] (b ∷ strip more)) e
 
@@ -100,9 +100,9 @@ tail_unsigned : (b : ℕ) (text : List ℕ) → is_signed (b ∷ text) ≡ false
 tail_unsigned b [] e = refl
 tail_unsigned b (c ∷ text) e = e
 
--- ---- parts
+-- ---- parts between separators
 
--- there is one
+-- Whether there is a part.
 abbrev pub has_part : List (List ℕ) → Bool
 has_part [] = false
 has_part (part ∷ parts) = true
@@ -124,7 +124,7 @@ words_some text = at (lead text)
     at Root = cut_some 58 (body text)
     at Onward = cut_some 58 (body text)
 
--- bytes in front of the first one
+-- These parts, the first one with `word` in front of it.
 abbrev pub joined : List ℕ → List (List ℕ) → List (List ℕ)
 joined word [] = word ∷ []
 joined word (part ∷ parts) = (word ++ part) ∷ parts
@@ -137,7 +137,8 @@ joined_onto : (b : ℕ) (word : List ℕ) (parts : List (List ℕ)) → onto b (
 joined_onto b word [] = refl
 joined_onto b word (part ∷ parts) = refl
 
--- the parts of two texts, one behind the other
+-- Cutting two texts in sequence: the last part of the first continues with the first part of the
+-- second.
 cut_over : (s : ℕ) (text more : List ℕ)
     → cut_at s (text ++ more) ≡ others (cut_at s text) ++ joined (last (cut_at s text)) (cut_at s more)
 cut_over s [] more = sym (joined_none (cut_at s more) (cut_some s more))
@@ -167,13 +168,13 @@ others_last [] e = let f : false ≡ true = e in absurd cc
 others_last (x ∷ []) e = refl
 others_last (x ∷ y ∷ parts) e = ap (λ (ps : List (List ℕ)). x ∷ ps) (others_last (y ∷ parts) refl)
 
--- ---- words
+-- ---- mnemonics
 
--- a header with no lead is cut at its colons
+-- A header that begins with neither an asterisk nor a colon is cut at its colons.
 lead_onward : (b : ℕ) (more : List ℕ) → (b == 42) ≡ false → (b == 58) ≡ false → lead (b ∷ more) ≡ Onward
 lead_onward b more a k = ap (λ (t : Bool). cond t Common (cond (b == 58) Root Onward)) a ∙ ap (λ (t : Bool). cond t Root Onward) k
 
--- the words of a header without its query sign, by what leads it
+-- The mnemonics of a header without its question mark, for each way to begin it.
 abbrev body_led : List ℕ → Lead → List ℕ
 body_led text l = drop (elim l [ Onward ↦ 0 | _ ↦ 1 ]) text
 
@@ -192,7 +193,7 @@ words_common more = ap (λ (l : List ℕ). drop 1 l ∷ []) (unsigned_is (42 ∷
 words_root : (more : List ℕ) → words (58 ∷ more) ≡ cut_at 58 (strip more)
 words_root more = ap (λ (l : List ℕ). cut_at 58 (drop 1 l)) (unsigned_is (58 ∷ more))
 
--- what bytes more add to the words: a common command has one word
+-- The parts that further bytes make: one for a common command, else those between colons.
 abbrev pub parts_of : Bool → List ℕ → List (List ℕ)
 parts_of true more = strip more ∷ []
 parts_of false more = cut_at 58 (strip more)
@@ -203,7 +204,7 @@ words_cut head text more all longer =
     longer ∙ cut_over 58 text (strip more)
     ∙ ap (λ (ps : List (List ℕ)). others ps ++ joined (last ps) (cut_at 58 (strip more))) (sym all)
 
--- the words of a header so far with bytes more
+-- Further bytes continue the last mnemonic and may add others.
 pub words_more : (head more : List ℕ) → is_empty head ≡ false → is_query head ≡ false
     → words (head ++ more) ≡ others (words head) ++ joined (last (words head)) (parts_of (is_common head) more)
 words_more [] more s q = let f : true ≡ false = s in absurd cc
@@ -233,14 +234,14 @@ words_more (b ∷ text) more s q = at (b == 42) refl (b == 58) refl
         (words_onward b text a e ∙ ap (cut_at 58) (strip_all (b ∷ text) unsigned_all))
         (words_onward b (text ++ more) a e ∙ ap (cut_at 58) (strip_over (b ∷ text) more unsigned_all))
 
--- a byte of a mnemonic is neither a query sign nor a colon
+-- Letters, digits and underscores are neither a question mark nor a colon.
 pub word_no_sign : (b : ℕ) → is_word_byte b ≡ true → (b == 63) ≡ false
 word_no_sign b w = grind (arith, nat_tests, w)
 
 word_no_colon : (b : ℕ) → is_word_byte b ≡ true → (b == 58) ≡ false
 word_no_colon b w = grind (arith, nat_tests, w)
 
--- one byte more: the query sign, a colon, a byte of a mnemonic
+-- One more byte: a question mark, a colon, or a byte of a mnemonic.
 pub words_sign : (head : List ℕ) → is_empty head ≡ false → is_query head ≡ false → words (head ++ 63 ∷ []) ≡ words head
 words_sign head s q = words_more head (63 ∷ []) s q ∙ at (is_common head)
   where

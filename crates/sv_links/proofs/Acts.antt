@@ -1,4 +1,4 @@
--- What is kept of channels, over acts.
+-- The stored state of the interrupt channels agrees with the acts after each act.
 use Rattle.std.proofs.Common.{◌≡◌, ◌≢◌, ℕ, ◌+◌, ◌<◌, List, [], ◌∷◌, ◌++◌, length, Option, Some, None, refl, sym, ap, subst, ◌∙◌, inl, inr, eq-eqb, arith}
 use Rattle.std.specs.Prelude.{map, slice_index_or, slice_set}
 use Rattle.std.specs.List.{fold}
@@ -13,7 +13,7 @@ use Rattle.sv_links.specs.ChannelRepresentation.{Channel, Channels, AreChannels,
 use Rattle.sv_links.proofs.Asking.{other_links}
 use Rattle.sv_links.proofs.Rising.{with_link, enabled_enabled, enabled_disabled}
 
--- a link asks no more
+-- A link disables service requests.
 pub are_channels_disabled : (kept : Channels) (links : List Enabled) (lid : ℕ) (acts : List ChannelAct)
     → links ≡ other_links lid kept.enabled → AreChannels kept acts
     → AreChannels (record kept { enabled = links }) (SrqDisabled lid ∷ acts)
@@ -23,7 +23,7 @@ are_channels_disabled kept links lid acts same is = record {
   beyond = is.beyond;
 }
 
--- nor do these
+-- Several links disable service requests.
 pub are_channels_without : (kept : Channels) (lids : List ℕ) (acts : List ChannelAct) → AreChannels kept acts
     → AreChannels (record kept { enabled = without_links lids kept.enabled }) (map SrqDisabled lids ++ acts)
 are_channels_without kept [] acts is = is
@@ -31,7 +31,7 @@ are_channels_without kept (lid ∷ lids) acts is =
     are_channels_disabled (record kept { enabled = without_links lids kept.enabled }) (without_links (lid ∷ lids) kept.enabled) lid
     (map SrqDisabled lids ++ acts) refl (are_channels_without kept lids acts is)
 
--- a link asks
+-- A link enables service requests.
 pub are_channels_enabled : (kept : Channels) (links : List Enabled) (link : Enabled) (acts : List ChannelAct)
     → links ≡ with_link link kept.enabled → AreChannels kept acts
     → AreChannels (record kept { enabled = links }) (SrqEnabled link.lid link.conn link.handle ∷ acts)
@@ -48,7 +48,7 @@ channel_requested : (what : Option Peer) (old new : Channel) (count : ℕ) (hand
 channel_requested None old new count handles calls opened sends is = tt
 channel_requested (Some what) old new count handles calls opened sends is = sends count calls what opened is
 
--- a channel that was sent its calls, as a request is raised
+-- A service request is raised: a call is appended for each of the connection's links.
 pub is_channel_requested : (c : ℕ) (old new : Channel) (links : List Enabled) (acts : List ChannelAct) → links ≡ enabled_links acts
     → new.stage ≡ old.stage
     → ((count : ℕ) (calls : List (List ℕ)) (peer : Peer) → opened_for old.stage ≡ Some peer → IsQueued old count calls
@@ -62,7 +62,7 @@ is_channel_requested c old new links acts same stage sends is = (
       (channel_requested (peer c acts) old new (bytes_taken c acts) (handles_of c links) (calls c acts) is.0 sends is.1),
 )
 
--- ---- a channel that is written
+-- ---- replacing a channel
 
 pub at_set : (P : Channel → Type 0) (kept : List Channel) (i c : ℕ) (new other : Channel) → i < length kept → (c ≡ i → P new)
     → (c ≢ i → P (slice_index_or kept c other)) → P (slice_index_or (slice_set kept i new) c other)
@@ -73,7 +73,6 @@ at_set P kept i c new other within here there = elim (cases_eq c i) [
   | inr e ↦ subst P (sym (get_or-set_other kept i c new other e)) (there e)
 ]
 
--- and one that is put behind the others
 pub at_push : (P : Channel → Type 0) (kept : List Channel) (i c : ℕ) (new other : Channel) → length kept ≡ i → c < i + 1 → P new
     → (c < i → P (slice_index_or kept c other)) → P (slice_index_or (kept ++ new ∷ []) c other)
 at_push P kept i c new other long within here there = elim (cases_lt c i) [
@@ -108,7 +107,7 @@ are_channels_kept kept i old new acts lt within value stage keeps is =
       beyond = is.beyond;
     }
 
--- a channel that is closed
+-- A channel is closed.
 pub are_channels_closed : (kept : Channels) (i : ℕ) (new : Channel) (acts : List ChannelAct) → i < length kept.channels
     → opened_for new.stage ≡ None → AreChannels kept acts
     → AreChannels (record kept { channels = slice_set kept.channels i new }) (ChannelClosed i ∷ acts)

@@ -1,4 +1,4 @@
--- What a call that waits anew leaves to be done.
+-- How many steps remain after a suspended call begins to wait for something else.
 use Rattle.std.proofs.Common.{◌≡◌, ℕ, ◌+◌, ◌≤◌, Bool, true, false, eqb, List, [], ◌∷◌, length, Option, Some, refl, arith, inl, inr}
 use Rattle.std.specs.Prelude.{not, filter, map}
 use Rattle.std.proofs.lemmas.Bool.{cases_Bool, eqb-true, true≢false, false≢true}

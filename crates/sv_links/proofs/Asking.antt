@@ -1,5 +1,4 @@
--- The list of links with service requests enabled, sorted by link number: inserting and removing a
--- link.
+-- The sorted list of links with service requests enabled: inserting and removing a link.
 use Rattle.std.proofs.Common.{◌≡◌, ◌≢◌, ℕ, ◌<◌, ◌≤◌, Bool, eqb, ltb, List, [], ◌∷◌, ◌++◌, length, take, drop, refl, sym, ap, ◌∙◌, arith, inl, inr}
 use Rattle.std.specs.Prelude.{not, filter}
 use Rattle.std.specs.List.{AllByRecursion, insert}
@@ -8,14 +7,13 @@ use Rattle.std.proofs.lemmas.List.Elements.{All-filter, All-from_recursion, recu
 use Rattle.sv_links.specs.declared.enabled.Enabled.{Enabled}
 use Rattle.sv_links.specs.ChannelRepresentation.{IsSorted}
 
--- the links of lower numbers, and those of higher ones
+-- The links with lower numbers, and those with higher ones.
 abbrev pub below : ℕ → List Enabled → List Enabled
 below lid = filter (λ other. ltb other.lid lid)
 
 abbrev pub above : ℕ → List Enabled → List Enabled
 above lid = filter (λ other. ltb lid other.lid)
 
--- the links without this one
 abbrev pub other_links : ℕ → List Enabled → List Enabled
 other_links lid = filter (λ other. not (eqb other.lid lid))
 
@@ -27,9 +25,8 @@ sorted_filter p [] h = tt
 sorted_filter p (x ∷ xs) h = cond_both (p x) (x ∷ filter p xs) (filter p xs) IsSorted
     (λ _. (all_filter (λ y. x.lid < y.lid) p xs h.0, sorted_filter p xs h.1)) (λ _. sorted_filter p xs h.1)
 
--- ---- the place of a number
+-- ---- the position of a number
 
--- none of those behind a link that isn't below is
 pub none_below : (lid n : ℕ) (xs : List Enabled) → lid ≤ n → AllByRecursion (λ x. n < x.lid) xs → below lid xs ≡ []
 none_below lid n [] le h = refl
 none_below lid n (x ∷ xs) le h = rw (le-ltb x.lid lid (omega (arith, h.0))) (none_below lid n xs le h.1)
@@ -39,7 +36,7 @@ all_above lid n [] le h = refl
 all_above lid n (x ∷ xs) le h =
     rw (lt-ltb lid x.lid (omega (arith, h.0))) (ap (λ (ys : List Enabled). x ∷ ys) (all_above lid n xs le h.1))
 
--- those below a number stand in front of its place, those above it behind
+-- In a sorted list, the links with lower numbers come first, and then those with higher ones.
 abbrev Parts : ℕ → List Enabled → Type 0
 Parts lid xs = (take (length (below lid xs)) xs ≡ below lid xs) × (drop (length (below lid xs)) xs ≡ above lid xs)
 
@@ -84,7 +81,7 @@ above_other lid (x ∷ xs) = elim (cases_Bool (eqb x.lid lid)) [
   ]
 ]
 
--- a link that is inserted at its place stands between those below and those above
+-- A link that is inserted at its position stands between the lower and the higher ones.
 pub inserted : (lid : ℕ) (xs : List Enabled) (link : Enabled) → IsSorted (other_links lid xs)
     → insert (other_links lid xs) (length (below lid (other_links lid xs))) link ≡ below lid xs ++ link ∷ above lid xs
 inserted lid xs link h =
@@ -93,7 +90,7 @@ inserted lid xs link h =
     ap (λ (ys : List Enabled). ys ++ link ∷ drop (length (below lid others)) others) (both.0 ∙ below_other lid xs)
     ∙ ap (λ (ys : List Enabled). below lid xs ++ link ∷ ys) (both.1 ∙ above_other lid xs)
 
--- ---- they stay sorted
+-- ---- the list stays sorted
 
 above_all : (lid : ℕ) (xs : List Enabled) → AllByRecursion (λ x. lid < x.lid) (above lid xs)
 above_all lid [] = tt
@@ -124,7 +121,7 @@ sorted_put link (x ∷ xs) h = elim (cases_Bool (ltb x.lid link.lid)) [
       (above_all link.lid (x ∷ xs), sorted_filter (λ y. ltb link.lid y.lid) (x ∷ xs) h)
 ]
 
--- where a link is inserted at its place, they stay sorted
+-- Inserting a link at its position keeps the list sorted.
 pub sorted_inserted : (lid : ℕ) (xs : List Enabled) (link : Enabled) → link.lid ≡ lid → IsSorted (other_links lid xs)
     → IsSorted (insert (other_links lid xs) (length (below lid (other_links lid xs))) link)
 sorted_inserted lid xs link same h = rw (inserted lid xs link h, ← below_other lid xs, ← above_other lid xs, ← same)

@@ -1,4 +1,4 @@
--- The calls that are sent, where links are gone through one after the other.
+-- The calls that a service request appends to a channel, link by link.
 use Rattle.std.proofs.Common.{◌≡◌, ◌≢◌, ℕ, ◌+◌, ◌<◌, eqb, List, [], ◌∷◌, ◌++◌, length, take, get_or, true, false, Some, refl, sym, ap, ◌∙◌, inl, inr, eq-eqb}
 use Rattle.std.proofs.lemmas.Bool.{cases_Bool, ne_eqb}
 use Rattle.std.specs.List.{fold}
@@ -27,11 +27,11 @@ handles_other conn (first ∷ links) link e = elim (cases_Bool (eqb first.conn c
   | inr k ↦ rw k (handles_other conn links link e)
 ]
 
--- the calls for the first links
+-- The calls of the channel after the first `n` links were handled.
 abbrev pub called_for : Peer → ℕ → ℕ → List Enabled → ℕ → List (List ℕ) → List (List ℕ)
 called_for peer count conn links n calls = fold (add_call (Some peer) count) calls (handles_of conn (take n links))
 
--- a link of the connection is called
+-- A link of the channel's connection adds a call.
 pub called_own : (peer : Peer) (count conn : ℕ) (links : List Enabled) (i : ℕ) (link : Enabled) (calls : List (List ℕ)) → i < length links
     → link ≡ get_or links i link → link.conn ≡ conn
     → add_call (Some peer) count (called_for peer count conn links i calls) link.handle
@@ -42,7 +42,7 @@ called_own peer count conn links i link calls lt at own =
     (sym (ap (handles_of conn) (take_more links i link lt ∙ ap (λ (x : Enabled). take i links ++ x ∷ []) (sym at))
     ∙ handles_own conn (take i links) link (eq-eqb link.conn conn own)))
 
--- another one isn't
+-- A link of another connection adds none.
 pub called_other : (peer : Peer) (count conn : ℕ) (links : List Enabled) (i : ℕ) (link : Enabled) (calls : List (List ℕ)) → i < length links
     → link ≡ get_or links i link → link.conn ≢ conn
     → called_for peer count conn links i calls ≡ called_for peer count conn links (i + 1) calls

@@ -11,11 +11,11 @@ use Rattle.sv_links.specs.Table.{Table, IsTable, IsRising}
 use Rattle.sv_links.proofs.Slots.{keep, kept_filter}
 use Rattle.sv_links.proofs.Tables.{Below, above_filter, rising_filter, other_than}
 
--- the acts, and before them the destroying of these links
+-- The acts, followed by the destruction of these links.
 abbrev pub gone : List Link → List LinkAct → List LinkAct
 gone ys acts = reverse_aux (map Destroyed (map (λ link. link.lid) ys)) acts
 
--- links without those of the first list
+-- The links of the second list whose numbers aren't in the first.
 abbrev without : List Link → List Link → List Link
 without [] xs = xs
 without (y ∷ ys) xs = without ys (filter (other_than y.lid) xs)
@@ -28,7 +28,7 @@ live_gone : (ys : List Link) (acts : List LinkAct) → live (gone ys acts) ≡ w
 live_gone [] acts = refl
 live_gone (y ∷ ys) acts = live_gone ys (Destroyed y.lid ∷ acts)
 
--- a link with a number below theirs stays, and they stay without it
+-- A link with a number below all of theirs stays.
 stays : (x : Link) (ys xs : List Link) → AllByRecursion (Below x) ys → without ys (x ∷ xs) ≡ x ∷ without ys xs
 stays x [] xs h = refl
 stays x (y ∷ ys) xs h = rw (ne_eqb x.lid y.lid (λ e. absurd (omega (arith, h.0, e)))) (stays x ys _ h.1)
@@ -37,7 +37,7 @@ stay : (x : Link) (ys : List Link) → AllByRecursion (Below x) ys → filter (o
 stay x [] h = refl
 stay x (y ∷ ys) h = rw (ne_eqb y.lid x.lid (λ e. absurd (omega (arith, h.0, e))), stay x ys h.1) refl
 
--- those that don't pass a test
+-- Removing the links that pass a test leaves those that don't.
 others : (p : Link → Bool) (xs : List Link) (n : ℕ) → IsRising xs n → without (filter p xs) xs ≡ filter (λ x. not (p x)) xs
 others p [] n r = refl
 others p (x ∷ xs) n r = elim (cases_Bool (p x)) [
@@ -45,7 +45,7 @@ others p (x ∷ xs) n r = elim (cases_Bool (p x)) [
   | inr e ↦ rw (e, stays x (filter p xs) xs (above_filter p x xs r.1), others p xs n r.2) refl
 ]
 
--- whether a number is one of theirs
+-- Whether one of the links has this number.
 abbrev pub has : ℕ → List Link → Bool
 has lid ys = list_any (λ link. eqb link.lid lid) ys
 
@@ -60,7 +60,7 @@ locked_gone lid [] acts = refl
 locked_gone lid (y ∷ ys) acts = locked_gone lid ys (Destroyed y.lid ∷ acts)
     ∙ locked_step (eqb y.lid lid) (has lid ys) (is_locked lid acts)
 
--- ---- whose link a number is
+-- ---- the owner of a link
 
 none_above : (x : Link) (xs : List Link) → AllByRecursion (Below x) xs → has x.lid xs ≡ false
 none_above x [] h = refl
@@ -85,7 +85,7 @@ has_owner conn lid (x ∷ xs) n r = elim (cases_Bool (eqb x.lid lid)) [
 
 -- ---- the table
 
--- the link that still holds the lock, once a connection is closed
+-- The lock holder after the connection is closed: none if it was a link of this connection.
 abbrev pub holder_left : ℕ → List LinkAct → Option ℕ → Option ℕ
 holder_left conn acts None = None
 holder_left conn acts (Some lid) = cond (is_of conn (owner lid acts)) None (Some lid)
@@ -111,7 +111,7 @@ lock_left conn lid acts (Some m) n r = elim (cases_Bool (eqb m lid)) [
   | inr e ↦ rw e (apart (has lid (filter (of_conn conn) (live acts))) (is_of conn (owner m acts)) m lid e)
 ]
 
--- the table without the links of a connection
+-- Closing a connection removes its links from the table.
 pub is_table_closed : (table : Table) (conn : ℕ) (acts : List LinkAct) (slots : List (Option Link)) (holder : Option ℕ)
     → slots ≡ map (keep (λ link. not (eqb link.conn conn))) table.slots → holder ≡ holder_left conn acts table.holder
     → IsTable table acts → IsTable (record table { slots = slots; holder = holder }) (closing conn acts ++ acts)
@@ -127,7 +127,7 @@ is_table_closed table conn acts slots holder kept held is =
           ∙ lock_left conn lid acts table.holder table.made is.rising ∙ ap (is_this lid) (sym held);
     })
 
--- ---- what the code asks of the holder
+-- ---- the code's test of the lock holder
 
 same_owner : (conn : ℕ) (o : Option ℕ) → option_eq eqb o (Some conn) ≡ is_of conn o
 same_owner conn None = refl

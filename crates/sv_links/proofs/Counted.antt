@@ -36,14 +36,13 @@ at_most_one : (b : Bool) → cond b 1 0 ≤ 1
 at_most_one true = omega arith
 at_most_one false = omega arith
 
--- a connection's leaving makes none more
 pub creations_without : (c : ℕ) (xs : List Entry) → creations (without c xs) ≤ creations xs
 creations_without c xs = fewer creates (λ entry. not (entry.conn == c)) xs
 
--- a call more makes at most one more
+-- A call that enters the queue adds at most one.
 pub creations_push : (xs : List Entry) (x : Entry) → creations (xs ++ x ∷ []) ≤ creations xs + 1
 creations_push xs x = omega (arith, pushed creates xs x, at_most_one (creates x))
 
--- and none, where it is no create_link
+-- It adds none if it isn't a create_link.
 pub creations_other : (xs : List Entry) (x : Entry) → creates x ≡ false → creations (xs ++ x ∷ []) ≡ creations xs
 creations_other xs x other = rw (pushed creates xs x, other) (omega arith)

@@ -1,4 +1,4 @@
--- The create_links that wait, counted over entries and over connections.
+-- The suspended create_link calls are equally many, counted over the queue or over the connections.
 use Rattle.std.proofs.Common.{◌≡◌, ◌≢◌, ℕ, ◌+◌, ◌<◌, Bool, true, false, eqb, List, [], ◌∷◌, ◌++◌, length, Option, Some, None, refl, sym, ap, ◌∙◌, arith, inl, inr, eq-eqb, suc, zero}
 use Rattle.std.specs.Prelude.{not, filter, is_some, is_none, option_map, ◌&&◌}
 use Rattle.std.specs.List.{AllByRecursion, range_with_len}
@@ -10,7 +10,6 @@ use Rattle.sv_links.specs.Waiting.{WaitAct, waits, link, is_lock, is_creating, c
 use Rattle.sv_links.specs.Queue.{IsQueue, IsEntry, IsFree, IsOnce, IsBelow, creates, creations, without}
 use Rattle.sv_links.proofs.Queues.{Among, among_from_find, once_filter, below_less, all_filter, kept_free}
 
--- so many numbers from one on, and one more
 range_push : (a n b : ℕ) → a + n ≡ b → range_with_len a (suc n) ≡ range_with_len a n ++ b ∷ []
 range_push a zero b e = ap (λ (m : ℕ). m ∷ []) (omega (arith, e))
 range_push a (suc n) b e = ap (λ (ns : List ℕ). a ∷ ns) (range_push (a + 1) n b (omega (arith, e)))
@@ -26,7 +25,7 @@ pushed test (m ∷ ns) n = elim (cases_Bool (test m)) [
   | inr e ↦ rw e (pushed test ns n)
 ]
 
--- without a connection of which no entry passes, as many pass
+-- If no entry of a connection passes the test, as many pass without the connection.
 passed : (p : Entry → Bool) (n : ℕ) (xs : List Entry) → AllByRecursion (λ x. x.conn ≡ n → p x ≡ false) xs
     → length (filter p xs) ≡ length (filter p (without n xs))
 passed p n [] h = refl
@@ -38,7 +37,7 @@ passed p n (x ∷ xs) h = elim (cases_Bool (eqb x.conn n)) [
   ]
 ]
 
--- without one whose entry passes, one less does
+-- If the entry of a connection passes the test, removing it leaves one fewer that does.
 taken : (p : Entry → Bool) (n : ℕ) (xs : List Entry) → IsOnce xs → Among n xs → AllByRecursion (λ x. x.conn ≡ n → p x ≡ true) xs
     → length (filter p xs) ≡ length (filter p (without n xs)) + 1
 taken p n [] once among h = absurd among
@@ -67,7 +66,7 @@ all_to : (P Q : Entry → Type 0) → ((x : Entry) → P x → Q x) → (xs : Li
 all_to P Q f [] h = tt
 all_to P Q f (x ∷ xs) h = (f x h.0, all_to P Q f xs h.1)
 
--- as many entries pass as connections do
+-- As many entries pass the test as connections do.
 tally : (p : Entry → Bool) (test : ℕ → Bool) (n : ℕ) (xs : List Entry) → IsOnce xs → IsBelow n xs
     → AllByRecursion (λ x. p x ≡ test x.conn) xs → ((c : ℕ) → c < n → test c ≡ true → Among c xs)
     → length (filter p xs) ≡ length (filter test (range_with_len 0 n))

@@ -1,4 +1,4 @@
--- The first call of a test among those that wait.
+-- The first entry of the queue that passes a test.
 use Rattle.std.proofs.Common.{◌≡◌, ◌≢◌, ℕ, ◌+◌, ◌<◌, ◌≤◌, Bool, true, eqb, List, [], ◌∷◌, length, Option, Some, None, refl, sym, arith, inl, inr, eq-eqb}
 use Rattle.std.specs.Prelude.{filter, find, option_map, IfSome, MatchOption}
 use Rattle.std.specs.List.{AllByRecursion}
@@ -8,7 +8,7 @@ use Rattle.sv_links.specs.Waiting.{WaitAct, waits}
 use Rattle.sv_links.specs.Queue.{IsQueue, IsEntry, IsOnce, IsBelow, creates, creations, without, entry_of, queue_measure, wait_measure}
 use Rattle.sv_links.proofs.Counted.{creations_without}
 
--- it passes the test, and what holds of each holds of it
+-- It passes the test, and has what all entries have.
 found : (P : Entry → Type 0) (test : Entry → Bool) (xs : List Entry) → AllByRecursion P xs
     → IfSome (find test xs) (λ x. (test x ≡ true) × P x)
 found P test [] h = tt
@@ -21,7 +21,7 @@ weaker P Q f (Some x) h = f x h
 pub found_each : (P : Entry → Type 0) (test : Entry → Bool) (xs : List Entry) → AllByRecursion P xs → IfSome (find test xs) P
 found_each P test xs h = weaker (λ x. (test x ≡ true) × P x) P (λ x k. k.1) (find test xs) (found P test xs h)
 
--- it is the one of its connection
+-- The entry that is found is the one of its connection.
 both_found : (P Q : Entry → Type 0) (o : Option Entry) → IfSome o P → IfSome o Q → IfSome o (λ x. P x × Q x)
 both_found P Q None h k = tt
 both_found P Q (Some x) h k = (h, k)
@@ -41,7 +41,7 @@ pub found_within : (test : Entry → Bool) (n : ℕ) (xs : List Entry) → IsBel
 found_within test n xs below once = both_found (λ y. y.conn < n) (λ y. entry_of y.conn xs ≡ Some y) (find test xs)
     (found_each (λ y. y.conn < n) test xs below) (found_entry test xs once)
 
--- the call of a connection
+-- The entry of a connection has the wait that the acts determine.
 entry_for : (conn : ℕ) (acts : List WaitAct) (o : Option Entry) → waits conn acts ≡ option_map (λ x. x.wait) o
     → IfSome o (λ x. (eqb x.conn conn ≡ true) × IsEntry acts x)
     → MatchOption o (waits conn acts ≡ None) (λ x. (x.conn ≡ conn) × IsEntry acts x)
@@ -53,7 +53,7 @@ pub entry_waits : (conn : ℕ) (acts : List WaitAct) (xs : List Entry) → IsQue
 entry_waits conn acts xs is =
     entry_for conn acts (entry_of conn xs) (is.all conn) (found (IsEntry acts) (λ x. eqb x.conn conn) xs is.each)
 
--- ---- what its leaving takes
+-- ---- by how much an entry's removal lowers the measures
 
 pub rank_without : (c : ℕ) (xs : List Entry) → queue_measure (without c xs) ≤ queue_measure xs
 rank_without c [] = omega arith

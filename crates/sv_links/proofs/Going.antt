@@ -1,4 +1,4 @@
--- Sizes of calls, let go from the front.
+-- The sizes of queued calls while the peer takes bytes from the first one on.
 use Rattle.std.proofs.Common.{◌≡◌, ℕ, ◌-◌, ◌<◌, ◌≤◌, List, [], ◌∷◌, length, drop, Some, None, refl, ap}
 use Rattle.std.specs.Prelude.{slice_get, slice_set}
 use Rattle.std.specs.List.{refill}
@@ -6,7 +6,7 @@ use Rattle.std.proofs.lemmas.Bool.{lt-ltb, le-ltb}
 use Rattle.std.proofs.lemmas.List.{take_at}
 use Rattle.sv_links.specs.ChannelRepresentation.{left_in}
 
--- the first keeps a part
+-- The peer takes a part of the first call.
 pub first_part : (sizes lent : List ℕ) (left size : ℕ) → lent ≡ sizes → Some size ≡ slice_get sizes 0 → left < size
     → refill (length sizes) sizes (slice_set lent 0 (size - left)) ≡ left_in left sizes
 first_part [] lent left size same first h = cc
@@ -15,7 +15,7 @@ first_part (x ∷ sizes) lent left size same first h =
     rw (same, is, lt-ltb left x (rw is at h))
     (ap (λ (rest : List ℕ). (x - left) ∷ rest) (take_at sizes (drop (length sizes) sizes) (length sizes) refl))
 
--- the first goes
+-- The peer takes all of the first call.
 pub first_goes : (sizes new : List ℕ) (left size : ℕ) → Some size ≡ slice_get sizes 0 → size ≤ left → new ≡ drop 1 sizes
     → left_in (left - size) new ≡ left_in left sizes
 first_goes [] new left size first h rest = cc
@@ -23,7 +23,7 @@ first_goes (x ∷ sizes) new left size first h rest =
     let is : size ≡ x = cc in
     rw (rest, is, le-ltb left x (rw is at h)) refl
 
--- there is none
+-- No call is left.
 pub none_first : (sizes : List ℕ) (left : ℕ) → None ≡ slice_get sizes 0 → sizes ≡ left_in left sizes
 none_first [] left h = refl
 none_first (x ∷ sizes) left h = cc

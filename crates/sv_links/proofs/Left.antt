@@ -1,4 +1,4 @@
--- What is left of calls, of their sizes and of their bytes.
+-- What remains of calls after the peer took some of their bytes.
 use Rattle.std.proofs.Common.{◌≡◌, ℕ, zero, suc, ◌+◌, ◌-◌, ◌*◌, ◌<◌, ◌≤◌, ltb, List, [], ◌∷◌, ◌++◌, length, drop, refl, sym, ap, ◌∙◌, arith, inl, inr}
 use Rattle.std.specs.Prelude.{map, sum}
 use Rattle.std.specs.List.{concat, AllByRecursion}
@@ -9,7 +9,7 @@ use Rattle.sv_links.specs.Channels.{calls_left}
 use Rattle.sv_links.specs.Limits.{longest_call}
 use Rattle.sv_links.specs.ChannelRepresentation.{left_in}
 
--- the sizes of what is left of calls are what is left of their sizes
+-- The sizes of the remaining calls are what remains of the sizes.
 pub left_sizes : (count : ℕ) (calls : List (List ℕ)) → map length (calls_left count calls) ≡ left_in count (map length calls)
 left_sizes count [] = refl
 left_sizes count (call ∷ calls) = elim (cases_Bool (ltb count (length call))) [
@@ -23,7 +23,7 @@ drop_past count xs ys h =
     ap (λ (n : ℕ). drop n (xs ++ ys)) (sym both) ∙ sym (drop-drop (count - length xs) (length xs) (xs ++ ys))
     ∙ ap (drop (count - length xs)) (drop_at xs ys (length xs) refl)
 
--- the bytes of what is left of calls are what is left of their bytes
+-- The bytes of the remaining calls are what remains of the bytes.
 pub left_bytes : (count : ℕ) (calls : List (List ℕ)) → concat (calls_left count calls) ≡ drop count (concat calls)
 left_bytes zero [] = refl
 left_bytes (suc count) [] = refl
@@ -34,7 +34,7 @@ left_bytes count (call ∷ calls) = elim (cases_Bool (ltb count (length call))) 
       rw e (left_bytes (count - length call) calls ∙ sym (drop_past count call (concat calls) le))
 ]
 
--- what is left, and of that what is left
+-- Taking `m` bytes and then `n` more leaves what taking `m + n` bytes leaves.
 pub left_left : (m n : ℕ) (calls : List (List ℕ)) → calls_left n (calls_left m calls) ≡ calls_left (m + n) calls
 left_left m n [] = refl
 left_left m n (call ∷ calls) = elim (cases_Bool (ltb m (length call))) [
@@ -57,7 +57,7 @@ left_left m n (call ∷ calls) = elim (cases_Bool (ltb m (length call))) [
       (left_left (m - length call) n calls ∙ ap (λ (n : ℕ). calls_left n calls) rest)
 ]
 
--- a call that is sent behind others is left, where no more than those were taken
+-- A call that is appended remains whole if no more bytes were taken than the others have.
 pub left_push : (count : ℕ) (calls : List (List ℕ)) (call : List ℕ) → 0 < length call → count ≤ length (concat calls)
     → calls_left count (calls ++ call ∷ []) ≡ calls_left count calls ++ call ∷ []
 left_push count [] call some h = rw (lt-ltb count (length call) (omega arith)) (
@@ -75,7 +75,7 @@ left_push count (first ∷ calls) call some h = elim (cases_Bool (ltb count (len
 sum_cons : (n : ℕ) (ns : List ℕ) → sum (n ∷ ns) ≡ n + sum ns
 sum_cons n ns = sum_by-cons (λ (x : ℕ). x) n ns
 
--- what was taken, and what is left, are all
+-- The bytes that were taken and those that remain are all bytes.
 pub sum_left : (count : ℕ) (sizes : List ℕ) → count ≤ sum sizes → count + sum (left_in count sizes) ≡ sum sizes
 sum_left count [] h = omega arith
 sum_left count (size ∷ sizes) h = elim (cases_Bool (ltb count size)) [
@@ -100,12 +100,11 @@ length_left count (size ∷ sizes) = elim (cases_Bool (ltb count size)) [
   | inr e ↦ rw e (omega (arith, length_left (count - size) sizes))
 ]
 
--- so many sizes, none above that of the longest call, are at most so much
+-- All calls together have at most the longest call's bytes for each of them.
 pub sum_bounded : (sizes : List ℕ) → AllByRecursion (λ size. size ≤ longest_call) sizes → sum sizes ≤ longest_call * length sizes
 sum_bounded [] h = omega arith
 sum_bounded (size ∷ sizes) h = omega (arith, sum_cons size sizes, h.0, sum_bounded sizes h.1)
 
--- one more size is added
 pub sum_push : (sizes : List ℕ) (size : ℕ) → sum (sizes ++ size ∷ []) ≡ sum sizes + size
 sum_push sizes size = omega (arith, sum_by-append (λ (x : ℕ). x) sizes (size ∷ []))
 

@@ -14,7 +14,7 @@ and_true : (a b : Bool) → (a && b) ≡ true → b ≡ true
 and_true true b e = e
 and_true false b e = absurd (false≢true e)
 
--- what is locked was locked
+-- A link that is locked got the lock.
 was_locked : (lid : ℕ) (acts : List LinkAct) → is_locked lid acts ≡ true → Among lid (lock_order acts)
 was_locked lid [] e = absurd (false≢true e)
 was_locked lid (Made other conn ∷ acts) e = was_locked lid acts e
@@ -44,7 +44,7 @@ holder_from (Some m) acts h =
 pub holder_is : (table : Table) (acts : List LinkAct) → IsTable table acts → holder acts ≡ table.holder
 holder_is table acts is = holder_from table.holder acts is.lock
 
--- whether a link may have the lock, as the code asks
+-- The code's test whether a link may take the lock.
 swap : (m n : ℕ) → eqb m n ≡ eqb n m
 swap m n = elim (cases_Bool (eqb m n)) [
   | inl e ↦ rw e (sym (eq-eqb n m (sym (eqb-true m n e))))
@@ -72,7 +72,7 @@ pub lock_unlocked : (lid : ℕ) (acts : List LinkAct) → ((n : ℕ) → is_lock
     → (n : ℕ) → is_locked n (Unlocked lid ∷ acts) ≡ false
 lock_unlocked lid acts h n = elim (cases_Bool (eqb lid n)) [ inl e ↦ rw e refl | inr e ↦ rw e (h n ∙ e) ]
 
--- the link that holds the lock, where one is destroyed
+-- The lock holder after a link is destroyed: none if it was this link.
 abbrev pub freed : ℕ → Option ℕ → Option ℕ
 freed lid None = None
 freed lid (Some m) = cond (eqb m lid) None (Some m)
@@ -91,7 +91,7 @@ lock_destroyed lid (Some m) acts h n = elim (cases_Bool (eqb m lid)) [
   ]
 ]
 
--- what a test of the code says of the lock
+-- The code's test whether a link holds the lock.
 this_is : (lid : ℕ) (o : Option ℕ) → option_eq eqb o (Some lid) ≡ is_this lid o
 this_is lid None = refl
 this_is lid (Some m) = refl

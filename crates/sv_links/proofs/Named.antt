@@ -1,4 +1,4 @@
--- The live links of a number or a connection, found among the slots.
+-- The live links of a number or a connection, found in the slots of the table.
 use Rattle.std.proofs.Common.{◌≡◌, ℕ, ◌+◌, ◌<◌, Bool, true, false, eqb, List, [], ◌∷◌, ◌++◌, Option, Some, None, refl, sym, ap, subst, ◌∙◌, arith, inl, inr}
 use Rattle.std.specs.Prelude.{map, filter, find, option_map, min, fold}
 use Rattle.std.specs.List.{AllByRecursion, reduce}
@@ -9,7 +9,6 @@ use Rattle.sv_links.specs.Table.{IsKept, IsRising}
 use Rattle.sv_links.proofs.Slots.{keep, kept_filter}
 use Rattle.sv_links.proofs.Tables.{Below, rising_filter}
 
--- the links of the slots
 abbrev links_in : List (Option Link) → List Link
 links_in [] = []
 links_in (None ∷ slots) = links_in slots
@@ -44,7 +43,7 @@ filter_entries test key (Some x ∷ slots) = elim (cases_Bool (test x)) [
   | inr e ↦ rw e (filter_entries test (key + 1) slots)
 ]
 
--- ---- a link taken out of those that rise
+-- ---- removing a link from a list of rising numbers
 
 all_between : (P : Link → Type 0) (xs : List Link) (x : Link) (ys : List Link)
     → AllByRecursion P (xs ++ x ∷ ys) → AllByRecursion P (xs ++ ys)
@@ -93,7 +92,7 @@ pub owner_found : (lid key : ℕ) (slots : List (Option Link)) (links : List Lin
 owner_found lid key slots links n h rise = find_entries (λ link. eqb link.lid lid) (λ link. link.conn) key slots
     ∙ ap (option_map (λ (link : Link). link.conn)) (find_kept lid slots links n h rise)
 
--- ---- the least number
+-- ---- the lowest number
 
 abbrev lids : List Link → List ℕ
 lids links = map (λ link. link.lid) links
@@ -164,7 +163,7 @@ found_all P test (x ∷ links) link h e = elim (cases_Bool (test x)) [
   | inr k ↦ found_all P test links link h.1 (rw k at e)
 ]
 
--- it is the link of its number
+-- The first link that passes a test is the link with its number.
 by_number : (test : Link → Bool) (links : List Link) (n : ℕ) (link : Link) → IsRising links n → find test links ≡ Some link
     → find (λ other. eqb other.lid link.lid) links ≡ Some link
 by_number test [] n link h e = absurd cc

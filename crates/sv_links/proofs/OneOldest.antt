@@ -4,7 +4,7 @@ use Rattle.std.proofs.lemmas.Bool.{cases_Bool, eqb-true}
 use Rattle.sv_links.specs.Waiting.{WaitAct, Entered, Again, Left, waits, arrival, enters, IsOldest}
 use Rattle.sv_links.proofs.Queues.{newest_le}
 
--- two that came at one time are one
+-- No two calls were suspended by the same act.
 same_arrival : (acts : List WaitAct) (c d : ℕ) → (arrival c acts ≡ 0 → ⊥) → arrival c acts ≡ arrival d acts → c ≡ d
 same_arrival [] c d came same = absurd (came refl)
 same_arrival (Again conn wait last ∷ acts) c d came same = same_arrival acts c d came same
@@ -30,7 +30,7 @@ one acts IsSuch None (Some d) same h k = absurd (h d k.0)
 one acts IsSuch (Some c) None same h k = absurd (k c h.0)
 one acts IsSuch (Some c) (Some d) same h k = ap Some (same c d h.0 k.0 (omega (arith, h.1 d k.0, k.1 c h.0)))
 
--- what waits has come
+-- A suspended call was suspended by an act.
 waits_came : (c : ℕ) (acts : List WaitAct) → (waits c acts ≡ None → ⊥) → arrival c acts ≡ 0 → ⊥
 waits_came c [] does = λ e. does refl
 waits_came c (Entered conn link wait last ∷ acts) does = elim (cases_Bool (eqb conn c)) [
@@ -46,7 +46,7 @@ waits_came c (Left conn ∷ acts) does = elim (cases_Bool (eqb conn c)) [
   | inr e ↦ waits_came c acts (rw e at does)
 ]
 
--- where each that is such waits
+-- If only suspended calls have the property, at most one of them is the oldest.
 pub one_oldest : (acts : List WaitAct) (IsSuch : ℕ → Type 0) (a b : Option ℕ) → ((c : ℕ) → IsSuch c → waits c acts ≡ None → ⊥)
     → IsOldest acts IsSuch a → IsOldest acts IsSuch b → a ≡ b
 one_oldest acts IsSuch a b does h k = one acts IsSuch a b

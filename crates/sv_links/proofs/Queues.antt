@@ -1,4 +1,4 @@
--- What is kept of the calls that wait, over acts.
+-- The queue has exactly the suspended calls, the oldest first, after each act.
 use Rattle.std.proofs.Common.{◌≡◌, ◌≢◌, ℕ, ◌+◌, ◌<◌, ◌≤◌, Bool, true, false, eqb, cond, List, [], ◌∷◌, ◌++◌, length, Option, Some, None, refl, sym, ap, subst, ◌∙◌, arith, inl, inr, eq-eqb, ◌⊎◌, suc, zero}
 use Rattle.std.specs.Prelude.{not, map, filter, find, option_map, is_some, take, drop}
 use Rattle.std.specs.List.{AllByRecursion}
@@ -11,7 +11,7 @@ use Rattle.sv_links.specs.declared.waiting.Wait.{Wait}
 use Rattle.sv_links.specs.Waiting.{WaitAct, Entered, Again, Left, waits, link, arrival, enters, IsOldest, IsAble, IsExpired, is_there}
 use Rattle.sv_links.specs.Queue.{IsQueue, IsFree, IsOnce, IsBelow, IsEntry, IsOrdered, entry_of, anew, is_past, without}
 
--- ---- what holds of each
+-- ---- properties of all entries
 
 pub all_filter : (P : Entry → Type 0) (p : Entry → Bool) (xs : List Entry) → AllByRecursion P xs → AllByRecursion P (filter p xs)
 all_filter P p xs h = recursion_from_All P _ (All-filter p P xs (All-from_recursion P xs h))
@@ -27,7 +27,7 @@ both P Q R f (x ∷ xs) h k = (f x h.0 k.0, both P Q R f xs h.1 k.1)
 turned : (a b : ℕ) → eqb a b ≡ false → eqb b a ≡ false
 turned a b e = ne_eqb b a (λ same. eqb-false a b e (sym same))
 
--- ---- the entries without those of a connection
+-- ---- a call that leaves the queue
 
 abbrev other_than : ℕ → Entry → Bool
 other_than conn x = not (eqb x.conn conn)
@@ -92,7 +92,7 @@ is_queue_left conn acts xs is = record {
   all = λ c. all_left conn c acts xs (is.all c);
 }
 
--- ---- an entry more
+-- ---- a call that enters the queue
 
 pub newest_le : (p : List WaitAct → Bool) (acts : List WaitAct) → length (newest p acts) ≤ length acts
 newest_le p [] = omega arith
@@ -147,7 +147,7 @@ all_entered entry c acts xs h =
     rw (find_entered entry c (without entry.conn xs) (free_without entry.conn xs), find_left entry.conn c xs)
     (elim (cases_Bool (eqb entry.conn c)) [ inl e ↦ rw e refl | inr e ↦ rw e h ])
 
--- an entry more, behind those of other connections
+-- The entry of the suspended call comes last, and replaces an older entry of its connection.
 pub is_queue_entered : (entry : Entry) (acts : List WaitAct) (xs : List Entry) → IsQueue xs acts
     → IsQueue (without entry.conn xs ++ entry ∷ []) (acts_with entry acts)
 is_queue_entered entry acts xs is = record {
@@ -167,12 +167,12 @@ once_push entry (x ∷ xs) free h =
 pub below_push : (entry : Entry) (n : ℕ) (xs : List Entry) → entry.conn < n → IsBelow n xs → IsBelow n (xs ++ entry ∷ [])
 below_push entry n xs lt h = all_push (λ x. x.conn < n) xs entry h lt
 
--- ---- an entry that waits anew
+-- ---- a call that begins to wait for something else
 
 conn_anew : (conn : ℕ) (wait : Wait) (last : Option ℕ) (x : Entry) → (anew conn wait last x).conn ≡ x.conn
 conn_anew conn wait last x = elim (cases_Bool (eqb x.conn conn)) [ inl e ↦ rw e refl | inr e ↦ rw e refl ]
 
--- what speaks of the connection alone
+-- A property of the entries' connections is kept.
 all_anew : (P : ℕ → Type 0) (conn : ℕ) (wait : Wait) (last : Option ℕ) (xs : List Entry) → AllByRecursion (λ x. P x.conn) xs
     → AllByRecursion (λ x. P x.conn) (map (anew conn wait last) xs)
 all_anew P conn wait last [] h = tt
@@ -233,7 +233,7 @@ is_queue_anew conn wait last acts xs is = record {
   all = λ c. all_of_anew conn wait last c acts xs (is.all c);
 }
 
--- ---- a connection of which nothing is kept
+-- ---- a connection without an entry
 
 pub free_from_find : (conn : ℕ) (xs : List Entry) → entry_of conn xs ≡ None → IsFree conn xs
 free_from_find conn [] h = tt
@@ -246,7 +246,7 @@ pub anew_none : (conn : ℕ) (wait : Wait) (last : Option ℕ) (xs : List Entry)
 anew_none conn wait last [] h = refl
 anew_none conn wait last (x ∷ xs) h = rw (ne_eqb x.conn conn h.0, anew_none conn wait last xs h.1) refl
 
--- ---- at most so many stand once
+-- ---- at most one entry for each connection
 
 pub kept_free : (n : ℕ) (xs : List Entry) → IsFree n xs → filter (other_than n) xs ≡ xs
 kept_free n [] h = refl
@@ -273,12 +273,12 @@ at_most (suc n) xs once below =
     let rest = at_most n (filter (other_than n) xs) (once_filter (other_than n) xs once) (below_less n xs below) in
     omega (arith, rest, one_less n xs once)
 
--- a connection that is free is one of them, so that there is room
+-- If a connection has no entry, the queue isn't full.
 pub has_room : (entry : Entry) (n : ℕ) (xs : List Entry) → IsFree entry.conn xs → entry.conn < n → IsOnce xs → IsBelow n xs → length xs < n
 has_room entry n xs free lt once below =
     let most = at_most n (entry ∷ xs) (free, once) (lt, below) in omega (arith, most)
 
--- ---- the first that is such is the oldest
+-- ---- the first entry with a property is the oldest
 
 abbrev pub Among : ℕ → List Entry → Type 0
 Among c [] = ⊥
@@ -349,7 +349,7 @@ oldest_expired clock acts xs is = is_oldest_find acts (IsExpired clock acts) (λ
     (λ x each such. rw (sym each.1 ∙ such.3) (le-leb such.1 clock such.4))
     (λ c such none. some≢none such.0 (waits c acts) such.2 none) is
 
--- ---- a loop that has written each
+-- ---- a loop that has changed each entry
 
 pub written : (f : Entry → Entry) (n i : ℕ) (old start items : List Entry) → start ≡ old → length start ≡ n → length items ≡ length start
     → length start ≤ i → items ≡ map f (take i start) ++ drop i start → take n (items ++ drop (length items) old) ≡ map f old

@@ -1,4 +1,4 @@
--- A service request's call is no longer than it may be.
+-- A device_intr_srq call is no longer than the limit for one.
 use Rattle.std.proofs.Common.{◌≡◌, ℕ, ◌+◌, ◌^◌, ◌<◌, ◌≤◌, List, [], ◌∷◌, ◌++◌, length, Result, refl, sym, ap, ◌∙◌, arith}
 use Rattle.std.specs.Prelude.{map, replicate}
 use Rattle.std.specs.List.{concat}
@@ -15,7 +15,7 @@ use Rattle.sv_links.specs.declared.request.Peer.{Peer}
 use Rattle.sv_links.specs.Limits.{max_handle, longest_text, longest_call}
 use Rattle.sv_links.specs.Request.{request}
 
--- the header of a call, and the handle behind it
+-- The header of a call, and the call with its handle.
 abbrev pub header : ℕ → Peer → List (List ℕ)
 header xid peer = map spelling (call_fields xid peer.prog peer.vers 30)
 
@@ -54,7 +54,7 @@ request_is_short xid peer handle h = omega (arith, text_is_short xid peer handle
 pub request_is_some : (xid : ℕ) (peer : Peer) (handle : List ℕ) → 0 < length (request xid peer handle)
 request_is_some xid peer handle = omega arith
 
--- the header of a call and the handle are all written where they have room
+-- If the longest call has room, the header and the handle are written completely.
 pub text_is_written : (xid : ℕ) (peer : Peer) (handle : List ℕ) (r s : Result Unit XdrFault) (old mid new : Writer) → text_of old ≡ []
     → length handle ≤ max_handle → longest_text ≤ length (rest_of old)
     → WritesEach (header xid peer) r old mid

@@ -8,7 +8,7 @@ use Rattle.sv_links.specs.Channels.{ChannelAct, SrqEnabled, SrqDisabled, srq_ena
 use Rattle.sv_links.specs.ChannelRepresentation.{IsSorted}
 use Rattle.sv_links.proofs.Asking.{below, above, other_links, none_below, all_above}
 
--- those of n numbers, from a on
+-- The links with service requests enabled whose numbers are among the `n` from `a` on.
 abbrev pub among : ℕ → ℕ → List ChannelAct → List Enabled
 among a n acts = filter_map (λ lid. srq_enabled lid acts) (range_with_len a n)
 
@@ -35,7 +35,7 @@ asked_at lid (SrqDisabled other ∷ acts) x h = elim (cases_Bool (eqb other lid)
 ]
 asked_at lid (_ ∷ acts) x h = asked_at lid acts x h
 
--- none past all numbers asks
+-- No link has a number above those that ever enabled service requests.
 asked_past : (lid : ℕ) (acts : List ChannelAct) → past acts ≤ lid → srq_enabled lid acts ≡ None
 asked_past lid [] h = refl
 asked_past lid (SrqEnabled other conn handle ∷ acts) h =
@@ -44,7 +44,7 @@ asked_past lid (SrqDisabled other ∷ acts) h = cond_both (eqb other lid) None (
     (λ _. refl) (λ _. asked_past lid acts h)
 asked_past lid (_ ∷ acts) h = asked_past lid acts h
 
--- ---- they stand by rising number
+-- ---- the numbers rise
 
 all_behind : (k a : ℕ) (first : Option Enabled) (xs : List Enabled) → IsAt a first → k < a → AllByRecursion (λ x. k < x.lid) xs
     → AllByRecursion (λ x. k < x.lid) (cons_option first xs)
@@ -70,7 +70,7 @@ sorted a (suc n) acts =
 pub enabled_sorted : (acts : List ChannelAct) → IsSorted (enabled_links acts)
 enabled_sorted acts = sorted 0 (past acts) acts
 
--- ---- a link asks no more
+-- ---- a link disables service requests
 
 without_it : (lid a : ℕ) (first : Option Enabled) (xs : List Enabled) → IsAt a first → lid ≡ a
     → other_links lid xs ≡ other_links lid (cons_option first xs)
@@ -96,9 +96,9 @@ less lid a (suc n) acts =
 pub enabled_disabled : (lid : ℕ) (acts : List ChannelAct) → enabled_links (SrqDisabled lid ∷ acts) ≡ other_links lid (enabled_links acts)
 enabled_disabled lid acts = less lid 0 (past acts) acts
 
--- ---- a link asks
+-- ---- a link enables service requests
 
--- the links, with this one at its place
+-- The links, with this one at its position.
 abbrev pub with_link : Enabled → List Enabled → List Enabled
 with_link link xs = below link.lid xs ++ link ∷ above link.lid xs
 
@@ -122,7 +122,7 @@ further link a (Some x) xs is lt =
     let same = is x refl in
     rw (lt-ltb x.lid link.lid (omega (arith, same, lt)), le-ltb link.lid x.lid (omega (arith, same, lt))) refl
 
--- those behind it are as before
+-- Links with higher numbers are unchanged.
 same : (link : Enabled) (a n : ℕ) (acts : List ChannelAct) → link.lid < a
     → among a n (SrqEnabled link.lid link.conn link.handle ∷ acts) ≡ among a n acts
 same link a zero acts lt = refl
@@ -143,7 +143,7 @@ more link a (suc n) acts le lt = elim (cases_eq link.lid a) [
       ∙ further link a (srq_enabled a acts) (among (a + 1) n acts) (asked_at a acts) (omega (arith, e, le)))
 ]
 
--- more numbers bring no link more
+-- Searching more numbers finds no further link.
 longer : (a n m : ℕ) (acts : List ChannelAct) → past acts ≤ a + n → n ≤ m → among a n acts ≡ among a m acts
 longer a zero zero acts all le = refl
 longer a zero (suc m) acts all le =

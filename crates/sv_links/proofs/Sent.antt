@@ -1,4 +1,4 @@
--- What is kept of a channel's calls, where a call is sent or bytes are taken.
+-- A channel's queue agrees with the acts when a call is appended or the peer takes bytes.
 use Rattle.std.proofs.Common.{◌≡◌, ℕ, ◌+◌, ◌<◌, ◌≤◌, Bool, true, false, List, [], ◌∷◌, ◌++◌, length, drop, Some, refl, sym, ap, subst, ◌∙◌, arith}
 use Rattle.std.specs.Prelude.{map, nat_lt, ◌&&◌, if◌then◌else◌}
 use Rattle.std.specs.List.{concat}
@@ -15,7 +15,7 @@ use Rattle.sv_links.specs.ChannelRepresentation.{Channel, IsQueued, left_in}
 use Rattle.sv_links.proofs.Left.{left_sizes, left_bytes, left_left, left_push}
 use Rattle.sv_links.proofs.Requests.{request_is_some}
 
--- bytes are taken
+-- The peer takes bytes.
 pub is_queued_taken : (old new : Channel) (before count : ℕ) (calls : List (List ℕ)) → new.made ≡ old.made
     → new.sizes ≡ left_in count old.sizes → new.bytes ≡ drop count old.bytes → count ≤ length old.bytes
     → IsQueued old before calls → IsQueued new (before + count) calls
@@ -29,7 +29,7 @@ is_queued_taken old new before count calls made sizes bytes within is = (
 concat_push : (calls : List (List ℕ)) (call : List ℕ) → concat (calls ++ call ∷ []) ≡ concat calls ++ call
 concat_push calls call = concat-append calls (call ∷ []) ∙ ap (λ (t : List ℕ). concat calls ++ t) (append-nil call)
 
--- a call is sent
+-- A call is appended.
 pub is_queued_called : (old new : Channel) (count : ℕ) (calls : List (List ℕ)) (call : List ℕ) → new.made ≡ old.made + 1
     → new.sizes ≡ old.sizes ++ length call ∷ [] → new.bytes ≡ old.bytes ++ call → 0 < length call
     → IsQueued old count calls → IsQueued new count (calls ++ call ∷ [])
@@ -42,7 +42,7 @@ is_queued_called old new count calls call made sizes bytes some is =
       omega (arith, is.3, ap length (concat_push calls call), length-append (concat calls) call),
     )
 
--- ---- whether one may be sent
+-- ---- whether a call may be appended
 
 sizes_are : (kept : Channel) (count : ℕ) (calls : List (List ℕ)) → IsQueued kept count calls
     → length kept.sizes ≡ length (calls_left count calls)
@@ -62,11 +62,11 @@ pub is_last : (kept : Channel) (count : ℕ) (calls : List (List ℕ)) → IsQue
 is_last kept count calls is h =
     rw (← is.0) (and_false (nat_lt (length (calls_left count calls)) max_calls) kept.made h)
 
--- the calls behind which one was sent, if it may be
+-- The calls, with one more if it may be appended.
 abbrev with_call : Peer → List ℕ → List (List ℕ) → Bool → List (List ℕ)
 with_call peer handle calls can = if can then calls ++ request (length calls + 1) peer handle ∷ [] else calls
 
--- a call is sent, as it may be
+-- If the queue has room and a number is left, the call is appended.
 pub is_queued_sent : (old new : Channel) (peer : Peer) (handle : List ℕ) (count : ℕ) (calls : List (List ℕ)) (size : ℕ)
     → new.made ≡ old.made + 1 → new.sizes ≡ old.sizes ++ size ∷ [] → new.bytes ≡ old.bytes ++ request (old.made + 1) peer handle
     → length new.bytes ≡ length old.bytes + size → length old.sizes < max_calls → old.made < 4294967295

@@ -9,7 +9,7 @@ use Rattle.slab.specs.Slab.{RetainsFrom}
 use Rattle.sv_links.specs.declared.links.Link.{Link}
 use Rattle.sv_links.specs.Table.{IsKept}
 
--- a slot, where its link passes
+-- The slot, emptied if its link doesn't pass the test.
 abbrev pub keep : (Link → Bool) → Option Link → Option Link
 keep p None = None
 keep p (Some link) = cond (p link) (Some link) None
@@ -33,7 +33,7 @@ kept_filter p (Some x ∷ slots) links h =
       | inr e ↦ rw e rest
     ])
 
--- ---- how many
+-- ---- the number of links
 
 length_between : (xs : List Link) (x : Link) (ys : List Link) → length (xs ++ x ∷ ys) ≡ length (xs ++ ys) + 1
 length_between [] x ys = omega arith
@@ -62,7 +62,7 @@ count_keep p (Some x ∷ slots) = elim (cases_Bool (p x)) [
 pub no_more : (p : Link → Bool) (old new : List (Option Link)) → new ≡ map (keep p) old → count_by is_some new ≤ count_by is_some old
 no_more p old new e = rw e (count_keep p old)
 
--- ---- a link more
+-- ---- another link
 
 abbrev at : List (Option Link) → ℕ → Option Link
 at slots key = slice_index_or slots key None
@@ -70,7 +70,7 @@ at slots key = slice_index_or slots key None
 some≢none : (x : Link) → Some x ≡ None → ⊥
 some≢none x e = true≢false (ap is_some e)
 
--- slots with the same at each key hold the same
+-- Slots with the same contents at each key hold the same links.
 same_slots : (old new : List (Option Link)) (links : List Link) → ((key : ℕ) → at new key ≡ at old key)
     → IsKept old links → IsKept new links
 same_slots [] [] links same h = h
@@ -88,7 +88,7 @@ same_slots (Some x ∷ old) (Some y ∷ new) links same h =
 apart_suc : (m n : ℕ) → m ≢ n → suc m ≢ suc n
 apart_suc m n apart e = apart (omega (arith, e))
 
--- a link at a key that had none, and the others as before
+-- A link that is put into an empty slot is added to the links.
 pub kept_put : (old new : List (Option Link)) (key : ℕ) (x : Link) (links : List Link) → at old key ≡ None → at new key ≡ Some x
     → ((other : ℕ) → other ≢ key → at new other ≡ at old other) → IsKept old links → IsKept new (links ++ x ∷ [])
 kept_put old [] key x links free put others h = absurd (some≢none x (sym put))

@@ -14,7 +14,7 @@ use Rattle.sv_links.specs.Table.{Table, IsTable, IsRising, count_of}
 use Rattle.sv_links.proofs.Slots.{keep, kept_filter, kept_put, kept_count}
 use Rattle.sv_links.proofs.Locks.{freed, lock_destroyed}
 
--- links made before others
+-- The first link was made before the second.
 abbrev pub Below : Link → Link → Type 0
 Below x y = x.lid < y.lid
 
@@ -37,7 +37,7 @@ rising_push (x ∷ xs) n c r = (
 abbrev pub other_than : ℕ → Link → Bool
 other_than lid link = not (eqb link.lid lid)
 
--- the table without a link
+-- A link is destroyed.
 pub is_table_destroyed : (table : Table) (lid : ℕ) (acts : List LinkAct) (slots : List (Option Link)) (holder : Option ℕ)
     → slots ≡ map (keep (other_than lid)) table.slots → holder ≡ freed lid table.holder → IsTable table acts
     → IsTable (record table { slots = slots; holder = holder }) (Destroyed lid ∷ acts)
@@ -56,7 +56,7 @@ pub freed_other : (lid : ℕ) (o : Option ℕ) (r : Bool) → r ≡ option_eq eq
 freed_other lid None r told e = refl
 freed_other lid (Some m) r told e = rw (sym told ∙ e) refl
 
--- the table with a link more
+-- A link is made.
 pub is_table_made : (table : Table) (conn : ℕ) (acts : List LinkAct) (slots : List (Option Link)) (key spare : ℕ)
     → slice_index_or table.slots key None ≡ None → slice_index_or slots key None ≡ Some (record { lid = table.made + 1; conn = conn })
     → ((other : ℕ) → other ≢ key → slice_index_or slots other None ≡ slice_index_or table.slots other None) → IsTable table acts
@@ -68,7 +68,7 @@ is_table_made table conn acts slots key spare free put others is = record {
   lock = is.lock;
 }
 
--- ---- how many
+-- ---- the number of links
 
 pub count_is : (table : Table) (acts : List LinkAct) → IsTable table acts → count_of table ≡ length (live acts)
 count_is table acts is = kept_count table.slots (live acts) is.kept
@@ -94,7 +94,7 @@ pub has_place : (table : Table) (acts : List LinkAct) → IsTable table acts →
     → may_make acts ≡ true
 has_place table acts is h k = may_is table acts is ∙ rw (lt-ltb (count_of table) max_links h, lt-ltb table.made 2147483647 k) refl
 
--- the errors differ
+-- Whether the error is the limit on links; the other one is out of memory.
 abbrev is_shortage : Result ℕ CreateRefused → Bool
 is_shortage (Err OutOfResources) = true
 is_shortage (Err NoMemory) = false

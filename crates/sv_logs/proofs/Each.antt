@@ -2,12 +2,11 @@
 use Rattle.std.proofs.Common.{List, [], ◌∷◌, ◌++◌, sym, subst, append_assoc}
 use Rattle.std.specs.Prelude.{⊤}
 
--- Each of these acts is such in front of the acts before it.
+-- Each of these acts has the property, given the acts before it.
 abbrev pub Each : {A : Type 0} → (List A → A → Type 0) → List A → List A → Type 0
 Each {A} IsSuch [] before = ⊤
 Each {A} IsSuch (act ∷ acts) before = IsSuch (acts ++ before) act × Each IsSuch acts before
 
--- acts, and before them others
 pub each_join : {A : Type 0} (IsSuch : List A → A → Type 0) (acts more before : List A) → Each IsSuch acts (more ++ before)
     → Each IsSuch more before → Each IsSuch (acts ++ more) before
 each_join {A} IsSuch [] more before h k = k

@@ -5,7 +5,7 @@ use Rattle.std.specs.Prelude.{◌↔◌, ◌&&◌, ◌||◌}
 use Rattle.std.proofs.lemmas.List.{drop_all}
 use Rattle.sv_logs.specs.Since.{Since, is_since}
 
--- where there are no acts, there is one place
+-- For the empty log, both properties have to hold of it.
 pub since_empty : {A : Type 0} (F K : List A → Type 0) → Since F K [] ↔ (F [] × K [])
 since_empty {A} F K = (
   (λ (s : Since F K []). (subst F (drop_all s.ago [] (omega arith)) s.found, s.kept 0 (omega arith))),
@@ -18,7 +18,7 @@ since_empty {A} F K = (
   }),
 )
 
--- a find at the newest place, or behind it
+-- `F` holds after the newest act, or the search succeeded before that act.
 newest_or : {A : Type 0} (F K : List A → Type 0) (a : A) (log : List A) (ago : ℕ) → ago ≤ length (a ∷ log) → F (drop ago (a ∷ log))
     → ((n : ℕ) → n ≤ ago → K (drop n (a ∷ log)))
     → F (a ∷ log) ⊎ Since F K log
@@ -26,7 +26,7 @@ newest_or F K a log zero within found kept = inl found
 newest_or F K a log (suc ago) within found kept =
     inr (record { ago = ago; within = omega arith; found = found; kept = λ n le. kept (suc n) (omega arith) })
 
--- the newest place keeps it, and so do the others
+-- `K` holds after the newest act, and after each older act since the find.
 kept_more : {A : Type 0} (K : List A → Type 0) (a : A) (log : List A) (ago : ℕ) → K (a ∷ log) → ((n : ℕ) → n ≤ ago → K (drop n log))
     → (n : ℕ) → n ≤ suc ago → K (drop n (a ∷ log))
 kept_more K a log ago k kept zero le = k
@@ -41,7 +41,7 @@ found_or F K a log k (inl f) = record { ago = 0; within = omega arith; found = f
 found_or F K a log k (inr s) = let within = s.within in
     record { ago = suc s.ago; within = omega arith; found = s.found; kept = kept_more K a log s.ago k s.kept }
 
--- the newest place keeps it, and is a find or has one behind it
+-- One more act: `K` has to hold after it, and `F` holds after it or the search succeeded before.
 pub since_step : {A : Type 0} (F K : List A → Type 0) (a : A) (log : List A)
     → Since F K (a ∷ log) ↔ (K (a ∷ log) × (F (a ∷ log) ⊎ Since F K log))
 since_step F K a log = (
@@ -49,14 +49,14 @@ since_step F K a log = (
   (λ (h : K (a ∷ log) × (F (a ∷ log) ⊎ Since F K log)). found_or F K a log h.0 h.1),
 )
 
--- the newest place keeps it
+-- If `K` holds after the act, the search succeeds if `F` holds, or if it succeeded before.
 pub since_kept : {A : Type 0} (F K : List A → Type 0) (a : A) (log : List A) → K (a ∷ log)
     → Since F K (a ∷ log) ↔ (F (a ∷ log) ⊎ Since F K log)
 since_kept F K a log k =
     let law = since_step F K a log in
     ((λ (s : Since F K (a ∷ log)). (law.0 s).1), (λ (h : F (a ∷ log) ⊎ Since F K log). law.1 (k, h)))
 
--- a search overlooks an act that is no find, and keeps what was found
+-- If `F` doesn't hold after the act, and `K` holds if something was found, the act changes nothing.
 pub since_over : {A : Type 0} (F K : List A → Type 0) (a : A) (log : List A) → (F (a ∷ log) → ⊥) → (Since F K log → K (a ∷ log))
     → Since F K (a ∷ log) ↔ Since F K log
 since_over F K a log none kept =
@@ -65,12 +65,11 @@ since_over F K a log none kept =
       (λ s. step.1 (kept s, inr s)),
     )
 
--- the newest place keeps it, and is no find
 pub since_same : {A : Type 0} (F K : List A → Type 0) (a : A) (log : List A) → K (a ∷ log) → (F (a ∷ log) → ⊥)
     → Since F K (a ∷ log) ↔ Since F K log
 since_same F K a log k none = since_over F K a log none (λ before. k)
 
--- two searches go on alike at an act, where they did before it
+-- If two logs agree on `F` and `K` after an act and on the search before it, they agree after it.
 pub since_alike : {A : Type 0} (F K : List A → Type 0) (a : A) (log other : List A) → F (a ∷ log) ↔ F (a ∷ other)
     → K (a ∷ log) ↔ K (a ∷ other) → Since F K log ↔ Since F K other → Since F K (a ∷ log) ↔ Since F K (a ∷ other)
 since_alike F K a log other found kept before =
@@ -80,11 +79,10 @@ since_alike F K a log other found kept before =
       (λ s. let h = two.0 s in one.1 (kept.1 h.0, elim h.1 [ inl f ↦ inl (found.1 f) | inr b ↦ inr (before.1 b) ])),
     )
 
--- the newest place doesn't keep it
 pub since_ended : {A : Type 0} (F K : List A → Type 0) (a : A) (log : List A) → (K (a ∷ log) → ⊥) → Since F K (a ∷ log) → ⊥
 since_ended F K a log ends s = ends ((since_step F K a log).0 s).0
 
--- what has these laws is that search
+-- Any property with this recursion is equivalent to the search.
 pub since_unique : {A : Type 0} (F K P : List A → Type 0) → P [] ↔ (F [] × K [])
     → ((a : A) (log : List A) → P (a ∷ log) ↔ (K (a ∷ log) × (F (a ∷ log) ⊎ P log))) → (log : List A)
     → P log ↔ Since F K log
@@ -99,25 +97,24 @@ since_unique F K P empty step (a ∷ log) =
       (λ (s : Since F K (a ∷ log)). let h = law.0 s in (step a log).1 (h.0, from h.1)),
     )
 
--- ---- the step that `since_unique` asks for: what P is now by what Q was before
+-- ---- the step that `since_unique` needs: `P` after an act, from `Q` before it
 
--- the newest place keeps it
+-- `K` holds after the act.
 pub step_kept : {F K P Q : Type 0} → K → P ↔ (F ⊎ Q) → P ↔ (K × (F ⊎ Q))
 step_kept k same = ((λ p. (k, same.0 p)), (λ h. same.1 h.1))
 
--- the newest place keeps it, and is no find
+-- `K` holds after the act, and `F` doesn't.
 pub step_same : {F K P Q : Type 0} → K → (F → ⊥) → P ↔ Q → P ↔ (K × (F ⊎ Q))
 step_same k none same = ((λ p. (k, inr (same.0 p))), (λ h. elim h.1 [ inl f ↦ absurd (none f) | inr q ↦ same.1 q ]))
 
--- the newest place doesn't keep it
+-- `K` doesn't hold after the act.
 pub step_ended : {F K P Q : Type 0} → (K → ⊥) → (P → ⊥) → P ↔ (K × (F ⊎ Q))
 step_ended ends none = ((λ p. absurd (none p)), (λ h. absurd (ends h.0)))
 
--- two steps, where one act is two of another list
 pub then_same : {P Q R : Type 0} → P ↔ Q → Q ↔ R → P ↔ R
 then_same f g = ((λ p. g.0 (f.0 p)), (λ r. f.1 (g.1 r)))
 
--- ---- the test
+-- ---- the search as a test
 
 pub both_true : (a b : Bool) → ((a && b) ≡ true) ↔ ((a ≡ true) × (b ≡ true))
 both_true true b = ((λ e. (refl, e)), (λ h. h.1))
@@ -127,7 +124,7 @@ pub either_true : (a b : Bool) → ((a || b) ≡ true) ↔ ((a ≡ true) ⊎ (b 
 either_true true b = ((λ e. inl refl), (λ h. refl))
 either_true false b = ((λ e. inr e), (λ h. elim h [ inl e ↦ absurd cc | inr e ↦ e ]))
 
--- The test says whether the search finds one.
+-- The test returns whether the search succeeds.
 pub is_since_is : {A : Type 0} (is_find keeps : List A → Bool) (log : List A)
     → (is_since is_find keeps log ≡ true) ↔ Since (λ (place : List A). is_find place ≡ true) (λ (place : List A). keeps place ≡ true) log
 is_since_is {A} is_find keeps =

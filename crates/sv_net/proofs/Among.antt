@@ -1,4 +1,4 @@
--- A text among others.
+-- Comparing each text of a list with a wanted text decides whether the list contains it.
 use Rattle.std.proofs.Common.{◌≡◌, subst, refl, true, ℕ, ◌<◌, List, length, Decides, slice_index_or}
 use Rattle.std.specs.List.{Any, Contains, list_any}
 use Rattle.std.specs.Str.{bytes_eq}
@@ -10,7 +10,6 @@ contained : (wanted : Text) (texts : List Text) → Any (λ text. bytes_eq text 
 contained wanted texts (k, text, short, at, same) =
     subst (λ t. (k : ℕ) × (k < length texts) × (slice_index_or texts k t ≡ t)) ((bytes_eq-Decides text wanted).0 same) (k, short, at)
 
--- to compare each text with one decides whether it is among them
 pub among : (wanted : Text) (texts : List Text) → Decides (list_any (λ text. bytes_eq text wanted) texts) (Contains texts wanted)
 among wanted texts = (
   λ e. contained wanted texts (Any-from_list_any _ texts e),

@@ -1,4 +1,4 @@
--- What words ask for, by the first of them.
+-- The first word of the command line decides what the words can ask for.
 use Rattle.std.proofs.Common.{◌≡◌, ◌∙◌, ap, sym, map, List, [], ◌∷◌, Some, Err, codes, slice_get}
 use Rattle.std.proofs.lemmas.Option.{none-some, same_Some}
 use Rattle.clap.specs.Words.{Text}
@@ -10,31 +10,26 @@ use Rattle.sv_net.specs.declared.words.Words.{Words}
 use Rattle.sv_net.specs.declared.words.Words.TheVariants.{Replay, Explain, Server}
 use Rattle.sv_net.specs.Words.{AsksFor, AsksToReplay, AsksToServe, ReadsWords}
 
--- the first text is that of the first word
 pub first_text : {A : Type 0} (text : A → Text) (words : List A) (word : A) → Some word ≡ slice_get words 0
     → slice_get (map text words) 0 ≡ Some (text word)
 first_text text [] word e = absurd (none-some word (sym e))
 first_text text (w ∷ ws) word e = ap (λ a. Some (text a)) (sym (same_Some word w e))
 
--- the word `serve`, with what asks for a server
 pub asks_server : (texts : List Text) (serve : Serve) → slice_get texts 0 ≡ Some (codes "serve") → AsksToServe texts serve
     → AsksFor texts (Server serve)
 asks_server [] serve e serves = absurd (none-some _ e)
 asks_server (t ∷ ts) serve e serves = (same_Some t _ e, serves)
 
--- the word `replay`, with what asks for ports
 pub asks_replay : (texts : List Text) (ports : Ports) → slice_get texts 0 ≡ Some (codes "replay") → AsksToReplay texts ports
     → AsksFor texts (Replay ports)
 asks_replay [] ports e asks = absurd (none-some _ e)
 asks_replay (t ∷ ts) ports e asks = (same_Some t _ e, asks)
 
--- and the word `explain`
 pub asks_explain : (texts : List Text) (ports : Ports) → slice_get texts 0 ≡ Some (codes "explain") → AsksToReplay texts ports
     → AsksFor texts (Explain ports)
 asks_explain [] ports e asks = absurd (none-some _ e)
 asks_explain (t ∷ ts) ports e asks = (same_Some t _ e, asks)
 
--- the three words differ
 replay_serve : codes "replay" ≡ codes "serve" → ⊥
 replay_serve is = cc
 
@@ -44,7 +39,7 @@ explain_serve is = cc
 explain_replay : codes "explain" ≡ codes "replay" → ⊥
 explain_replay is = cc
 
--- no words are asked for, by the first of them
+-- Words that ask for nothing by `replay`, `explain` or `serve` ask for nothing at all.
 pub none_asked : (texts : List Text)
     → ((ports : Ports) → slice_get texts 0 ≡ Some (codes "replay") → AsksToReplay texts ports → ⊥)
     → ((ports : Ports) → slice_get texts 0 ≡ Some (codes "explain") → AsksToReplay texts ports → ⊥)
@@ -55,7 +50,7 @@ none_asked (t ∷ ts) replay explain serve (Replay ports) asks = replay ports (a
 none_asked (t ∷ ts) replay explain serve (Explain ports) asks = explain ports (ap Some asks.0) asks.1
 none_asked (t ∷ ts) replay explain serve (Server server) asks = serve server (ap Some asks.0) asks.1
 
--- the word `serve`, with what asks for no server
+-- A fault in the options after the word `serve` is the fault of the whole command line.
 pub serve_fault : (texts : List Text) (fault : ProgramFault) → slice_get texts 0 ≡ Some (codes "serve")
     → ReadsWords (AsksToServe texts) (Err fault) → ReadsWords (AsksFor texts) (Err fault)
 serve_fault texts BadWords e none = none_asked texts (λ ports is asks. replay_serve (same_Some _ _ (sym is ∙ e)))
@@ -63,7 +58,6 @@ serve_fault texts BadWords e none = none_asked texts (λ ports is asks. replay_s
 serve_fault texts (Run fault) e is = is
 serve_fault texts Socket e never = never
 
--- the word `replay`, with what asks for no ports
 pub replay_fault : (texts : List Text) (fault : ProgramFault) → slice_get texts 0 ≡ Some (codes "replay")
     → ReadsWords (AsksToReplay texts) (Err fault) → ReadsWords (AsksFor texts) (Err fault)
 replay_fault texts BadWords e none = none_asked texts (λ ports is asks. none ports asks)
@@ -71,7 +65,6 @@ replay_fault texts BadWords e none = none_asked texts (λ ports is asks. none po
 replay_fault texts (Run fault) e is = is
 replay_fault texts Socket e never = never
 
--- and the word `explain`
 pub explain_fault : (texts : List Text) (fault : ProgramFault) → slice_get texts 0 ≡ Some (codes "explain")
     → ReadsWords (AsksToReplay texts) (Err fault) → ReadsWords (AsksFor texts) (Err fault)
 explain_fault texts BadWords e none = none_asked texts (λ ports is asks. explain_replay (same_Some _ _ (sym e ∙ is)))
@@ -79,7 +72,7 @@ explain_fault texts BadWords e none = none_asked texts (λ ports is asks. explai
 explain_fault texts (Run fault) e is = is
 explain_fault texts Socket e never = never
 
--- another word
+-- Any other first word asks for nothing.
 pub other_word : (texts : List Text) (word : Text) → slice_get texts 0 ≡ Some word → (word ≡ codes "replay" → ⊥)
     → (word ≡ codes "explain" → ⊥) → (word ≡ codes "serve" → ⊥) → (asked : Words) → AsksFor texts asked → ⊥
 other_word texts word e replay explain serve = none_asked texts (λ ports is asks. replay (same_Some _ _ (sym e ∙ is)))

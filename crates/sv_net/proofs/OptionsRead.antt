@@ -1,4 +1,5 @@
--- What is told by the matches of a command is told by the words.
+-- The values that clap finds for a command's options are those of the words, so they say what the
+-- words ask for.
 use Rattle.std.proofs.Common.{◌≡◌, ◌∙◌, ap, sym, subst, refl, true, List, [], Err, inl, inr, codes}
 use Rattle.std.specs.Prelude.{Option}
 use Rattle.std.specs.List.{Contains}
@@ -14,7 +15,7 @@ use Rattle.clap.proofs.WalkLemmas.{first_value-rows}
 use Rattle.sv_net.specs.declared.fault.ProgramFault.{ProgramFault}
 use Rattle.sv_net.specs.Words.{serve_command, replay_command, Asks, ServesBy, HasPorts, ArePorts, IfGiven, IfBoth, IsCount, ReadsWords, IsUsageFault}
 
--- a command whose matches are a function of the words
+-- The matches and the faults of this command are functions of the words.
 pub record IsKnown (command : App) : Type 0 where
   pub simple : is_simple command ≡ true
   pub free : is_simple_and_free command ≡ true
@@ -41,7 +42,7 @@ replay_is_free = refl
 pub replay_known : IsKnown replay_command
 replay_known = record { simple = replay_is_simple; free = replay_is_free }
 
--- equal values tell the same
+-- Equal option values ask for the same.
 abbrev pub TellsSame : {A : Type 0} → ((Text → Option Text) → A → Type 0) → Type 0
 TellsSame By = (f g : Text → Option Text) → ((name : Text) → f name ≡ g name) → (asked : _) → By f asked → By g asked
 
@@ -61,12 +62,12 @@ ports_same f g same ports has =
     subst (λ o. ArePorts (g (codes "core")) o ports) (same _) (subst (λ o. ArePorts o (f (codes "abort")) ports) (same _) has)
 
 module _ {A : Type 0} (By : (Text → Option Text) → A → Type 0) (tells : TellsSame By) (command : App) (known : IsKnown command) where
-  -- the values are those of the words
+  -- The values that were found are those of the words.
   same_values : (words : List Text) (found : ArgMatches) → HasMatchesOf command words found
       → (name : Text) → first_value (found_of found) name ≡ first_of name (matches_of command words)
   same_values words found has name = first_value-rows (found_of found) name ∙ ap (first_of name) (has known.simple).0
 
-  -- What the command found tells what is asked for where no word is `--`, or nothing is.
+  -- If no word is `--`, the words ask for what the values that were found say.
   pub asked_by : (app : App) (words : List Text) (found : ArgMatches) (asked : A) → app ≡ command → HasMatchesOf app words found
       → (is_simple_and_free app ≡ true → fault_of app words ≡ []) → By (λ name. first_value (found_of found) name) asked
       → (Contains words (codes "--") → ⊥) → Asks command (λ value. By value asked) words
@@ -81,7 +82,7 @@ module _ {A : Type 0} (By : (Text → Option Text) → A → Type 0) (tells : Te
   not_asked app words found is has none asked asks = none asked (tells _ _
       (λ name. sym (same_values words found (subst (λ (a : App). HasMatchesOf a words found) is has) name)) asked asks.2)
 
-  -- words that the command refuses ask for nothing, unless memory was refused
+  -- Words that the command refuses ask for nothing, unless memory was refused.
   pub refused : (app : App) (words : List Text) (error : Error) (fault : ProgramFault) → app ≡ command
       → (is_simple_and_free app ≡ true → HasKind (fault_of app words) error) → IsUsageFault (kind_of error) fault
       → ReadsWords (λ asked. Asks command (λ value. By value asked) words) (Err fault)

@@ -1,4 +1,4 @@
--- Waits, one after the other.
+-- How the waits of a loop follow each other, until one fails.
 use Rattle.std.proofs.Common.{◌≡◌, ℕ, Bool, true, false, List, [], ◌∷◌, Some, refl, sym, inl, arith}
 use Rattle.std.specs.Prelude.{Option, Result, Ok, Err, IfOk, OnErr}
 use Rattle.std.specs.Duration.{as_nanos}
@@ -41,7 +41,7 @@ module _ {W J M : Type 0} (hears : W → Heard → W → Type 0) (notes : J → 
     waits = r.waits;
   }
 
-  -- a wait that may be so long
+  -- A wait that is no longer than allowed.
   pub one_wait : (left swept began time : ℕ) (limit : Option Duration) (reported : Bool) (old now : M)
       → MaySleep left swept began limit driver → answers old (Waited limit reported time) now
       → Pauses hears notes answers driver is_told is_fresh left swept began time old now
@@ -57,14 +57,14 @@ module _ {W J M : Type 0} (hears : W → Heard → W → Type 0) (notes : J → 
     };
   }
 
-  -- one that takes no time
+  -- A poll, which takes no time.
   pub one_look : (left swept began time : ℕ) (limit : Duration) (reported : Bool) (old now : M) → as_nanos limit ≡ 0
       → answers old (Waited (Some limit) reported time) now
       → Pauses hears notes answers driver is_told is_fresh left swept began time old now
   one_look left swept began time limit reported old now none waited =
       one_wait left swept began time (Some limit) reported old now (inl (omega (arith, none))) waited
 
-  -- and one in which nothing is reported
+  -- A poll in which nothing is reported.
   pub in_vain : (left swept began time : ℕ) (limit : Duration) (old now : M) → as_nanos limit ≡ 0
       → answers old (Waited (Some limit) false time) now → Pauses hears notes answers driver is_told is_quiet left swept began time old now
   in_vain left swept began time limit old now none waited = record {
@@ -118,7 +118,7 @@ pub if_ok : {A E : Type 0} {P Q : A → Type 0} (result : Result A E) → IfOk r
 if_ok (Ok a) p more = more a p
 if_ok (Err e) p more = p
 
--- the first wait fails
+-- The first wait fails.
 pub fails_at_once : {W J M : Type 0} {hears : W → Heard → W → Type 0} {notes : J → List PlainEvent → J → Type 0}
     {answers : M → Doing W → M → Type 0}
     {fails : M → Option Duration → M → Type 0}
@@ -127,7 +127,7 @@ pub fails_at_once : {W J M : Type 0} {hears : W → Heard → W → Type 0} {not
 fails_at_once {began = began} {old = old} limit may failed =
     record { goes = λ sweeps many start first remain r. (began, old, limit, may, failed, r) }
 
--- a poll fails
+-- A poll fails.
 pub poll_fails : {W J M : Type 0} {hears : W → Heard → W → Type 0} {notes : J → List PlainEvent → J → Type 0}
     {answers : M → Doing W → M → Type 0}
     {fails : M → Option Duration → M → Type 0}
@@ -146,7 +146,7 @@ fails_from_quiet {hears = hears} {notes = notes} {answers = answers} {driver = d
           (also hears notes answers driver told_where_quiet r);
     }
 
--- waits that don't fail, before those of which one fails
+-- Some waits don't fail, and then one fails.
 pub then_fails : {W J M : Type 0} {hears : W → Heard → W → Type 0} {notes : J → List PlainEvent → J → Type 0}
     {answers : M → Doing W → M → Type 0}
     {fails : M → Option Duration → M → Type 0}

@@ -1,4 +1,4 @@
--- A call at a socket's number, by what it does at the place.
+-- A method that is called for a port changes the socket with the port's number.
 use Rattle.std.proofs.Common.{◌≡◌, ℕ, ◌≤◌, List, length, None, refl, sym}
 use Rattle.std.proofs.lemmas.List.{set_past, get_or_past}
 use Rattle.std.specs.Prelude.{Option, slice_index_or, slice_set}
@@ -12,7 +12,7 @@ there items n m step answer old new same is does =
     let found : old ≡ slice_index_or items n None = rw (sym same) is in
     (new, rw (sym found) does, rw same refl)
 
--- beyond the last number no socket is
+-- There is no socket beyond the last number, so the method returns `Failed`.
 pub absent : {S A : Type 0} (items : List (Option S)) (n : ℕ) (step : S → S → Type 0) (answer : Answer A)
     → length items ≤ n → answer ≡ Failed → At n step answer items items
 absent items n step answer past failed = (None, rw (get_or_past items n None past) (failed, refl), sym (set_past items n None past))

@@ -1,4 +1,4 @@
--- A loop of sweeps, sweep by sweep.
+-- A loop of sweeps goes on sweep by sweep, until all are made or the loop stops.
 use Rattle.std.proofs.Common.{◌≡◌, ℕ, ◌-◌, ◌<◌, ◌≤◌, Bool, true, false, List, [], ◌∷◌, Option, Some, None, inl, inr, refl, sym, arith}
 use Rattle.std.specs.declared.time.Duration.{Duration}
 use Rattle.sv_history.specs.Event.{PlainEvent}
@@ -10,7 +10,7 @@ use Rattle.sv_serve.specs.DriverView.{DriverState, Steps}
 use Rattle.sv_net.specs.Serving.{Doing, MadeSweep, Waited, Told, Asked, handed_in, is_fresh, is_told, Serves, Served, Stopped}
 use Rattle.sv_net.specs.Inside.Pausing.{Running, Rounds, Hands, Fails}
 
--- the sweeps and the stimuli alone
+-- The sweeps and the stimuli of a loop, without its waits, lead to the same state of the driver.
 pub swept_alone : {W J : Type 0} (sweeps : ℕ) (hears : W → Heard → W → Type 0) (notes : J → List PlainEvent → J → Type 0)
     (doings : List (Doing W)) (start now : DriverState W J)
     → Serves sweeps hears notes doings start now → Swept hears notes (handed_in doings) start now
@@ -24,7 +24,7 @@ swept_alone sweeps hears notes (Asked None ∷ doings) start now serves = swept_
 swept_alone sweeps hears notes (Asked (Some stimulus) ∷ doings) start now (between, serves, accepted, goes) =
     (between, swept_alone sweeps hears notes doings start between serves, accepted, goes)
 
--- all sweeps were made
+-- The loop has made all its sweeps.
 pub served_by : {W J M : Type 0} {hears : W → Heard → W → Type 0} {notes : J → List PlainEvent → J → Type 0}
     {answers : M → Doing W → M → Type 0} {sweeps swept time : ℕ} {old new : DriverState W J} {first now : M} (lost : J → Bool)
     → (0 < sweeps → lost new.journal ≡ false) → Running hears notes answers is_fresh sweeps sweeps swept time old new first now
@@ -32,7 +32,7 @@ pub served_by : {W J M : Type 0} {hears : W → Heard → W → Type 0} {notes :
 served_by {hears = hears} {notes = notes} {sweeps = sweeps} {old = old} {new = new} lost kept r =
     (r.doings, r.made, r.so, kept, (r.serves, r.waits, swept_alone sweeps hears notes r.doings old new r.serves))
 
--- a wait failed after some of the sweeps
+-- A wait failed after some of the sweeps.
 pub stopped_by : {W J M : Type 0} {hears : W → Heard → W → Type 0} {notes : J → List PlainEvent → J → Type 0}
     {answers : M → Doing W → M → Type 0} {fails : M → Option Duration → M → Type 0} {left sweeps many swept began : ℕ}
     {start driver : DriverState W J} {first old now : M} (lost : J → Bool)
@@ -49,7 +49,7 @@ stopped_by {hears = hears} {notes = notes} {sweeps = sweeps} {start = start} {dr
       inl (limit, (rw (r.made, sym remain, r.last, r.ended) may, r.so), failed, kept),
     )
 
--- the journal had lost an event after a sweep
+-- The journal had lost an event after a sweep.
 pub lost_after : {W J M : Type 0} {hears : W → Heard → W → Type 0} {notes : J → List PlainEvent → J → Type 0}
     {answers : M → Doing W → M → Type 0} {sweeps many swept time : ℕ} {start driver : DriverState W J} {first now : M} (lost : J → Bool)
     (fails : M → Option Duration → M → Type 0) → 0 < many → many ≤ sweeps → lost driver.journal ≡ true
@@ -67,7 +67,7 @@ lost_after {hears = hears} {notes = notes} {sweeps = sweeps} {start = start} {dr
 not_any : {P : Type 0} {ticks : ℕ} → ticks ≡ 0 → 0 < ticks → P
 not_any none some = absurd (omega (arith, none, some))
 
--- no whole millisecond passed: what was reported comes first
+-- No whole millisecond has passed, so the wire gets the reports before the sweep.
 pub told_first : {W J M : Type 0} (hears : W → Heard → W → Type 0) (notes : J → List PlainEvent → J → Type 0)
     (answers : M → Doing W → M → Type 0) (ticks : ℕ) (old new : DriverState W J)
     (first now : M) → ticks ≡ 0 → answers first (Told old.wire) now → Steps notes (Sweeps hears ticks) old new
@@ -84,7 +84,7 @@ told_first hears notes answers ticks old new first now none told goes = record {
   };
 }
 
--- milliseconds pass in front of what was reported
+-- The sweep lets its milliseconds pass, and then the wire gets the reports.
 pub swept_first : {W J M : Type 0} (hears : W → Heard → W → Type 0) (notes : J → List PlainEvent → J → Type 0)
     (answers : M → Doing W → M → Type 0) (ticks : ℕ) (old new : DriverState W J)
     (first now : M) → answers first (Told new.wire) now → Steps notes (Sweeps hears ticks) old new
@@ -101,7 +101,7 @@ swept_first hears notes answers ticks old new first now told goes = record {
   };
 }
 
--- no stimulus came
+-- No stimulus is there, and the driver stays as it is.
 pub asked_none : {W J M : Type 0} (hears : W → Heard → W → Type 0) (notes : J → List PlainEvent → J → Type 0)
     (answers : M → Doing W → M → Type 0) (driver : DriverState W J)
     (answer : Option Stimulus) (first now : M) → answer ≡ None → answers first (Asked answer) now
@@ -118,7 +118,7 @@ asked_none hears notes answers driver answer first now none asked = record {
   };
 }
 
--- one came, and was handed in
+-- A stimulus is there, and is handed to the driver.
 pub asked_some : {W J M : Type 0} (hears : W → Heard → W → Type 0) (notes : J → List PlainEvent → J → Type 0)
     (answers : M → Doing W → M → Type 0) (old new : DriverState W J)
     (answer : Option Stimulus) (stimulus : Stimulus) (first now : M) → answer ≡ Some stimulus → answers first (Asked answer) now

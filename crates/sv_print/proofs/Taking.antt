@@ -1,4 +1,4 @@
--- What a writer has accepted after two texts, one after the other.
+-- What a writer has accepted of texts that are written in order.
 use Rattle.std.proofs.Common.{◌≡◌, ℕ, ◌+◌, ◌-◌, ◌<◌, ◌≤◌, ◌/◌, ◌%◌, Bool, true, false, List, [], ◌∷◌, ◌++◌, length, take, drop, map, Option, Some, None, refl, sym, ap, ◌∙◌, append_assoc, append-nil, slice_index, slice_index_or, subst, arith}
 use Rattle.std.specs.List.{concat}
 use Rattle.std.proofs.lemmas.List.{take_all, take-append-drop, length-drop, map_more, map-append}
@@ -25,14 +25,14 @@ appends_then (Some xs) (Some ys) (Some zs) a b x y = y ∙ ap (λ (l : List ℕ)
 appends_then (Some xs) None new a b x y = elim x [ ]
 appends_then (Some xs) (Some ys) None a b x y = elim y [ ]
 
--- a front of the first text is one of both
+-- If the first write fails, the writer accepted a prefix of both texts.
 pub takes_stop : {E F : Type 0} (old new : Option (List ℕ)) (a b : List ℕ) (e : E) (r : Result ⊤ F) → IsErr r
     → IsTakenByWriter old new (Err e) a
     → IsTakenByWriter old new r (a ++ b)
 takes_stop old new a b e (Ok all) h x = absurd cc
 takes_stop old new a b e (Err f) h x = (x.0, (x.1.0 ++ b, ap (λ (l : List ℕ). l ++ b) x.1.1 ∙ append_assoc x.0 x.1.0 b), x.2)
 
--- all of the first text was taken, and then of the second
+-- After the first text was accepted, the second decides.
 pub takes_then : {E : Type 0} (old mid new : Option (List ℕ)) (a b : List ℕ) (r : Result ⊤ E) → Appends old mid a
     → IsTakenByWriter mid new r b
     → IsTakenByWriter old new r (a ++ b)
@@ -43,7 +43,7 @@ takes_then old mid new a b (Err e) x y = (
   appends_then old mid new a y.0 x y.2,
 )
 
--- some bytes more of a text were taken
+-- More bytes of a text were accepted.
 pub took_more : (text done rest : List ℕ) (n : ℕ) (old mid new : Option (List ℕ)) → text ≡ done ++ rest → n ≤ length rest
     → Appends old mid done → Appends mid new (take n rest)
     → (more : List ℕ) × (text ≡ more ++ take (length rest - n) (drop n rest)) × Appends old new more
@@ -56,18 +56,16 @@ took_more text done rest n old mid new e within x y =
       appends_then old mid new done (take n rest) x y,
     )
 
--- bytes are spelled one after the other
 pub encode_append : (t a b : List ℕ) → encode_with t (a ++ b) ≡ encode_with t a ++ encode_with t b
 unfolding encode_with
 encode_append t [] b = refl
 encode_append t (x ∷ a) b = ap (λ (l : List ℕ). slice_index t (x / 16) ∷ slice_index t (x % 16) ∷ l) (encode_append t a b)
 
--- the first bytes were spelled and taken
 pub hex_none : (old : Option (List ℕ)) (bytes : List ℕ) → (done : List ℕ) × (bytes ≡ done ++ bytes) × Appends old old (encode_lower done)
 unfolding encode_with
 hex_none old bytes = ([], refl, appends_none old)
 
--- and a piece more
+-- Another piece was accepted in hexadecimal.
 pub hex_more : (bytes done rest piece others : List ℕ) (old mid new : Option (List ℕ)) → bytes ≡ done ++ rest → rest ≡ piece ++ others
     → Appends old mid (encode_lower done)
     → Appends mid new (encode_lower piece) → (more : List ℕ) × (bytes ≡ more ++ others) × Appends old new (encode_lower more)
@@ -78,7 +76,7 @@ hex_more bytes done rest piece others old mid new e f x y = (
       (appends_then old mid new (encode_lower done) (encode_lower piece) x y),
 )
 
--- or a part of it
+-- The writer failed within a piece.
 pub hex_stop : {E F : Type 0} (bytes done rest piece others : List ℕ) (old mid new : Option (List ℕ)) (e : E) (r : Result ⊤ F)
     → bytes ≡ done ++ rest → rest ≡ piece ++ others → IsErr r
     → Appends old mid (encode_lower done) → IsTakenByWriter mid new (Err e) (encode_lower piece)
@@ -92,21 +90,20 @@ hex_stop bytes done rest piece others old mid new e r is split h x y =
     (takes_stop old new (encode_lower done ++ encode_lower piece) (encode_lower others) e r h
     (takes_then old mid new (encode_lower done) (encode_lower piece) (Err e) x y))
 
--- what was split is both parts
 pub halves : (n : ℕ) (all front back : List ℕ) → front ≡ take n all → back ≡ drop n all → all ≡ front ++ back
 halves n all front back e f = sym (take-append-drop n all) ∙ ap (λ (l : List ℕ). l ++ drop n all) (sym e)
     ∙ ap (λ (l : List ℕ). front ++ l) (sym f)
 
--- ---- the texts of the elements of a list
+-- ---- the texts of a list's elements
 
 module _ {X : Type 0} (f : X → List ℕ) where
-  -- the texts of one element more
+  -- The text of the next element follows the texts before it.
   pub texts_more : (xs : List X) (i : ℕ) (d : X) → i < length xs
       → concat (map f (take (i + 1) xs)) ≡ concat (map f (take i xs)) ++ f (slice_index_or xs i d)
   texts_more xs i d h = ap concat (map_more f xs i d h) ∙ concat-append (map f (take i xs)) (f (slice_index_or xs i d) ∷ [])
       ∙ ap (λ (l : List ℕ). concat (map f (take i xs)) ++ l) (append-nil (f (slice_index_or xs i d)))
 
-  -- all texts: those before an element, its own, and those after it
+  -- All texts: those before an element, its own, and those after it.
   pub texts_cut : (xs : List X) (i : ℕ) (d : X) → i < length xs
       → concat (map f xs) ≡ (concat (map f (take i xs)) ++ f (slice_index_or xs i d)) ++ concat (map f (drop (i + 1) xs))
   texts_cut xs i d h = ap (λ (l : List X). concat (map f l)) (sym (take-append-drop (i + 1) xs))
@@ -114,18 +111,18 @@ module _ {X : Type 0} (f : X → List ℕ) where
       ∙ concat-append (map f (take (i + 1) xs)) (map f (drop (i + 1) xs))
       ∙ ap (λ (l : List ℕ). l ++ concat (map f (drop (i + 1) xs))) (texts_more xs i d h)
 
-  -- the loop is over: all texts
+  -- After the loop, all texts were written.
   pub texts_all : (xs : List X) (i : ℕ) → length xs ≤ i → concat (map f (take i xs)) ≡ concat (map f xs)
   texts_all xs i h = ap (λ (l : List X). concat (map f l)) (take_all i xs h)
 
-  -- the text of one element more was taken
+  -- The text of another element was accepted.
   pub appends_more : (xs : List X) (i : ℕ) (d : X) (old mid new : Option (List ℕ)) → i < length xs
       → Appends old mid (concat (map f (take i xs))) → Appends mid new (f (slice_index_or xs i d))
       → Appends old new (concat (map f (take (i + 1) xs)))
   appends_more xs i d old mid new h x y = subst (λ (l : List ℕ). Appends old new l) (sym (texts_more xs i d h))
       (appends_then old mid new (concat (map f (take i xs))) (f (slice_index_or xs i d)) x y)
 
-  -- the writer failed at the text of an element
+  -- The writer failed at the text of an element.
   pub takes_stuck : {E F : Type 0} (xs : List X) (i : ℕ) (d : X) (old mid new : Option (List ℕ)) (e : E) (r : Result ⊤ F) → i < length xs
       → IsErr r
       → Appends old mid (concat (map f (take i xs))) → IsTakenByWriter mid new (Err e) (f (slice_index_or xs i d))
@@ -137,14 +134,13 @@ module _ {X : Type 0} (f : X → List ℕ) where
       (takes_stop old new (front ++ own) (concat (map f (drop (i + 1) xs))) e r is
       (takes_then old mid new front own (Err e) x y))
 
--- ---- printers, which go on without writing once their writer failed
+-- ---- printers, which write nothing after a failure
 
--- nothing is printed
 pub prints_none : (old : Option (List ℕ)) (failed : Bool) → Prints old failed old failed []
 prints_none old true = (refl, refl)
 prints_none old false = appends_none old
 
--- a text is printed, and then another
+-- A text is printed, and then another.
 pub prints_then : (old mid new : Option (List ℕ)) (f g h : Bool) (a b : List ℕ) → Prints old f mid g a → Prints mid g new h b
     → Prints old f new h (a ++ b)
 prints_then old mid new true true h a b x y = (y.0, y.1 ∙ x.1)
@@ -162,11 +158,10 @@ prints_then old mid new false false true a b x y = (
   appends_then old mid new a y.0 x y.2,
 )
 
--- the same text in other words
 pub prints_as : (old new : Option (List ℕ)) (f g : Bool) (a b : List ℕ) → a ≡ b → Prints old f new g a → Prints old f new g b
 prints_as old new f g a b e x = subst (λ (l : List ℕ). Prints old f new g l) e x
 
--- a loop prints the text of one element more
+-- A loop prints the text of another element.
 pub prints_more : {X : Type 0} (f : X → List ℕ) (xs : List X) (i : ℕ) (d : X) (old mid new : Option (List ℕ)) (a b c : Bool) → i < length xs
     → Prints old a mid b (concat (map f (take i xs))) → Prints mid b new c (f (slice_index_or xs i d))
     → Prints old a new c (concat (map f (take (i + 1) xs)))

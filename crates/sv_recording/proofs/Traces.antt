@@ -1,4 +1,5 @@
--- What was kept is what was asked.
+-- If a recorder's trace is complete, it has exactly the calls of the wire's methods, with their
+-- answers.
 use Rattle.std.proofs.Common.{◌≡◌, List, [], ◌∷◌, ◌++◌, true, ap, ◌∙◌}
 use Rattle.sv_serve.specs.Heard.{Heard, Through}
 use Rattle.sv_recording.specs.Recorded.{Recording, Passes}

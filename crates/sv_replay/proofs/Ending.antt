@@ -1,4 +1,4 @@
--- How a run ends: behind its last line, and when what was printed is passed on.
+-- How a run ends: after its last line, and when its output is flushed.
 use Rattle.std.proofs.Common.{◌≡◌, ℕ, List, [], ◌++◌, Option, refl, sym, subst, inl, inr, append-nil}
 use Rattle.std.specs.Prelude.{◌⊎◌, Result, Ok, Err, ⊤, IsErr, IsErrAnd, OnOk, IfErr}
 use Rattle.std.specs.Io.KnownBytes.{Keeps, IsAtEnd}
@@ -20,7 +20,7 @@ use Rattle.sv_replay.specs.Stage.{StepsRun, RunsIn, ScriptRuns}
 use Rattle.sv_replay.proofs.Going.{consumes_none}
 use Rattle.sv_replay.proofs.Staged.{output_instead}
 
--- a fault of the lines is one of the run
+-- In either mode, a fault that stops the lines is a fault of the run.
 runs_fault : (config : Config) (mode : Mode) (read text : List ℕ) (rest : Option (List ℕ)) (fault : RunFault)
     → Runs config mode read rest (Err fault) text
     → RunsIn config mode read rest (Err fault) text
@@ -30,7 +30,7 @@ runs_fault config Explained read text rest Input runs = runs
 runs_fault config Explained read text rest Output runs = inl runs
 runs_fault config Explained read text rest Memory runs = runs
 
--- memory was refused at the start
+-- If memory is refused at the start, the run stops with `Memory`; nothing is read or printed.
 pub no_memory : (config : Config) (mode : Mode) (reader first : Option (List ℕ)) (result : Result ⊤ RunFault) → IsErr result
     → IsErrAnd result (λ e. e ≡ Memory) → ScriptRuns config mode reader reader first first result
 no_memory config mode reader first (Ok all) failed is = absurd cc
@@ -43,7 +43,7 @@ no_memory config mode reader first (Err e) failed is = (
       (runs_fault config mode [] [] reader Memory (inl (refl, refl))),
 )
 
--- the lines stopped
+-- If a step stops with a fault, the run stops with this fault.
 pub end_stop : (config : Config) (mode own : Mode) (server : State) (reader after first last : Option (List ℕ)) (fault : RunFault)
     (result : Result ⊤ RunFault) → own ≡ mode → IsErr result → IsErrAnd result (λ e. e ≡ fault)
     → StepsRun config own server reader after first last (Err fault) → ScriptRuns config mode reader after first last result
@@ -57,14 +57,14 @@ end_stop config mode own server reader after first last fault (Err e) same faile
       (runs_fault config mode read text after fault (subst (λ (m : Mode). Runs config m read after (Err fault) text) same runs)),
 )
 
--- nothing comes behind the lines of a plain replay
+-- A plain replay prints nothing after its last line.
 pub end_plain : (config : Config) (server : State) (reader after first last : Option (List ℕ))
     → StepsRun config Plain server reader after first last (Ok tt)
     → ScriptRuns config Plain reader after first last (Ok tt)
 end_plain config server reader after first last (read, text, took, put, (events, history, script, prints, stands)) =
     (read, text, took, put, (events, history, script, prints))
 
--- the line of the clock comes behind the lines of an explained one
+-- An explained replay prints the line with the clock after its last line.
 pub end_explained : (config : Config) (server : State) (reader after first mid last : Option (List ℕ)) (result : Result ⊤ RunFault)
     → IsAtEnd after → StepsRun config Explained server reader after first mid (Ok tt)
     → ((config : Config) (history : List PlainEvent) (log : List Act) → StandsFor server config history → IsLogOf config history log
@@ -89,7 +89,7 @@ end_explained config server reader after first mid last (Err e) end (read, text,
           (inr (text, _, part, (events, history, stands.log, script, prints, stands.is_log, refl), front, end, refl)),
     )
 
--- behind an answer, the output failed
+-- If the output fails after the last step, the text is that of a run that stops with `Output`.
 instead : (config : Config) (mode : Mode) (read text : List ℕ) (tail : Option (List ℕ)) (answer : Result ⊤ RunFault)
     → OnOk answer (IsAtEnd tail)
     → RunsIn config mode read tail answer text → RunsIn config mode read tail (Err Output) text
@@ -102,7 +102,7 @@ instead config Explained read text tail (Err Input) end runs = inl (output_inste
 instead config Explained read text tail (Err Output) end runs = runs
 instead config Explained read text tail (Err Memory) end runs = inl (output_instead config Explained read text tail (Err Memory) end runs)
 
--- what was printed is passed on, and then the answer is told, or the output's fault
+-- After the output is flushed, the run returns its result, or `Output` if flushing failed.
 pub run_told : (config : Config) (mode : Mode) (reader after first mid last : Option (List ℕ)) (answer result : Result ⊤ RunFault)
     → OnOk answer (IsAtEnd after) → (result ≡ answer) ⊎ (result ≡ Err Output) → Keeps mid last
     → ScriptRuns config mode reader after first mid answer → ScriptRuns config mode reader after first last result

@@ -1,4 +1,4 @@
--- What is read from a line of a scenario is what it says.
+-- The entry that is read from a line of a scenario is the one that the line describes.
 use Rattle.std.proofs.Common.{◌≡◌, ◌≢◌, ℕ, true, cond, ltb, List, [], ◌∷◌, ◌++◌, length, Option, Some, None, refl, sym, subst, ap, ◌∙◌, inl, inr}
 use Rattle.std.specs.Prelude.{codes, is_none, IfSome}
 use Rattle.std.proofs.lemmas.Bool.{cases_Bool, ltb-true, ltb-false}
@@ -16,12 +16,11 @@ use Rattle.sv_replay.proofs.Options.{chosen, by_word}
 use Rattle.sv_replay.proofs.Numbers.{voltage_reads, voltage_takes, short_reads, short_takes}
 use Rattle.sv_replay.proofs.Lines.{cut_reads, cut_takes, numbered_reads, numbered_takes}
 
--- the test of nothing
 none_is : {A : Type 0} (o : Option A) → is_none o ≡ true → o ≡ None
 none_is None is = refl
 none_is (Some x) is = absurd cc
 
--- an input that the server accepts is read
+-- A text that describes a stimulus is read as this stimulus, if the server accepts it.
 pub accepted_reads : (text : List ℕ) (stimulus : Stimulus) → SaysEvent text (stimulus_event stimulus) → IsAccepted stimulus
     → stimulus_at text ≡ Some stimulus
 unfolding stimulus_at cut_at lone_stimulus_at worded_stimulus_at accepted_at
@@ -30,7 +29,7 @@ accepted_reads text (Input channel microvolts) is fine =
     (ap (λ o. cond (is_none o) (Some (Input channel microvolts)) None) fine)
 accepted_reads text External is fine = rw is refl
 
--- an input that was read is said, and the server accepts it
+-- A text that is read as an `input` describes it, and the server accepts it.
 accepted_takes : (text rest : List ℕ) (stimulus : Stimulus) → text ≡ codes "input" ++ 32 ∷ rest → accepted_at rest ≡ Some stimulus
     → SaysEvent text (stimulus_event stimulus) × IsAccepted stimulus
 unfolding accepted_at
@@ -45,7 +44,7 @@ accepted_takes text rest stimulus text_is e =
     )))
     (λ _ none. absurd (none-some stimulus none))))
 
--- a stimulus that was read from a text that was cut is said
+-- The same for a text that was cut at its first space.
 cut_takes_stimulus : (text : List ℕ) (cut : Option (List ℕ × List ℕ)) (stimulus : Stimulus) → cut_at text ≡ cut
     → cut_stimulus_at text cut ≡ Some stimulus → SaysEvent text (stimulus_event stimulus) × IsAccepted stimulus
 unfolding lone_stimulus_at worded_stimulus_at
@@ -59,19 +58,19 @@ cut_takes_stimulus text (Some cut) stimulus cut_is e =
     (subst (λ (w : List ℕ). text ≡ w ++ 32 ∷ cut.1) is (cut_takes text cut cut_is)) e1)
     (λ none. absurd (none-some stimulus none))
 
--- a stimulus that was read is said
+-- A text that is read as a stimulus describes it, and the server accepts it.
 pub stimulus_takes : (text : List ℕ) (stimulus : Stimulus) → stimulus_at text ≡ Some stimulus
     → SaysEvent text (stimulus_event stimulus) × IsAccepted stimulus
 unfolding stimulus_at
 stimulus_takes text stimulus e = cut_takes_stimulus text (cut_at text) stimulus refl e
 
--- an entry that is said is read
+-- A line that describes an entry is read as this entry.
 pub entry_reads : (line : List ℕ) (entry : Entry) → SaysEntry line entry → entry_at line ≡ Some entry
 unfolding entry_at
 entry_reads line entry (digits, text, is, short, says, fine, line_is) =
     rw (line_is, cut_reads digits text is.1, short_reads entry.tick digits is short, accepted_reads text entry.stimulus says fine) refl
 
--- an entry that was read is said
+-- A line that is read as an entry describes it.
 entry_takes : (line : List ℕ) (entry : Entry) → entry_at line ≡ Some entry → SaysEntry line entry
 unfolding entry_at
 entry_takes line entry e =
@@ -83,17 +82,16 @@ entry_takes line entry e =
     let says = stimulus_takes cut.1 stimulus acts in
     subst (SaysEntry line) (same_Some found entry e3) (cut.0, cut.1, takes.0, takes.1, says.0, says.1, cut_takes line cut cut_is))))
 
--- what a result says
 pub stimulus_found : (text : List ℕ) (result : Option Stimulus) → result ≡ stimulus_at text
     → IfSome result (λ stimulus. SaysEvent text (stimulus_event stimulus) × IsAccepted stimulus)
 stimulus_found text None is = tt
 stimulus_found text (Some stimulus) is = stimulus_takes text stimulus (sym is)
 
--- a line says one entry alone
+-- A line describes at most one entry.
 pub one_entry : (line : List ℕ) (a b : Entry) → SaysEntry line a → SaysEntry line b → a ≡ b
 one_entry line a b says_a says_b = same_Some a b (sym (entry_reads line a says_a) ∙ entry_reads line b says_b)
 
--- an entry of a tick or a later one that was read is said
+-- A line that is read as an entry at `least` or later describes such an entry.
 pub from_takes : (least : ℕ) (line : List ℕ) (entry : Entry) → entry_from least line ≡ Some entry → SaysFrom least line entry
 unfolding entry_from
 from_takes least line entry e =
@@ -105,7 +103,7 @@ from_takes least line entry e =
     (λ late e3. subst (SaysFrom least line) (same_Some found entry e3)
     (ltb-false 65536 (length line) short, entry_takes line found read, ltb-false found.tick least late))))
 
--- a line from which none is read is bad
+-- A line that can't be read as an entry at `least` or later is bad, unless it is empty.
 pub from_none : (least : ℕ) (line : List ℕ) → line ≢ [] → entry_from least line ≡ None → IsBadFrom least line
 unfolding entry_from
 from_none least line some e = elim (cases_Bool (ltb 65536 (length line))) [

@@ -1,4 +1,4 @@
--- What one turn of a run makes of a stage.
+-- How one step of a run leads from one stage of the replay to the next.
 use Rattle.std.proofs.Common.{◌≡◌, ℕ, ◌+◌, ◌<◌, true, false, Bool, List, [], ◌∷◌, ◌++◌, length, take, drop, Option, Some, None, refl, sym, ap, subst, ◌∙◌, inl, inr, append-nil, append_assoc, arith}
 use Rattle.std.specs.Prelude.{Result, Ok, Err, ⊤, IsErr, IsErrAnd}
 use Rattle.std.proofs.lemmas.List.{take_all}
@@ -26,11 +26,11 @@ keeps_appends (Some xs) None new a x y = elim x [ ]
 keeps_appends (Some xs) (Some ys) None a x y = elim y [ ]
 keeps_appends (Some xs) (Some ys) (Some zs) a x y = y ∙ ap (λ (l : List ℕ). l ++ a) x
 
--- where nothing more was read
+-- If nothing more was read, a fact about what was read still holds.
 still : (fact : List ℕ → Type 0) (read more : List ℕ) → more ≡ [] → fact read → fact (read ++ more)
 still fact read more none holds = subst fact (sym (append-nil read) ∙ ap (λ (l : List ℕ). read ++ l) (sym none)) holds
 
--- a fault that is passed on
+-- A step that passes a fault on stops the run with this fault.
 goes_err : (config : Config) (mode : Mode) (server : State) (left : List ℕ) (number : ℕ) (rest : Option (List ℕ)) (fault : RunFault)
     (result : Result Bool RunFault)
     (read text : List ℕ) → IsErr result → IsErrAnd result (λ e. e ≡ fault)
@@ -39,7 +39,7 @@ goes_err config mode server left number rest fault (Ok more) read text failed is
 goes_err config mode server left number rest fault (Err e) read text failed is runs =
     subst (λ (f : RunFault). Runs config mode read rest (Err f) text) (sym is) runs
 
--- what a turn makes of each stage
+-- A step leads from `IsStage` to what `Goes` states of its result.
 abbrev pub Going : Config → Mode → State → State → List ℕ → List ℕ → ℕ → ℕ → Option (List ℕ) → Option (List ℕ) → Option (List ℕ)
     → Option (List ℕ)
     → Result Bool RunFault → Type 0
@@ -137,7 +137,7 @@ go_read config mode old left rest more number reader after first last kept took 
       (stage_read config mode old left number read text more stage)),
 )
 
--- the last line is all that is left
+-- If no new line is left, the remaining text is the last line.
 last_line : (left more rest line : List ℕ) → first_end left ≡ None → rest ≡ left ++ more → more ≡ [] → line ≡ take (length rest) rest
     → parts left ≡ line ∷ []
 last_line left more rest line none is given cut =
@@ -190,7 +190,7 @@ consumes_then (Some xs) None new a b x y = elim x [ ]
 consumes_then (Some xs) (Some ys) None a b x y = elim y [ ]
 consumes_then (Some xs) (Some ys) (Some zs) a b x y = x ∙ ap (λ (l : List ℕ). a ++ l) y ∙ sym (append_assoc a b zs)
 
--- what was read and printed since the start
+-- What was read and printed since the start of the run, and a fact about it.
 abbrev pub SoFar : Option (List ℕ) → Option (List ℕ) → Option (List ℕ) → Option (List ℕ) → (List ℕ → List ℕ → Type 0) → Type 0
 SoFar reader after first last fact = (read text : List ℕ) × Consumes reader after read × Appends first last text × fact read text
 
@@ -207,7 +207,7 @@ so_far_start config mode server left number reader first s none zero_lines = (
       (subst (λ (n : ℕ). IsStage config mode server [] n [] []) (sym zero_lines) (stage_start config mode server s)),
 )
 
--- one turn more, in the same mode
+-- Another step keeps the account of what was read and printed.
 pub so_far_turn : (config : Config) (mode own : Mode) (old new : State) (left rest : List ℕ) (number next : ℕ)
     (reader middle after first mid last : Option (List ℕ)) (result : Result Bool RunFault) → own ≡ mode
     → SoFar reader middle first mid (λ read text. IsStage config mode old left number read text)

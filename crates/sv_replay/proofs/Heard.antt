@@ -1,4 +1,4 @@
--- What a reader was heard to give, and what a run answers.
+-- The reads that a run made, when the run stops or returns.
 use Rattle.std.proofs.Common.{◌≡◌, ◌⊎◌, ℕ, Bool, List, Result, Ok, Err, subst, sym, inl, inr, IsErr, IsErrAnd}
 use Rattle.std.specs.Prelude.{⊤, IfErr}
 use Rattle.sv_replay.specs.declared.fault.RunFault.{RunFault}
@@ -10,13 +10,13 @@ use Rattle.sv_replay.specs.Run.{run_fault}
 use Rattle.sv_replay.specs.Stage.{WhileGoing}
 use Rattle.sv_replay.specs.Reads.{Gave, Made, IsLast, IsReadOn, OnInput, IsReadOut}
 
--- a fault that is passed on
+-- What is claimed for a fault holds for a result that passes the fault on.
 pub on_input : {A : Type 0} (result : Result A RunFault) (fault : RunFault) (fact : Type 0) → IsErr result
     → IsErrAnd result (λ e. e ≡ fault) → OnInput {A = A} (Err fault) fact → OnInput result fact
 on_input (Ok a) fault fact failed is on = absurd cc
 on_input {A = A} (Err e) fault fact failed is on = subst (λ (f : RunFault). OnInput {A = A} (Err f) fact) (sym is) on
 
--- a fault that is not the input's
+-- If the result isn't the fault `Input`, nothing is claimed of the reads.
 pub other_fault : {A : Type 0} (result : Result A RunFault) (fact : Type 0) → OnInput result ⊥ → OnInput result fact
 other_fault (Ok a) fact none = tt
 other_fault (Err (BadLine n)) fact none = tt
@@ -24,31 +24,30 @@ other_fault (Err Input) fact none = absurd none
 other_fault (Err Output) fact none = tt
 other_fault (Err Memory) fact none = tt
 
--- the fault of a replay is not
+-- A fault of a replay is never reported as `Input`.
 pub of_replay : (A : Type 0) (fault : ReplayFault) → OnInput {A = A} (Err (run_fault fault)) ⊥
 of_replay A NoMemory = tt
 of_replay A Write = tt
 
--- a run that stops doesn't go on
 pub not_going : (result : Result Bool RunFault) (fact : Type 0) → IsErr result → WhileGoing result fact
 not_going (Ok more) fact failed = absurd cc
 not_going (Err e) fact failed = tt
 
--- a fault of a read that is passed on
+-- A failed read is the last one, and its fault is passed on.
 pub read_failed : {S : Type 0} (gives : S → Gave → S → Type 0) (first last : S) (count : ℕ) (reads : List Gave)
     (result : Result Bool InputFault)
     → IsErr result → Made gives first reads last → IsLast reads → IsReadOn gives first last count result
 read_failed gives first last count reads (Ok more) failed made is = absurd cc
 read_failed gives first last count reads (Err fault) failed made is = (reads, made, is)
 
--- the answer of a run, or the output's fault in its place
+-- The reads stay as they were, whether the run returns its result or `Output` in its place.
 pub read_out : {S : Type 0} (gives : S → Gave → S → Type 0) (first last : S) (answer result : Result ⊤ RunFault)
     → (result ≡ answer) ⊎ (result ≡ Err Output) → IsReadOut gives first last answer → IsReadOut gives first last result
 read_out gives first last answer result (inl same) out = subst (λ (r : Result ⊤ RunFault). IsReadOut gives first last r) (sym same) out
 read_out gives first last answer result (inr failed) (reads, made, on) =
     subst (λ (r : Result ⊤ RunFault). IsReadOut gives first last r) (sym failed) (reads, made, tt)
 
--- behind the lines of a run only the output fails
+-- After the last line, only the output can fail; no read is made.
 pub read_end : {S : Type 0} (gives : S → Gave → S → Type 0) (first last : S) (result : Result ⊤ RunFault)
     → IfErr result (λ e. e ≡ Output) → IsReadOut gives first last (Ok tt) → IsReadOut gives first last result
 read_end gives first last (Ok all) is out = out

@@ -1,4 +1,4 @@
--- What is read as bytes is what the hexadecimal digits spell.
+-- The bytes that are read from a text are those that its hexadecimal digits spell.
 use Rattle.std.proofs.Common.{◌≡◌, ℕ, ◌+◌, ◌-◌, ◌*◌, ◌<◌, ◌≤◌, true, false, eqb, leb, ◌&&◌, List, [], ◌∷◌, Some, option_map, refl, sym, subst, ap, ◌∙◌, ◌⊎◌, inl, inr, arith}
 use Rattle.std.proofs.lemmas.Bool.{and_from, and_parts, and_right, le-leb, lt-leb, leb-true, eqb-true, ne_eqb}
 use Rattle.std.proofs.lemmas.Option.{none-some, same_Some, option_and_then_some}
@@ -6,15 +6,13 @@ use Rattle.sv_replay.specs.Line.{IsHexDigit, IsPair, IsHex}
 use Rattle.sv_replay.specs.Reading.{hex_digit_at, pair_at, hex_at}
 use Rattle.sv_replay.proofs.Options.{map_some, chosen}
 
--- a number between two is between them
 within : (low high n : ℕ) → low ≤ n → n ≤ high → (leb low n && leb n high) ≡ true
 within low high n below above = and_from (leb low n) (leb n high) (le-leb low n below) (le-leb n high above)
 
--- nor between two that are both below it
 beyond : (low high n : ℕ) → high < n → (leb low n && leb n high) ≡ false
 beyond low high n above = and_right (leb low n) (leb n high) (lt-leb n high above)
 
--- a digit that is spelled is read
+-- A hexadecimal digit is read as its value.
 digit_reads : (digit n : ℕ) → IsHexDigit digit n → hex_digit_at digit ≡ Some n
 unfolding hex_digit_at
 digit_reads digit n is = elim is.1 [
@@ -26,11 +24,10 @@ digit_reads digit n is = elim is.1 [
   ]
 ]
 
--- a number that is between two
 between : (low high n : ℕ) → (leb low n && leb n high) ≡ true → (low ≤ n) × (n ≤ high)
 between low high n e = let parts = and_parts (leb low n) (leb n high) e in (leb-true low n parts.0, leb-true n high parts.1)
 
--- a digit that is read is spelled
+-- A character that is read as a value is the hexadecimal digit for it.
 digit_takes : (digit n : ℕ) → hex_digit_at digit ≡ Some n → IsHexDigit digit n
 unfolding hex_digit_at
 digit_takes digit n e =
@@ -45,12 +42,12 @@ digit_takes digit n e =
     (omega arith, inr (inr (omega arith, omega arith))))
     (λ _ none. absurd (none-some n none))))
 
--- a byte that is spelled is read
+-- Two hexadecimal digits are read as the byte that they spell.
 pair_reads : (high low byte : ℕ) → IsPair high low byte → pair_at high low ≡ Some byte
 unfolding pair_at
 pair_reads high low byte is = rw (digit_reads high is.0 is.2, digit_reads low is.1 is.3) (ap Some (sym is.4))
 
--- a byte that is read is spelled
+-- Two characters that are read as a byte are hexadecimal digits that spell it.
 pair_takes : (high low byte : ℕ) → pair_at high low ≡ Some byte → IsPair high low byte
 unfolding pair_at
 pair_takes high low byte e =
@@ -58,7 +55,6 @@ pair_takes high low byte e =
     option_and_then_some _ (hex_digit_at low) byte e1 (λ l low_is e2.
     (h, l, digit_takes high h high_is, digit_takes low l low_is, sym (same_Some (16 * h + l) byte e2))))
 
--- a digit is no space
 digit_no_space : (digit n : ℕ) → IsHexDigit digit n → digit ≡ 32 → ⊥
 digit_no_space digit n is e = elim is.1 [
   | inl decimal ↦ omega arith
@@ -66,7 +62,7 @@ digit_no_space digit n is e = elim is.1 [
       elim letter [ inl upper ↦ omega arith | inr lower ↦ omega arith ]
 ]
 
--- bytes begin with a digit
+-- A text that spells bytes begins with a digit, not with a space.
 hex_front : (text bytes : List ℕ) → IsHex text bytes → (digit : ℕ) × (rest : List ℕ) × (text ≡ digit ∷ rest) × (eqb digit 32 ≡ false)
 hex_front text [] is = absurd is
 hex_front text (byte ∷ []) is = (is.0, is.1 ∷ [], is.3, ne_eqb is.0 32 (digit_no_space is.0 is.2.0 is.2.2))
@@ -74,7 +70,7 @@ hex_front text (byte ∷ other ∷ bytes) is =
     let front = ne_eqb is.0 32 (digit_no_space is.0 is.3.0 is.3.2) in
     elim is.5 [ inl close ↦ (is.0, is.1 ∷ is.2, close, front) | inr apart ↦ (is.0, is.1 ∷ 32 ∷ is.2, apart, front) ]
 
--- bytes that are spelled are read
+-- A text that spells bytes is read as these bytes.
 pub hex_reads : (text bytes : List ℕ) → IsHex text bytes → hex_at text ≡ Some bytes
 unfolding hex_at
 hex_reads text [] is = absurd is
@@ -88,13 +84,12 @@ hex_reads text (byte ∷ other ∷ bytes) is =
       | inr apart ↦ rw (apart, pair_reads is.0 is.1 byte is.3, more) refl
     ]
 
--- a byte in front of bytes
 hex_joins : (text rest bytes : List ℕ) (high low byte : ℕ) → IsPair high low byte → IsHex rest bytes
     → (text ≡ high ∷ low ∷ rest) ⊎ (text ≡ high ∷ low ∷ 32 ∷ rest) → IsHex text (byte ∷ bytes)
 hex_joins text rest [] high low byte pair more e = absurd more
 hex_joins text rest (other ∷ bytes) high low byte pair more e = (high, low, rest, pair, more, e)
 
--- bytes that are read are spelled
+-- A text that is read as bytes spells them.
 pub hex_takes : (text bytes : List ℕ) → hex_at text ≡ Some bytes → IsHex text bytes
 unfolding hex_at
 hex_takes [] bytes e = absurd (none-some bytes e)

@@ -1,4 +1,4 @@
--- What is read from a line is what it says.
+-- The meaning that is read from a line of a replay is the one that the line has.
 use Rattle.std.proofs.Common.{◌≡◌, ℕ, Bool, true, false, eqb, List, [], ◌∷◌, ◌++◌, Option, Some, None, option_map, option_and_then, refl, sym, subst, ap, ◌∙◌, arith}
 use Rattle.std.specs.Prelude.{codes, IfSome, IsSomeAnd}
 use Rattle.std.proofs.lemmas.Bool.{eqb-true, eqb-false, ne_eqb}
@@ -16,14 +16,14 @@ use Rattle.sv_replay.proofs.Options.{map_some, chosen, by_word}
 use Rattle.sv_replay.proofs.Numbers.{AreDigits, plain_reads, plain_takes, voltage_reads, voltage_takes}
 use Rattle.sv_replay.proofs.Hexes.{hex_reads, hex_takes}
 
--- digits in front of a space are cut off there
+-- Digits that a space follows are cut off at this space.
 pub cut_reads : (digits rest : List ℕ) → AreDigits digits → cut_at (digits ++ 32 ∷ rest) ≡ Some (digits, rest)
 unfolding cut_at
 cut_reads [] rest are = refl
 cut_reads (digit ∷ digits) rest are =
     rw (ne_eqb digit 32 (λ e. omega (arith, are.0.0)), cut_reads digits rest are.1) refl
 
--- what was cut is a text around a space
+-- A text that was cut is the first part, a space and the second part.
 pub cut_takes : (text : List ℕ) (cut : List ℕ × List ℕ) → cut_at text ≡ Some cut → text ≡ cut.0 ++ 32 ∷ cut.1
 unfolding cut_at
 cut_takes [] cut e = absurd (none-some cut e)
@@ -35,12 +35,11 @@ cut_takes (byte ∷ bytes) cut e =
     (λ _ e1. map_some (λ c. (byte ∷ c.0, c.1)) (cut_at bytes) cut e1 (λ c read e2.
     subst (λ (d : List ℕ × List ℕ). byte ∷ bytes ≡ d.0 ++ 32 ∷ d.1) e2 (ap (λ bs. byte ∷ bs) (cut_takes bytes c read))))
 
--- a number, a space and what follows are read
 pub numbered_reads : (c : ℕ) (number rest : List ℕ) → IsPlain 255 number c → numbered_at (number ++ 32 ∷ rest) ≡ Some (c, rest)
 unfolding numbered_at
 numbered_reads c number rest is = rw (cut_reads number rest is.0.1, plain_reads 255 c number is) refl
 
--- what was read as a number and what follows are in the text
+-- A text that is read as a number of at most 255 and a rest is this number, a space and the rest.
 pub numbered_takes : {P : Type 0} (text : List ℕ) (x : ℕ × List ℕ) → numbered_at text ≡ Some x
     → ((number : List ℕ) → IsPlain 255 number x.0 → text ≡ number ++ 32 ∷ x.1 → P) → P
 unfolding numbered_at
@@ -51,13 +50,11 @@ numbered_takes {P} text x e then =
     subst (λ (y : ℕ × List ℕ). ((number : List ℕ) → IsPlain 255 number y.0 → text ≡ number ++ 32 ∷ y.1 → P) → P) (same_Some found x e2)
     (λ f. f cut.0 (plain_takes 255 n cut.0 plain) (cut_takes text cut cut_is)) then))
 
--- a role is read from its word
 role_reads : (role : Role) → role_at (role_word role) ≡ Some role
 unfolding role_at
 role_reads Core = refl
 role_reads _ = refl
 
--- a role that is read is that of the word
 role_takes : (word : List ℕ) (role : Role) → role_at word ≡ Some role → word ≡ role_word role
 unfolding role_at
 role_takes word role e =
@@ -66,13 +63,11 @@ role_takes word role e =
     by_word word (codes "portmap") _ _ (Some role) e2 (λ is e3. is ∙ ap role_word (same_Some Portmap role e3)) (λ none.
     absurd (none-some role none))))
 
--- an outcome is read from its word
 ok_reads : (ok : Bool) → ok_at (ok_word ok) ≡ Some ok
 unfolding ok_at
 ok_reads true = refl
 ok_reads false = refl
 
--- an outcome that is read is that of the word
 ok_takes : (word : List ℕ) (ok : Bool) → ok_at word ≡ Some ok → word ≡ ok_word ok
 unfolding ok_at
 ok_takes word ok e =
@@ -80,7 +75,7 @@ ok_takes word ok e =
     by_word word (codes "failed") _ _ (Some ok) e1 (λ is e2. is ∙ ap ok_word (same_Some false ok e2)) (λ none.
     absurd (none-some ok none)))
 
--- an event that is said is read
+-- A line that describes an event is read as this event.
 event_reads : (line : List ℕ) (event : PlainEvent) → SaysEvent line event → line_at line ≡ Some (One event)
 unfolding line_at cut_at words_at event_at traffic_at lone_at open_at bytes_at dialed_at input_at port_at
 event_reads line (Open c role) is = rw (is.2, numbered_reads c is.0 (role_word role) is.1, role_reads role) refl
@@ -95,18 +90,18 @@ event_reads line (Input channel microvolts) is = rw (is.4, numbered_reads channe
 event_reads line External is = rw is refl
 event_reads line Tick is = rw is refl
 
--- what is said is read
+-- A line is read as the meaning that it has.
 pub line_reads : (line : List ℕ) (what : Line) → Says line what → line_at line ≡ Some what
 unfolding line_at cut_at words_at lone_at ticks_at
 line_reads line Blank is = rw is refl
 line_reads line (One event) is = event_reads line event is
 line_reads line (Ticks n) is = rw (is.3, plain_reads 1000000 n is.0 is.1, ne_eqb n 0 (λ e. omega (arith, is.2))) refl
 
--- a line says one thing alone
+-- A line has at most one meaning.
 pub one_line : (line : List ℕ) (a b : Line) → Says line a → Says line b → a ≡ b
 one_line line a b says_a says_b = same_Some a b (sym (line_reads line a says_a) ∙ line_reads line b says_b)
 
--- what was read as milliseconds is said
+-- A line that is read as a number of ticks means them.
 ticks_takes : (line text : List ℕ) (what : Line) → line ≡ codes "tick" ++ 32 ∷ text → ticks_at text ≡ Some what → Says line what
 unfolding ticks_at
 ticks_takes line text what line_is e =
@@ -116,7 +111,8 @@ ticks_takes line text what line_is e =
     (λ some e2. subst (Says line) (same_Some (Ticks n) what e2)
     (text, plain_takes 1000000 n text plain, (let h : n ≡ 0 → ⊥ = eqb-false n 0 some in omega arith), line_is)))
 
--- what was read behind a number is said
+-- The common form of a line `word number rest`: if the rest is read as a value, the line describes
+-- the event made from the number and the value.
 behind_number : {A : Type 0} (at : List ℕ → Option A) (make : ℕ → A → PlainEvent) (line text : List ℕ) (event : PlainEvent)
     → ((x : ℕ × List ℕ) (value : A) (number : List ℕ) → IsPlain 255 number x.0 → at x.1 ≡ Some value → text ≡ number ++ 32 ∷ x.1
     → SaysEvent line (make x.0 value))
@@ -128,34 +124,29 @@ behind_number at make line text event said e =
     numbered_takes text x numbered (λ number plain text_is.
     subst (SaysEvent line) (same_Some (make x.0 value) event e2) (said x value number plain read text_is))))
 
--- what was read as an opening is said
 open_takes : (line text : List ℕ) (event : PlainEvent) → line ≡ codes "open" ++ 32 ∷ text → open_at text ≡ Some event → SaysEvent line event
 unfolding open_at
 open_takes line text event line_is e = behind_number role_at Open line text event (λ x role number plain read text_is.
     (number, plain, rw (← role_takes x.1 role read) (line_is ∙ ap (λ t. codes "open " ++ t) text_is))) e
 
--- what was read as bytes is said
 bytes_takes : (line text : List ℕ) (event : PlainEvent) → line ≡ codes "bytes" ++ 32 ∷ text → bytes_at text ≡ Some event
     → SaysEvent line event
 unfolding bytes_at
 bytes_takes line text event line_is e = behind_number hex_at Bytes line text event (λ x piece number plain read text_is.
     (number, x.1, plain, hex_takes x.1 piece read, line_is ∙ ap (λ t. codes "bytes " ++ t) text_is)) e
 
--- what was read as the outcome of dialing is said
 dialed_takes : (line text : List ℕ) (event : PlainEvent) → line ≡ codes "dialed" ++ 32 ∷ text → dialed_at text ≡ Some event
     → SaysEvent line event
 unfolding dialed_at
 dialed_takes line text event line_is e = behind_number ok_at Dialed line text event (λ x ok number plain read text_is.
     (number, plain, rw (← ok_takes x.1 ok read) (line_is ∙ ap (λ t. codes "dialed " ++ t) text_is))) e
 
--- what was read as an input is said
 input_takes : (line text : List ℕ) (event : PlainEvent) → line ≡ codes "input" ++ 32 ∷ text → input_at text ≡ Some event
     → SaysEvent line event
 unfolding input_at
 input_takes line text event line_is e = behind_number voltage_at Input line text event (λ x microvolts number plain read text_is.
     (number, x.1, plain, voltage_takes x.1 microvolts read, line_is ∙ ap (λ t. codes "input " ++ t) text_is)) e
 
--- what was read as a closing is said
 close_takes : (line text : List ℕ) (port : Port) → line ≡ codes "close" ++ 32 ∷ text → port_at text ≡ Some port
     → SaysEvent line (Close port)
 unfolding port_at
@@ -171,15 +162,14 @@ close_takes line (letter ∷ number) port line_is e =
     (number, plain_takes 255 c number plain, line_is ∙ ap (λ b. codes "close " ++ b ∷ number) (eqb-true letter 105 is))))
     (λ _ none. absurd (none-some port none)))
 
--- a line of a word and a text
+-- The line is a word, a space and a text.
 abbrev IsWords : List ℕ → List ℕ → List ℕ → Type 0
 IsWords line word text = line ≡ word ++ 32 ∷ text
 
--- the word of a line of words, written out
 worded : (line word w text : List ℕ) → IsWords line word text → word ≡ w → IsWords line w text
 worded line word w text line_is is = subst (λ (v : List ℕ). IsWords line v text) is line_is
 
--- what was read as traffic is said
+-- A line that is read as a Bytes, Turn or Refuse event describes it.
 traffic_takes : (line word text : List ℕ) (event : PlainEvent) → IsWords line word text → traffic_at word text ≡ Some event
     → SaysEvent line event
 unfolding traffic_at
@@ -192,7 +182,7 @@ traffic_takes line word text event line_is e =
     subst (SaysEvent line) event_is (text, plain_takes 255 c text plain, worded line word (codes "refuse") text line_is is))) (λ none.
     absurd (none-some event none))))
 
--- what was read as an event of a connection is said
+-- A line that is read as an event of a connection or an interrupt channel describes it.
 event_takes : (line word text : List ℕ) (event : PlainEvent) → IsWords line word text → event_at word text ≡ Some event
     → SaysEvent line event
 unfolding event_at
@@ -205,7 +195,7 @@ event_takes line word text event line_is e =
     (λ is e3. dialed_takes line text event (worded line word (codes "dialed") text line_is is) e3) (λ e3.
     traffic_takes line word text event line_is e3)))
 
--- what was read from words is said
+-- A line of several words has the meaning that is read from it.
 words_takes : (line word text : List ℕ) (what : Line) → IsWords line word text → words_at word text ≡ Some what → Says line what
 unfolding words_at
 words_takes line word text what line_is e =
@@ -217,7 +207,7 @@ words_takes line word text what line_is e =
     (λ e2. map_some One (event_at word text) what e2 (λ event read what_is.
     subst (Says line) what_is (event_takes line word text event line_is read))))
 
--- what was read from one word is said
+-- An empty line or a line of one word has the meaning that is read from it.
 lone_takes : (line : List ℕ) (what : Line) → lone_at line ≡ Some what → Says line what
 unfolding lone_at
 lone_takes line what e =
@@ -226,24 +216,24 @@ lone_takes line what e =
     by_word line (codes "tick") _ _ (Some what) e2 (λ is e3. subst (Says line) (same_Some (One Tick) what e3) is) (λ none.
     absurd (none-some what none))))
 
--- what was read from a line that was cut is said
+-- The same for a line that was cut at its first space.
 cut_line_takes : (line : List ℕ) (cut : Option (List ℕ × List ℕ)) (what : Line) → cut_at line ≡ cut → cut_line_at line cut ≡ Some what
     → Says line what
 cut_line_takes line None what cut_is e = lone_takes line what e
 cut_line_takes line (Some cut) what cut_is e = words_takes line cut.0 cut.1 what (cut_takes line cut cut_is) e
 
--- what is read is said
+-- A line has the meaning that is read from it.
 pub line_takes : (line : List ℕ) (what : Line) → line_at line ≡ Some what → Says line what
 unfolding line_at
 line_takes line what e = cut_line_takes line (cut_at line) what refl e
 
--- what a reading gives is said
+-- The meaning that the code found is one of the line.
 pub line_found : (line : List ℕ) (read : Option Command) → option_map plain_line read ≡ line_at line
     → IfSome read (λ l. Says line (plain_line l))
 line_found line None e = tt
 line_found line (Some l) e = line_takes line (plain_line l) (sym e)
 
--- what is said is what a reading gives
+-- The code finds each meaning of the line.
 pub line_only : (line : List ℕ) (read : Option Command) (what : Line) → option_map plain_line read ≡ line_at line → Says line what
     → IsSomeAnd read (λ l. plain_line l ≡ what)
 line_only line None what e says = absurd (none-some what (e ∙ line_reads line what says))

@@ -1,4 +1,4 @@
--- What is read as a number is what the digits spell.
+-- The number or voltage that is read from a text is the one that its digits spell.
 use Rattle.std.proofs.Common.{◌≡◌, ℕ, ◌+◌, ◌-◌, ◌*◌, ◌^◌, ◌≤◌, zero, suc, true, false, ltb, leb, ℤ, pos, negsuc, neg_ℤ, List, [], ◌∷◌, length, drop, Some, option_map, fold, refl, sym, subst, ap, ◌∙◌, inl, inr, add-one, arith}
 use Rattle.sv_text.specs.Front.{has_minus}
 use Rattle.std.specs.Char.{is_ascii_digit}
@@ -10,20 +10,20 @@ use Rattle.sv_replay.specs.Line.{IsNumber, HasNoLeadingZero, IsPlain, IsVoltage}
 use Rattle.sv_replay.specs.Reading.{digits_onto, number_at, has_leading_zero, plain_at, short_at, voltage_at}
 use Rattle.sv_replay.proofs.Options.{map_some, chosen}
 
--- decimal digits alone
+-- The characters are decimal digits.
 abbrev pub AreDigits : List ℕ → Type 0
 AreDigits digits = AllByRecursion (λ digit. (48 ≤ digit) × (digit ≤ 57)) digits
 
--- the number n with these digits behind it
+-- The number whose decimal digits are those of `n` and then these.
 abbrev onto : ℕ → List ℕ → ℕ
 onto n digits = fold (λ m digit. 10 * m + (digit - 48)) n digits
 
--- a number with digits behind it is no smaller
+-- More digits never make a number smaller, so a partial value above the limit is final.
 onto_more : (n : ℕ) (digits : List ℕ) → n ≤ onto n digits
 onto_more n [] = omega arith
 onto_more n (digit ∷ digits) = omega (arith, onto_more (10 * n + (digit - 48)) digits)
 
--- digits that spell a number are read as it
+-- Digits are read as the number that they spell, unless it is above `most`.
 digits_reads : (most n : ℕ) (digits : List ℕ) → AreDigits digits → onto n digits ≤ most → digits_onto most n digits ≡ Some (onto n digits)
 unfolding digits_onto
 digits_reads most n [] are below = refl
@@ -34,7 +34,7 @@ digits_reads most n (digit ∷ digits) are below =
     )
     (digits_reads most (10 * n + (digit - 48)) digits are.1 below)
 
--- what was read as a number is digits that spell it
+-- Characters that are read as a number are digits that spell it.
 digits_takes : (most n m : ℕ) (digits : List ℕ) → n ≤ most → digits_onto most n digits ≡ Some m
     → AreDigits digits × (m ≡ onto n digits) × (m ≤ most)
 unfolding digits_onto
@@ -49,14 +49,12 @@ digits_takes most n m (digit ∷ digits) below e =
     (((leb-true 48 digit range.0, leb-true digit 57 range.1), more.0), more.1, more.2)))
     (λ other none. absurd (none-some m none))
 
--- a number that is spelled is read
 pub number_reads : (most n : ℕ) (digits : List ℕ) → IsNumber digits n → n ≤ most → number_at most digits ≡ Some n
 unfolding number_at
 number_reads most n [] is below = absurd (is.0 refl)
 number_reads most n (digit ∷ digits) is below =
     digits_reads most 0 (digit ∷ digits) is.1 (omega (arith, is.2)) ∙ ap Some (sym is.2)
 
--- a number that is read is spelled
 pub number_takes : (most n : ℕ) (digits : List ℕ) → number_at most digits ≡ Some n → IsNumber digits n × (n ≤ most)
 unfolding number_at
 number_takes most n [] e = absurd (none-some n e)
@@ -64,24 +62,20 @@ number_takes most n (digit ∷ digits) e =
     let takes = digits_takes most 0 n (digit ∷ digits) (omega arith) e in
     (((λ none. cc), takes.0, takes.1), takes.2)
 
--- no leading zero, as a test
 leading_reads : (digits : List ℕ) → HasNoLeadingZero digits → has_leading_zero digits ≡ false
 leading_reads [] is = refl
 leading_reads (digit ∷ []) is = refl
 leading_reads (digit ∷ other ∷ digits) is = ne_eqb digit 48 is
 
--- the test says so
 leading_takes : (digits : List ℕ) → has_leading_zero digits ≡ false → HasNoLeadingZero digits
 leading_takes [] e = tt
 leading_takes (digit ∷ []) e = tt
 leading_takes (digit ∷ other ∷ digits) e = eqb-false digit 48 e
 
--- a number without leading zeros that is spelled is read
 pub plain_reads : (most n : ℕ) (digits : List ℕ) → IsPlain most digits n → plain_at most digits ≡ Some n
 unfolding plain_at
 plain_reads most n digits is = rw (leading_reads digits is.1) (number_reads most n digits is.0 is.2)
 
--- a number without leading zeros that is read is spelled
 pub plain_takes : (most n : ℕ) (digits : List ℕ) → plain_at most digits ≡ Some n → IsPlain most digits n
 unfolding plain_at
 plain_takes most n digits e =
@@ -89,7 +83,7 @@ plain_takes most n digits e =
     (λ leading none. absurd (none-some n none))
     (λ not e1. let takes = number_takes most n digits e1 in (takes.0, leading_takes digits not, takes.1))
 
--- a number with so many digits behind it
+-- `n` followed by `k` digits is below `n + 1` followed by `k` zeros.
 onto_below : (n : ℕ) (digits : List ℕ) → AreDigits digits → onto n digits + 1 ≤ (n + 1) * 10 ^ length digits
 onto_below n [] are = omega arith
 onto_below n (digit ∷ digits) are =
@@ -97,18 +91,16 @@ onto_below n (digit ∷ digits) are =
     let once : (10 * n + (digit - 48) + 1) * p ≤ (n + 1) * 10 * p = mul-le-mul_right p (omega (arith, are.0.0, are.0.1)) in
     rw (pow-succ' 10 (length digits), ← mul_assoc (n + 1) 10 p) (le_trans (onto_below (10 * n + (digit - 48)) digits are.1) once)
 
--- at most 18 digits spell a number of at most this
+-- At most 18 digits spell a number below 10^18, so reading them never exceeds the limit.
 short_below : (n : ℕ) (digits : List ℕ) → IsNumber digits n → length digits ≤ 18 → n ≤ 999999999999999999
 short_below n digits is short =
     omega (arith, onto_below 0 digits is.1, is.2, pow-le-pow_right {n = 10} (omega arith) {i = length digits} {j = 18} short)
 
--- at most 18 digits are read as the number that they spell
 pub short_reads : (n : ℕ) (digits : List ℕ) → IsNumber digits n → length digits ≤ 18 → short_at digits ≡ Some n
 unfolding short_at
 short_reads n digits is short = rw (le-ltb 18 (length digits) short)
     (number_reads 999999999999999999 n digits is (short_below n digits is short))
 
--- what is read so is at most 18 digits
 pub short_takes : (n : ℕ) (digits : List ℕ) → short_at digits ≡ Some n → IsNumber digits n × (length digits ≤ 18)
 unfolding short_at
 short_takes n digits e =
@@ -116,27 +108,23 @@ short_takes n digits e =
     (λ long none. absurd (none-some n none))
     (λ short e1. ((number_takes 999999999999999999 n digits e1).0, ltb-false 18 (length digits) short))
 
--- digits have no minus in front
 digits_no_minus : (digits : List ℕ) → AreDigits digits → has_minus digits ≡ false
 digits_no_minus [] are = refl
 digits_no_minus (digit ∷ digits) are = ne_eqb digit 45 (λ e. omega (arith, are.0.0))
 
--- a text with a minus in front
 minus_takes : (text : List ℕ) → has_minus text ≡ true → text ≡ 45 ∷ drop 1 text
 minus_takes [] e = absurd cc
 minus_takes (byte ∷ bytes) e = ap (λ b. b ∷ bytes) (eqb-true byte 45 e)
 
--- a voltage without a minus
 unsigned_reads : (n : ℕ) (digits : List ℕ) → IsNumber digits n → length digits ≤ 18 → voltage_at digits ≡ Some (pos n)
 unfolding voltage_at
 unsigned_reads n digits is short = rw (digits_no_minus digits is.1) (ap (option_map pos) (short_reads n digits is short))
 
--- a voltage with a minus
 signed_reads : (n : ℕ) (digits : List ℕ) → IsNumber digits n → length digits ≤ 18 → voltage_at (45 ∷ digits) ≡ Some (neg_ℤ (pos n))
 unfolding voltage_at
 signed_reads n digits is short = ap (option_map (λ m. neg_ℤ (pos m))) (short_reads n digits is short)
 
--- a voltage that is spelled is read
+-- A text that spells a voltage is read as this voltage.
 pub voltage_reads : (text : List ℕ) (z : ℤ) → IsVoltage text z → voltage_at text ≡ Some z
 voltage_reads text (pos n) is =
     elim is.3 [
@@ -145,12 +133,12 @@ voltage_reads text (pos n) is =
     ]
 voltage_reads text (negsuc n) is = rw (is.3) (signed_reads (n + 1) is.0 is.1 is.2 ∙ ap Some (rw (add-one n) refl))
 
--- a voltage below zero, or a zero with a minus
+-- A minus sign and digits spell a voltage below zero, or zero.
 negative : (text digits : List ℕ) (n : ℕ) → IsNumber digits n → length digits ≤ 18 → text ≡ 45 ∷ digits → IsVoltage text (neg_ℤ (pos n))
 negative text digits zero is short e = (digits, is, short, inr (refl, e))
 negative text digits (suc n) is short e = (digits, subst (IsNumber digits) (sym (add-one n)) is, short, e)
 
--- a voltage that is read is spelled
+-- A text that is read as a voltage spells it.
 pub voltage_takes : (text : List ℕ) (z : ℤ) → voltage_at text ≡ Some z → IsVoltage text z
 unfolding voltage_at
 voltage_takes text z e =

@@ -1,4 +1,4 @@
--- Where a text is cut into lines.
+-- How a text is cut into lines, and how reading more text changes the last line only.
 use Rattle.std.proofs.Common.{◌≡◌, ◌≢◌, ℕ, ◌+◌, ◌<◌, ◌==◌, cond, Bool, true, false, List, [], ◌∷◌, ◌++◌, length, take, drop, Option, Some, None, unwrap_or, refl, sym, ap, ◌∙◌, inl, inr, arith}
 use Rattle.std.proofs.lemmas.Bool.{lt-ltb, le-ltb, cases_lt}
 use Rattle.std.specs.List.{onto_first as onto}
@@ -6,7 +6,7 @@ use Rattle.sv_text.proofs.Parts.{part_ended, part_last}
 use Rattle.sv_replay.specs.Script.{parts}
 use Rattle.sv_replay.specs.Text.{line_size, first_end}
 
--- by the place of the first new line
+-- The first line ends at the first new line.
 found_is : (text : List ℕ) (len : ℕ) → first_end text ≡ Some len → (line_size text ≡ len) × (len < length text)
 found_is text len e = elim (cases_lt (line_size text) (length text)) [
   | inl less ↦ (let same : Some (line_size text) ≡ Some len =
@@ -29,7 +29,6 @@ parts_none text e = elim (cases_lt (line_size text) (length text)) [
   | inr more ↦ part_last 10 (line_size text) text refl more
 ]
 
--- a text has a first part
 parts_some : (text : List ℕ) → (first : List ℕ) × (others : List (List ℕ)) × (parts text ≡ first ∷ others)
 parts_some [] = ([], [], refl)
 parts_some (b ∷ text) = here (b == 10) (parts_some text)
@@ -39,11 +38,11 @@ parts_some (b ∷ text) = here (b == 10) (parts_some text)
     here true (first, others, e) = ([], parts text, refl)
     here false (first, others, e) = (b ∷ first, others, ap (onto b) e)
 
--- there is never none
 pub parts_never : (text : List ℕ) → parts text ≢ []
 parts_never text none = let (first, others, e) = parts_some text in absurd (let z : [] ≡ first ∷ others = sym none ∙ e in cc)
 
--- the parts of more text: the last one grows
+-- The lines of a text that is followed by another: the last line of the first text continues with
+-- the first line of the second.
 abbrev glued : List (List ℕ) → List (List ℕ) → List (List ℕ)
 glued [] more = more
 glued (part ∷ []) [] = part ∷ []
@@ -78,7 +77,7 @@ glued_behind (line ∷ []) first others more = refl
 glued_behind (line ∷ other ∷ lines) first others more =
     ap (λ (ps : List (List ℕ)). line ∷ ps) (glued_behind (other ∷ lines) first others more)
 
--- more text behind lines that are done
+-- Reading more text leaves the executed lines as they are.
 pub parts_more : (read left more : List ℕ) (lines : List (List ℕ)) → parts read ≡ lines ++ parts left
     → parts (read ++ more) ≡ lines ++ parts (left ++ more)
 parts_more read left more lines e =

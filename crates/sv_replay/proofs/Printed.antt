@@ -1,4 +1,4 @@
--- Events and lines are printed one after the other.
+-- What is printed for events and lines in order is the concatenation of what each of them prints.
 use Rattle.std.proofs.Common.{◌≡◌, ℕ, zero, suc, ◌+◌, ◌<◌, ◌≤◌, List, [], ◌∷◌, ◌++◌, length, replicate, refl, sym, ap, subst, ◌∙◌, append_assoc, append-nil, arith}
 use Rattle.std.proofs.lemmas.List.{replicate_more}
 use Rattle.std.specs.Prelude.{Result, Ok, Err, ⊤, IsErr, IsErrAnd}
@@ -9,7 +9,7 @@ use Rattle.sv_replay.specs.declared.mode.Mode.{Mode}
 use Rattle.sv_replay.specs.Line.{Line, Ticks, Says}
 use Rattle.sv_replay.specs.Script.{ScriptEvent, events_of, IsScript, PrintsOne, Prints, Stops, Performs}
 
--- one line more: its number is that behind the lines before it
+-- A script can be extended by a line that has the next number.
 pub script_push : (first : ℕ) (lines : List (List ℕ)) (events : List ScriptEvent) (line : List ℕ) (number : ℕ) (said : Line)
     → number ≡ first + length lines → IsScript first lines events → length line ≤ 65536 → Says line said
     → IsScript first (lines ++ line ∷ []) (events ++ events_of number said)
@@ -82,7 +82,7 @@ module _ (mode : Mode) (config : Config) where
     ap (λ (l : List ℕ). text ++ l) is ∙ sym (append_assoc text front last),
   )
 
--- equal events around one of them
+-- A list of equal events can be split at each of them.
 replicate_split : (said : ScriptEvent) (i n : ℕ) → i < n
     → (others : List ScriptEvent) × (replicate n said ≡ replicate i said ++ said ∷ others)
 replicate_split said zero zero h = absurd (omega arith)
@@ -91,7 +91,7 @@ replicate_split said zero (suc n) h = (replicate n said, refl)
 replicate_split said (suc i) (suc n) h = let (others, e) = replicate_split said i n (omega arith) in
     (others, ap (λ (es : List ScriptEvent). said ∷ es) e)
 
--- a tick of a line
+-- A tick that the line with this number describes.
 abbrev tick_of : ℕ → ScriptEvent
 tick_of number = record { line = number; event = Tick }
 
@@ -99,7 +99,6 @@ module _ (mode : Mode) (number : ℕ) (config : Config) (history : List PlainEve
   pub ticks_none : Prints mode config history (events_of number (Ticks 0)) [] history
   ticks_none = (refl, refl)
 
-  -- one tick more
   pub ticks_more : (n next : ℕ) (text other : List ℕ) (middle after : List PlainEvent) → next ≡ n + 1
       → Prints mode config history (events_of number (Ticks n)) text middle
       → PrintsOne mode number config middle Tick (Ok tt) other after
@@ -117,7 +116,7 @@ module _ (mode : Mode) (number : ℕ) (config : Config) (history : List PlainEve
       rw e (stops_then mode config history (replicate i (tick_of number)) (tick_of number ∷ others) fault text other middle after prints
       (stops_one mode config middle (tick_of number) others fault other after one))
 
--- a fault that is passed on
+-- A fault that is passed on stops the events.
 pub performs_stop : (mode : Mode) (config : Config) (history : List PlainEvent) (events : List ScriptEvent) (fault : ReplayFault)
     (result : Result ⊤ ReplayFault) (text : List ℕ) (after : List PlainEvent) → IsErr result → IsErrAnd result (λ e. e ≡ fault)
     → Stops mode config history events fault text after → Performs mode config history events result text after

@@ -1,4 +1,4 @@
--- Lines tell entries, one after the other.
+-- The entries that are read line by line are those that the whole scenario describes.
 use Rattle.std.proofs.Common.{◌≡◌, ◌≢◌, ℕ, ◌+◌, List, [], ◌∷◌, ◌++◌, length, refl, sym, subst, ap, ◌∙◌, inl, inr, append_assoc, arith}
 use Rattle.std.specs.Prelude.{Result, Ok, Err, IsErr, IsErrAnd, MatchResult}
 use Rattle.std.proofs.lemmas.List.{length-append}
@@ -11,12 +11,11 @@ use Rattle.sv_replay.specs.Scenario.{SaysFrom, Tells, last_tick, IsBadFrom, Read
 use Rattle.sv_replay.specs.ScenarioStage.{Adds, IsRead}
 use Rattle.sv_replay.proofs.Entries.{one_entry}
 
--- bytes that are some are not none
 pub not_empty : (line : List ℕ) → (length line ≡ 0 → ⊥) → line ≢ []
 not_empty [] some none = some refl
 not_empty (byte ∷ line) some none = absurd cc
 
--- an empty line behind
+-- An empty line after the others adds no entry.
 tells_blank : (least : ℕ) (front : List (List ℕ)) (entries : List Entry) (line : List ℕ) → line ≡ [] → Tells least front entries
     → Tells least (front ++ line ∷ []) entries
 tells_blank least [] entries line none is = inl (none, is)
@@ -24,7 +23,7 @@ tells_blank least (first ∷ front) entries line none (inl (empty, rest)) = inl 
 tells_blank least (first ∷ front) entries line none (inr (entry, others, says, rest, is)) =
     inr (entry, others, says, tells_blank entry.tick front others line none rest, is)
 
--- a line behind that says an entry
+-- A line after the others adds the entry that it describes.
 tells_more : (least : ℕ) (front : List (List ℕ)) (entries : List Entry) (line : List ℕ) (entry : Entry) → Tells least front entries
     → SaysFrom (last_tick least entries) line entry
     → Tells least (front ++ line ∷ []) (entries ++ entry ∷ [])
@@ -46,18 +45,16 @@ tells_more least (first ∷ front) entries line entry (inr (one, others, said, r
   ap (λ (es : List Entry). es ++ entry ∷ []) is,
 )
 
--- the tick of the last entry
 last_more : (least : ℕ) (entries : List Entry) (entry : Entry) → last_tick least (entries ++ entry ∷ []) ≡ entry.tick
 last_more least [] entry = refl
 last_more least (one ∷ entries) entry = last_more one.tick entries entry
 
--- a line that says an entry isn't empty
 says_some : (line : List ℕ) (entry : Entry) → line ≡ [] → SaysEntry line entry → ⊥
 says_some line entry none ([], text, is, short, says, fine, line_is) = is.0 refl
 says_some line entry none (digit ∷ digits, text, is, short, says, fine, line_is) =
     let z : [] ≡ digit ∷ (digits ++ 32 ∷ text) = sym none ∙ line_is in absurd cc
 
--- lines tell one list of entries alone
+-- The lines describe at most one list of entries.
 pub one_telling : (least : ℕ) (lines : List (List ℕ)) (a b : List Entry) → Tells least lines a → Tells least lines b → a ≡ b
 one_telling least [] a b tells_a tells_b = tells_a ∙ sym tells_b
 one_telling least (line ∷ lines) a b (inl (empty, rest)) (inl (_, other)) = one_telling least lines a b rest other
@@ -70,13 +67,12 @@ one_telling least (line ∷ lines) a b (inr (x, xs, says_x, tells_x, a_is)) (inr
     let rest : xs ≡ ys = one_telling x.tick lines xs ys tells_x (subst (λ (e : Entry). Tells e.tick lines ys) (sym same) tells_y) in
     a_is ∙ ap (λ (e : Entry). e ∷ xs) same ∙ ap (λ (es : List Entry). y ∷ es) rest ∙ sym b_is
 
--- one line more behind those that were read
 front_more : (text left line : List ℕ) (front behind : List (List ℕ)) → parts text ≡ front ++ parts left → parts left ≡ line ∷ behind
     → parts text ≡ (front ++ line ∷ []) ++ behind
 front_more text left line front behind is cut =
     is ∙ ap (λ (ps : List (List ℕ)). front ++ ps) cut ∙ sym (append_assoc front (line ∷ []) behind)
 
--- what a line adds is told
+-- After a line that was read, the entries are those that the lines so far describe.
 tells_added : (front : List (List ℕ)) (line : List ℕ) (number least tick : ℕ) (old new : List Entry) → Tells 0 front old
     → least ≡ last_tick 0 old → Adds least line number old new (Ok tick)
     → Tells 0 (front ++ line ∷ []) new × (tick ≡ last_tick 0 new)
@@ -88,7 +84,7 @@ tells_added front line number least tick old new tells least_is (inr (entry, say
       tick_is ∙ sym (last_more 0 old entry),
     )
 
--- a line was read
+-- Reading a line that isn't the last one extends what was read by this line.
 pub read_line : (text left line rest : List ℕ) (number next least tick : ℕ) (old new : List Entry) → IsRead text number old least left
     → parts left ≡ line ∷ parts rest → next ≡ number + 1 → Adds least line next old new (Ok tick) → IsRead text next new tick rest
 read_line text left line rest number next least tick old new (front, is, count, tells, least_is) cut up adds =
@@ -100,14 +96,14 @@ read_line text left line rest number next least tick old new (front, is, count, 
       last,
     )
 
--- the last line was read
+-- After the last line, the result is the list of all entries.
 pub read_last : (text left : List ℕ) (number next least tick : ℕ) (old new : List Entry) → IsRead text number old least left
     → parts left ≡ left ∷ [] → Adds least left next old new (Ok tick) → Reads text (Ok new)
 read_last text left number next least tick old new (front, is, count, tells, least_is) cut adds =
     let (told, last) = tells_added front left next least tick old new tells least_is adds in
     rw (is, cut) told
 
--- a line stopped the reading
+-- If a line is bad or memory for its entry is refused, reading stops with this fault.
 stopped : (text left line : List ℕ) (behind : List (List ℕ)) (number next least : ℕ) (old new : List Entry) (fault : ScenarioFault)
     → IsRead text number old least left → parts left ≡ line ∷ behind → next ≡ number + 1 → Adds least line next old new (Err fault)
     → Reads text (Err fault)
@@ -132,7 +128,7 @@ stopped text left line behind number next least old new Memory (front, is, count
   subst (λ (m : ℕ). SaysFrom m line entry) least_is says,
 )
 
--- a fault that is passed on
+-- The same for a result that passes this fault on.
 pub read_stop : {V : Type 0} (P : V → Type 0) (text left line : List ℕ) (behind : List (List ℕ)) (number next least : ℕ)
     (old new : List Entry) (fault : ScenarioFault) (result : Result V ScenarioFault)
     → IsRead text number old least left → parts left ≡ line ∷ behind → next ≡ number + 1 → Adds least line next old new (Err fault)

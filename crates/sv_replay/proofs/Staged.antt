@@ -1,4 +1,4 @@
--- A run goes from stage to stage.
+-- Executing a line, reading more, or a fault leads a run from one stage to the next or to its end.
 use Rattle.std.proofs.Common.{◌≡◌, ℕ, ◌+◌, ◌<◌, ◌≤◌, List, [], ◌∷◌, ◌++◌, length, Option, None, inl, inr, refl, sym, ap, ◌∙◌, append_assoc, append-nil, arith}
 use Rattle.std.specs.Prelude.{Result, Ok, Err, ⊤, IsErr, IsErrAnd, OnOk}
 use Rattle.sv_server.specs.declared.replay.ReplayFault.{ReplayFault}
@@ -19,17 +19,17 @@ use Rattle.sv_replay.specs.Stage.{IsStage, IsDone, StopsAt, LineRuns}
 use Rattle.sv_replay.proofs.Parts.{parts_none, parts_more, parts_never}
 use Rattle.sv_replay.proofs.Printed.{script_push, prints_then, stops_then}
 
--- at the start nothing was read or printed
+-- At the start nothing was read or printed.
 pub stage_start : (config : Config) (mode : Mode) (server : State) → StandsFor server config [] → IsStage config mode server [] 0 [] []
 stage_start config mode server s = ([], [], [], refl, refl, refl, (refl, refl), s)
 
--- what a line does, for each history
+-- What executing the line does, whatever history the server stands for.
 abbrev pub LineDone : Config → Mode → State → State → List ℕ → ℕ → Result ⊤ RunFault → Option (List ℕ) → Option (List ℕ) → Type 0
 LineDone config mode old new line number result first last = (history : List PlainEvent) → StandsFor old config history
     → (text : List ℕ) × (after : List PlainEvent) × LineRuns config mode line number history result text after
     × StandsFor new config after × Appends first last text
 
--- a line was done
+-- After a line that isn't the last one, the run is at the next stage.
 pub stage_line : (config : Config) (mode : Mode) (old new : State) (left rest line : List ℕ) (number next : ℕ) (read text : List ℕ)
     (first last : Option (List ℕ))
     → parts left ≡ line ∷ parts rest → next ≡ number + 1
@@ -52,7 +52,7 @@ stage_line config mode old new left rest line number next read text first last c
       ),
     )
 
--- the last line was done
+-- After the last line, all lines are executed.
 pub stage_last : (config : Config) (mode : Mode) (old new : State) (left line : List ℕ) (number next : ℕ) (read text : List ℕ)
     (first last : Option (List ℕ))
     → parts left ≡ line ∷ [] → next ≡ number + 1
@@ -72,7 +72,7 @@ stage_last config mode old new left line number next read text first last cut up
       ),
     )
 
--- the replay stopped at one of a line's events
+-- If the replay stops at an event of a line, the text is printed up to that event.
 line_short : (config : Config) (mode : Mode) (old new : State) (left line : List ℕ) (behind : List (List ℕ)) (number next : ℕ)
     (fault : ReplayFault)
     (read text : List ℕ) (tail first last : Option (List ℕ)) → parts left ≡ line ∷ behind → next ≡ number + 1 → IsWhole behind tail
@@ -100,7 +100,7 @@ line_short config mode old new left line behind number next fault read text tail
       ),
     )
 
--- a line stopped the run
+-- If a line stops the run with a fault, the text is what `Runs` states for this fault.
 pub stage_stop : (config : Config) (mode : Mode) (old new : State) (left line : List ℕ) (behind : List (List ℕ)) (number next : ℕ)
     (fault : RunFault)
     (read text : List ℕ)
@@ -152,14 +152,13 @@ stage_stop config mode old new left line behind number next Memory read text tai
     line_short config mode old new left line behind number next NoMemory read text tail first last cut up whole stage does in
     (other, put, inr stops)
 
--- more was read
 pub stage_read : (config : Config) (mode : Mode) (server : State) (left : List ℕ) (number : ℕ) (read text more : List ℕ)
     → IsStage config mode server left number read text
     → IsStage config mode server (left ++ more) number (read ++ more) text
 stage_read config mode server left number read text more (lines, events, history, is, count, script, prints, stands) =
     (lines, events, history, parts_more read left more lines is, count, script, prints, stands)
 
--- a line that is too long
+-- If more than 65,536 bytes hold no new line, the line that they begin is bad.
 pub stage_long : (config : Config) (mode : Mode) (server : State) (left : List ℕ) (number next : ℕ) (read text : List ℕ)
     (tail : Option (List ℕ))
     → first_end left ≡ None
@@ -176,14 +175,14 @@ stage_long config mode server left number next read text tail none long up (line
   (events, history, script, prints),
 )
 
--- the writer failed
+-- The output may fail between two lines.
 pub stage_output : (config : Config) (mode : Mode) (server : State) (left : List ℕ) (number : ℕ) (read text : List ℕ)
     (tail : Option (List ℕ))
     → IsStage config mode server left number read text → Runs config mode read tail (Err Output) text
 stage_output config mode server left number read text tail (lines, events, history, is, count, script, prints, stands) =
     (lines, parts left, is, inl (parts_never left), inl (events, history, script, prints))
 
--- and behind an answer
+-- The output may also fail after a result that would otherwise be returned.
 pub output_instead : (config : Config) (mode : Mode) (read text : List ℕ) (tail : Option (List ℕ)) (answer : Result ⊤ RunFault)
     → OnOk answer (IsAtEnd tail)
     → Runs config mode read tail answer text → Runs config mode read tail (Err Output) text
@@ -198,7 +197,7 @@ output_instead config mode read text tail (Err Memory) end (inl (nothing, unsaid
 output_instead config mode read text tail (Err Memory) end (inr (lines, behind, is, whole, stops)) =
     (lines, behind, is, whole, inr (NoMemory, stops))
 
--- the reader failed
+-- If the reader fails while no complete line is left, all complete lines are executed.
 pub stage_input : (config : Config) (mode : Mode) (server : State) (left : List ℕ) (number : ℕ) (read text : List ℕ)
     (tail : Option (List ℕ))
     → first_end left ≡ None
@@ -206,7 +205,7 @@ pub stage_input : (config : Config) (mode : Mode) (server : State) (left : List 
 stage_input config mode server left number read text tail none (lines, events, history, is, count, script, prints, stands) =
     (lines, left, is ∙ ap (λ (ps : List (List ℕ)). lines ++ ps) (parts_none left none), (events, history, script, prints))
 
--- a replay's fault is told as the run's
+-- A fault of the replay of an event is reported as the corresponding fault of the run.
 pub line_stops : (config : Config) (mode : Mode) (line : List ℕ) (number : ℕ) (history : List PlainEvent) (said : Line)
     (fault : ReplayFault)
     (result : Result ⊤ RunFault)

@@ -1,4 +1,4 @@
--- The steps of the loops that read a line.
+-- The steps of the loops that read a number, decode hexadecimal digits and find a space.
 use Rattle.std.proofs.Common.{◌≡◌, ℕ, ◌+◌, ◌-◌, ◌*◌, ◌<◌, ◌≤◌, true, false, cond, eqb, ltb, List, [], ◌∷◌, ◌++◌, length, get_or, take, drop, set, suc, add-one, inl, inr, Option, Some, None, option_map, refl, sym, ap, arith}
 use Rattle.std.specs.Char.{is_ascii_digit}
 use Rattle.std.specs.List.{position_or_len}
@@ -7,36 +7,33 @@ use Rattle.std.proofs.lemmas.List.{at_drop_more, at_drop_all, take_more_set, tak
 use Rattle.std.proofs.lemmas.Option.{none-some, same_Some}
 use Rattle.sv_replay.specs.Reading.{digits_onto, number_at, pair_at, after_space, hex_at, cut_at}
 
--- digits are read as a number
 pub number_starts : (most : ℕ) (digits : List ℕ) → (0 ≡ length digits → ⊥) → digits_onto most 0 digits ≡ number_at most digits
 unfolding number_at
 number_starts most [] some = absurd (some refl)
 number_starts most (digit ∷ digits) some = refl
 
--- no digits are no number
 pub no_number : (most : ℕ) (digits : List ℕ) → length digits ≡ 0 → None ≡ number_at most digits
 unfolding number_at
 no_number most [] none = refl
 no_number most (digit ∷ digits) none = absurd (omega arith)
 
--- what the digits from one on give
+-- How reading goes on from the digit at position `k`, with the number `n` so far.
 digits_more : (most n : ℕ) (digits : List ℕ) (k : ℕ) → k < length digits → digits_onto most n (drop k digits)
     ≡ cond (is_ascii_digit (get_or digits k 0)) (cond (ltb most (10 * n + (get_or digits k 0 - 48))) None
     (digits_onto most (10 * n + (get_or digits k 0 - 48)) (drop (k + 1) digits))) None
 unfolding digits_onto
 digits_more most n digits k within = at_drop_more (digits_onto most n) digits k 0 within
 
--- at the end it is the number so far
 pub digits_end : (most n : ℕ) (digits : List ℕ) (k : ℕ) → length digits ≤ k → digits_onto most n (drop k digits) ≡ Some n
 unfolding digits_onto
 digits_end most n digits k past = at_drop_all (digits_onto most n) digits k past
 
--- another byte gives no number
+-- A byte that isn't a digit ends the reading: the text is no number.
 pub digits_bad : (most n : ℕ) (digits : List ℕ) (k : ℕ) → k < length digits → is_ascii_digit (get_or digits k 0) ≡ false
     → digits_onto most n (drop k digits) ≡ None
 digits_bad most n digits k within other = rw (digits_more most n digits k within, other) refl
 
--- a number that is too large is none
+-- So does a digit that makes the number larger than `most`.
 pub digits_above : (most n : ℕ) (digits : List ℕ) (k : ℕ) → k < length digits → is_ascii_digit (get_or digits k 0) ≡ true
     → most < 10 * n + (get_or digits k 0 - 48) → digits_onto most n (drop k digits) ≡ None
 digits_above most n digits k within is above = rw (
@@ -45,7 +42,7 @@ digits_above most n digits k within is above = rw (
   lt-ltb most (10 * n + (get_or digits k 0 - 48)) above,
 ) refl
 
--- a digit is put behind the number
+-- Another digit is appended to the number.
 pub digits_next : (most n : ℕ) (digits : List ℕ) (k : ℕ) → k < length digits → is_ascii_digit (get_or digits k 0) ≡ true
     → 10 * n + (get_or digits k 0 - 48) ≤ most
     → digits_onto most n (drop k digits) ≡ digits_onto most (10 * n + (get_or digits k 0 - 48)) (drop (k + 1) digits)
@@ -55,14 +52,13 @@ digits_next most n digits k within is below = rw (
   le-ltb most (10 * n + (get_or digits k 0 - 48)) below,
 ) refl
 
--- a text of fewer than two bytes is no byte
 pub hex_short : (rest : List ℕ) → length rest < 2 → hex_at rest ≡ None
 unfolding hex_at
 hex_short [] short = refl
 hex_short (high ∷ []) short = refl
 hex_short (high ∷ low ∷ rest) short = absurd (omega arith)
 
--- two bytes that are no pair end it
+-- Two characters that aren't hexadecimal digits end the reading.
 pub hex_bad : (rest : List ℕ) → 2 ≤ length rest → None ≡ pair_at (get_or rest 0 0) (get_or rest 1 0) → hex_at rest ≡ None
 unfolding hex_at
 hex_bad [] long bad = absurd (omega arith)
@@ -70,11 +66,11 @@ hex_bad (high ∷ []) long bad = absurd (omega arith)
 hex_bad (high ∷ low ∷ []) long bad = rw (← bad) refl
 hex_bad (high ∷ low ∷ next ∷ rest) long bad = rw (← bad) refl
 
--- what follows two bytes, as a slice of the text has it
+-- The text after two characters, as the code slices it, is the whole rest.
 after_two : (rest : List ℕ) → take (length rest - 2) (drop 2 rest) ≡ drop 2 rest
 after_two rest = take_all (length rest - 2) (drop 2 rest) (omega (arith, length-drop 2 rest))
 
--- the last byte, where nothing follows it
+-- A byte after which the text ends is the last one.
 pub hex_last : (rest : List ℕ) (byte : ℕ) → 2 ≤ length rest → true ≡ eqb (length (take (length rest - 2) (drop 2 rest))) 0
     → Some byte ≡ pair_at (get_or rest 0 0) (get_or rest 1 0)
     → hex_at rest ≡ Some (byte ∷ [])
@@ -85,7 +81,7 @@ hex_last (high ∷ low ∷ []) byte long none pair = rw (← pair) refl
 hex_last (high ∷ low ∷ next ∷ rest) byte long none pair =
     absurd (omega (arith, eqb-true (length (next ∷ rest)) 0 (sym (rw (after_two (high ∷ low ∷ next ∷ rest)) at none))))
 
--- a byte with more behind it
+-- After another byte, reading goes on after an optional space.
 pub hex_next : (rest after : List ℕ) (byte : ℕ) → 2 ≤ length rest → false ≡ eqb (length (take (length rest - 2) (drop 2 rest))) 0
     → Some byte ≡ pair_at (get_or rest 0 0) (get_or rest 1 0)
     → after ≡ after_space (take (length rest - 2) (drop 2 rest)) → hex_at rest ≡ option_map (λ bytes. byte ∷ bytes) (hex_at after)
@@ -98,12 +94,12 @@ hex_next (high ∷ low ∷ next ∷ rest) after byte long some pair behind =
     (elim (eqb next 32) as (λ t. option_map (λ bytes. byte ∷ bytes) (cond t (hex_at rest) (hex_at (next ∷ rest)))
     ≡ option_map (λ bytes. byte ∷ bytes) (hex_at (cond t rest (next ∷ rest)))) [ true ↦ refl | false ↦ refl ])
 
--- what is left of the text gets shorter
+-- Each byte takes at least two characters, so the loop ends.
 pub after_shorter : (rest after : List ℕ) → 2 ≤ length rest → length after ≤ length (take (length rest - 2) (drop 2 rest))
     → length after + 2 ≤ length rest
 after_shorter rest after long below = omega (arith, rw (after_two rest) at below, length-drop 2 rest)
 
--- what was decoded, with one byte more
+-- Storing a byte in the buffer appends it to the bytes decoded so far.
 pub decoded_more : (buffer : List ℕ) (len byte : ℕ) (read : Option (List ℕ)) → len < length buffer
     → option_map (λ bytes. take (len + 1) (set buffer len byte) ++ bytes) read
     ≡ option_map (λ bytes. take len buffer ++ bytes) (option_map (λ bytes. byte ∷ bytes) read)
@@ -111,11 +107,11 @@ decoded_more buffer len byte None room = refl
 decoded_more buffer len byte (Some bytes) room = ap Some
     (rw (take_more_set buffer len byte room) (append_assoc (take len buffer) (byte ∷ []) bytes))
 
--- where the first space is, or the length
+-- The position of the first space; the length of the text if there is none.
 abbrev pub space_place : List ℕ → ℕ
 space_place text = position_or_len (λ byte. eqb byte 32) text
 
--- a text with no space isn't cut
+-- A text without a space isn't cut.
 pub cut_none : (text : List ℕ) → length text ≤ space_place text → cut_at text ≡ None
 unfolding cut_at
 cut_none [] past = refl
@@ -124,7 +120,7 @@ cut_none (byte ∷ bytes) past = elim (cases_Bool (eqb byte 32)) [
   | inr other ↦ rw (other, cut_none bytes (omega (arith, rw other at past))) refl
 ]
 
--- a text is cut at its first space
+-- A text is cut at its first space.
 pub cut_some : (text : List ℕ) → space_place text < length text
     → cut_at text ≡ Some (take (space_place text) text, drop (space_place text + 1) text)
 unfolding cut_at
@@ -142,7 +138,6 @@ cut_some (byte ∷ bytes) within = elim (cases_Bool (eqb byte 32)) [
       ) refl
 ]
 
--- what it says that no place was found
 pub place_past : (place size : ℕ) → ◌≡◌ {A = Option ℕ} None (cond (ltb place size) (Some place) None) → size ≤ place
 place_past place size e = elim (cases_Bool (ltb place size)) [
   | inl is ↦ absurd (none-some place (rw is at e))
@@ -150,7 +145,6 @@ place_past place size e = elim (cases_Bool (ltb place size)) [
       ltb-false place size other
 ]
 
--- what it says that a place was found
 pub place_within : (at place size : ℕ) → ◌≡◌ {A = Option ℕ} (Some at) (cond (ltb place size) (Some place) None)
     → (place < size) × (at ≡ place)
 place_within at place size e = elim (cases_Bool (ltb place size)) [
@@ -158,7 +152,7 @@ place_within at place size e = elim (cases_Bool (ltb place size)) [
   | inr other ↦ absurd (none-some at (sym (rw other at e)))
 ]
 
--- a text that is cut at a place, as slices of it have it
+-- The slices before and after the first space are the text cut there.
 pub cut_at_place : (text : List ℕ) (at : ℕ) → (space_place text < length text) × (at ≡ space_place text)
     → Some (take at text, take (length text - (at + 1)) (drop (at + 1) text)) ≡ cut_at text
 cut_at_place text at found = rw (take_all (length text - (at + 1)) (drop (at + 1) text) (omega (arith, length-drop (at + 1) text)), found.1)

@@ -1,4 +1,4 @@
--- What lines tell is a scenario.
+-- The entries of a scenario's lines are accepted by the server and in order of time.
 use Rattle.std.proofs.Common.{ℕ, List, [], ◌∷◌, sym, subst, inl, inr}
 use Rattle.sv_replay.specs.declared.entry.Entry.{Entry}
 use Rattle.sv_replay.specs.Scenario.{Tells, IsScenario}

@@ -1,4 +1,4 @@
--- Where the first new line of a text stands, and what a change of the fields makes of the text.
+-- The buffer for a replay's input: where its first new line is, and how it changes.
 use Rattle.std.proofs.Common.{◌≡◌, ℕ, zero, suc, ◌+◌, ◌-◌, ◌<◌, ◌≤◌, ◌==◌, max, Bool, true, false, not, cond, List, [], ◌∷◌, ◌++◌, length, take, drop, slice_range, Some, None, refl, sym, ap, ◌∙◌, arith}
 use Rattle.std.proofs.lemmas.Bool.{false_from_ne_true, not_from_false, lt-ltb, le-ltb}
 use Rattle.std.proofs.lemmas.List.{length-drop, length-take-le, drop-take, drop-drop, take_at}
@@ -7,7 +7,7 @@ use Rattle.std.proofs.Math.Seq.{take-add}
 use Rattle.memchr.specs.Find.{IsFirstByte, is_byte}
 use Rattle.sv_replay.specs.Text.{IsKept, line_size, first_end}
 
--- more text does not make the first line shorter
+-- Appending text never makes the first line shorter.
 pub line_with : (text more : List ℕ) → line_size text ≤ line_size (text ++ more)
 line_with [] more = omega arith
 line_with (b ∷ text) more = at (b == 10) (line_with text more)
@@ -17,7 +17,7 @@ line_with (b ∷ text) more = at (b == 10) (line_with text more)
     at true h = omega arith
     at false h = omega arith
 
--- less text makes it shorter by no more than that
+-- Dropping `n` bytes makes the first line at most `n` bytes shorter.
 pub line_behind : (n : ℕ) (text : List ℕ) → line_size text ≤ n + line_size (drop n text)
 line_behind zero text = omega arith
 line_behind (suc n) [] = omega arith
@@ -27,7 +27,7 @@ line_behind (suc n) (b ∷ text) = at (b == 10) (line_behind n text)
     at true h = omega arith
     at false h = omega arith
 
--- behind a part of the first line
+-- Dropping `n` bytes of the first line makes it exactly `n` bytes shorter.
 pub line_clean : (n : ℕ) (text : List ℕ) → n ≤ line_size text → line_size text ≡ n + line_size (drop n text)
 line_clean zero text h = omega arith
 line_clean (suc n) [] h = omega arith
@@ -38,7 +38,7 @@ line_clean (suc n) (b ∷ text) h = at (b == 10) (line_clean n text) h
     at true f h = omega arith
     at false f h = omega (arith, f (omega arith))
 
--- a search that found a new line found the end of the first line
+-- The first new line that a search finds ends the first line.
 pub line_found : (text : List ℕ) (k : ℕ) → IsFirstByte (is_byte 10) text (Some k) → (line_size text ≡ k) × (k < length text)
 line_found text k h = (
   prefix_len_is (λ b. not (b == 10)) text k 0 (omega (arith, h.0.high))
@@ -47,24 +47,22 @@ line_found text k h = (
   h.0.high,
 )
 
--- a search that found none
+-- If a search finds no new line, the whole text is the first line.
 pub line_open : (text : List ℕ) → IsFirstByte (is_byte 10) text None → line_size text ≡ length text
 line_open text h = prefix_len_is (λ b. not (b == 10)) text (length text) 0 (omega arith)
     (λ j lt. not_from_false _ (false_from_ne_true _ (h j (omega arith) lt)))
     (λ lt. absurd (omega arith))
 
--- where the first line ends
+-- The end of the first line is reported as its position, or as `None` if there is no new line.
 pub end_found : (text : List ℕ) (k : ℕ) → line_size text ≡ k → k < length text → Some k ≡ first_end text
 end_found text k e lt = rw (e, lt-ltb k (length text) lt) refl
 
 pub end_open : (text : List ℕ) → line_size text ≡ length text → None ≡ first_end text
 end_open text e = rw (e, le-ltb (length text) (length text) (omega arith)) refl
 
--- how long the text is
 pub text_size : (buffer : List ℕ) (start end : ℕ) → end ≤ length buffer → length (slice_range buffer start end) ≡ end - start
 text_size buffer start end within = length-take-le (end - start) (drop start buffer) (omega (arith, length-drop start buffer))
 
--- the text without its first bytes
 pub text_behind : (buffer : List ℕ) (start next end : ℕ) → start ≤ next → next ≤ end
     → slice_range buffer next end ≡ drop (next - start) (slice_range buffer start end)
 text_behind buffer start next end le within =
@@ -73,7 +71,7 @@ text_behind buffer start next end le within =
     sym (ap (λ (n : ℕ). drop (next - start) (take n (drop start buffer))) parts ∙ drop-take (next - start) (end - next) (drop start buffer)
     ∙ ap (take (end - next)) (drop-drop (next - start) start buffer) ∙ ap (λ (n : ℕ). take (end - next) (drop n buffer)) reached)
 
--- The first new line was found behind `clean`.
+-- A search that begins at `clean` and finds a new line has found the first one of the text.
 pub found_keeps : (buffer : List ℕ) (start clean end reads k : ℕ) → IsKept buffer start clean end reads
     → IsFirstByte (is_byte 10) (slice_range buffer clean end) (Some k)
     → IsKept buffer start (clean + k) end reads × (Some (clean + k - start) ≡ first_end (slice_range buffer start end))
@@ -94,7 +92,7 @@ found_keeps buffer start clean end reads k kept found =
       end_found text (clean + k - start) line (omega (arith, at.1, left, size, kept.order)),
     )
 
--- There is no new line.
+-- If a search that begins at `clean` finds none, the text has none; the whole text is then clean.
 pub open_keeps : (buffer : List ℕ) (start clean end reads : ℕ) → IsKept buffer start clean end reads
     → IsFirstByte (is_byte 10) (slice_range buffer clean end) None
     → IsKept buffer start end end reads × (None ≡ first_end (slice_range buffer start end))
@@ -115,7 +113,7 @@ open_keeps buffer start clean end reads kept none =
       end_open text line,
     )
 
--- The first bytes were dropped.
+-- Dropping the first `n` bytes of the text keeps the invariant.
 pub dropped_keeps : (buffer : List ℕ) (start clean later end reads n : ℕ) → IsKept buffer start clean end reads
     → n ≤ length (slice_range buffer start end) → later ≡ max clean (start + n)
     → IsKept buffer (start + n) later end reads × (slice_range buffer (start + n) end ≡ drop n (slice_range buffer start end))
@@ -135,7 +133,7 @@ dropped_keeps buffer start clean later end reads n kept some is =
       rest,
     )
 
--- The text moved to the front of the buffer, or room was left behind it.
+-- The buffer is ready for a read: it still holds the text, and has at least 65,536 bytes of room.
 pub record IsReady (buffer : List ℕ) (start clean end reads : ℕ) (text : List ℕ) : Type 0 where
   pub kept : IsKept buffer start clean end reads
   pub room : end ≤ 65536
@@ -159,7 +157,7 @@ moved_ready buffer moved start clean end reads count text kept is short size wit
       same = same ∙ is;
     }
 
--- The buffer was written behind the text, and so many of the bytes there belong to the text.
+-- After a read of `count` bytes, the buffer holds the text followed by these bytes.
 pub filled_keeps : (buffer filled : List ℕ) (start clean end last reads count more : ℕ) (text : List ℕ)
     → IsReady buffer start clean end reads text → length filled ≡ length buffer
     → take end filled ≡ take end buffer → count ≤ length (drop end filled) → last ≡ end + count → more ≤ 4294967294
@@ -187,11 +185,12 @@ filled_keeps buffer filled start clean end last reads count more text ready size
       all,
     )
 
--- a buffer of this length after a write to all of it
+-- A buffer of this length after `bytes` were written over its beginning.
 abbrev pub written : ℕ → List ℕ → List ℕ → List ℕ
 written len bytes buffer = take len (bytes ++ drop (length bytes) buffer)
 
--- The text moved, and then so many bytes came behind it.
+-- Moving the text to the front of the buffer and then reading keeps the invariant and appends the
+-- bytes that were read.
 pub read_keeps : (buffer first moved second filled : List ℕ) (len start clean end reads shift count last more : ℕ) (text : List ℕ)
     → IsKept buffer start clean end reads → slice_range buffer start end ≡ text → length text ≤ 65536 → length buffer ≡ len
     → first ≡ buffer → length moved ≡ length first → shift ≤ start

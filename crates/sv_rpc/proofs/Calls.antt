@@ -1,4 +1,4 @@
--- Reading a record gives exactly what the definition of a call says about its bytes.
+-- Reading the record of a call returns exactly what the definition says of its bytes.
 use Rattle.std.proofs.Common.{◌≡◌, ◌≢◌, ℕ, ◌≤◌, cond, eqb, List, length, drop, Result, Ok, Err, refl, sym, subst, ◌∙◌, inl, inr}
 use Rattle.std.proofs.lemmas.Bool.{cases_Bool, cond-true, cond-false, eqb-true, eqb-false, ne_eqb}
 use Rattle.sv_xdr.specs.declared.fault.XdrFault.{XdrFault}
@@ -11,7 +11,7 @@ use Rattle.sv_rpc.specs.Limits.{max_auth}
 use Rattle.sv_rpc.specs.Call.{PlainCall, Auth, heading, IsCall, IsOtherVersion, CallIs, ◌>>=◌, body_at, call_at}
 use Rattle.sv_rpc.specs.Laws.{OneCall}
 
--- a call that is spelled is read
+-- The encoding of a call is read as this call.
 call_reads : (bytes : List ℕ) (call : PlainCall) → IsCall bytes call → call_at bytes ≡ Ok call
 unfolding call_at body_at
 call_reads bytes call h =
@@ -39,7 +39,7 @@ call_reads bytes call h =
       verifier.2,
     ) refl
 
--- a call under another version that is spelled is reported
+-- A call under an RPC version other than 2 is reported with its xid.
 version_reads : (bytes : List ℕ) (xid : ℕ) → IsOtherVersion bytes xid → call_at bytes ≡ Err (Version xid)
 unfolding call_at
 version_reads bytes xid h =
@@ -53,7 +53,7 @@ version_reads bytes xid h =
       ne_eqb h.0 2 h.2,
     ) refl
 
--- two outcomes of one record are one
+-- The same bytes are never two different calls, two different faults, or both.
 pub one_call : OneCall
 one_call bytes (Ok a) (Ok b) h k = sym (call_reads bytes a h) ∙ call_reads bytes b k
 one_call bytes (Ok a) (Err (Version n)) h k = sym (call_reads bytes a h) ∙ version_reads bytes n k
@@ -65,18 +65,18 @@ one_call bytes (Err BadHeader) (Ok b) h k = absurd (h.0 b k)
 one_call bytes (Err BadHeader) (Err (Version n)) h k = absurd (h.1 n k)
 one_call bytes (Err BadHeader) (Err BadHeader) h k = refl
 
--- an outcome that is not a bad header
+-- Any result but the fault `BadHeader`.
 abbrev Good : Result PlainCall CallFault → Type 0
 Good r = r ≡ Err BadHeader → ⊥
 
--- the value of a step, and what came of it
+-- If reading doesn't fail with `BadHeader`, each of its steps succeeded.
 bind_good : {A : Type 0} (s : Result A XdrFault) (f : A → Result PlainCall CallFault) (r : Result PlainCall CallFault) → Good r →
     (s >>= f) ≡ r
     → (x : A) × (s ≡ Ok x) × (f x ≡ r)
 bind_good (Ok x) f r good e = (x, refl, e)
 bind_good (Err fault) f r good e = absurd (good (sym e))
 
--- what follows from a test, whichever way it went
+-- Both cases of a comparison of numbers, for a result that depends on it.
 tested : {P : Type 0} (m n : ℕ) (x y r : Result PlainCall CallFault) → cond (eqb m n) x y ≡ r → (m ≡ n → x ≡ r → P) → (m ≢ n → y ≡ r → P)
     → P
 tested m n x y r e same other =
@@ -85,7 +85,7 @@ tested m n x y r e same other =
       | inr f ↦ other (eqb-false m n f) (sym (cond-false (eqb m n) x y f) ∙ e)
     ]
 
--- an unsigned integer that was read, and what follows from that
+-- If reading doesn't fail, an unsigned integer comes next, and reading goes on after it.
 unsigned_step : {P : Type 0} (bytes : List ℕ) (f : ℕ × List ℕ → Result PlainCall CallFault) (r : Result PlainCall CallFault) → IsBytes bytes
     → Good r → (unsigned_at bytes >>= f) ≡ r
     → ((n : ℕ) (after : List ℕ) → Begins bytes (Unsigned n) after → IsBytes after → f (n, after) ≡ r → P) → P
@@ -94,7 +94,7 @@ unsigned_step bytes f r fits good e then =
     let b = unsigned_takes bytes s.0.1 s.0.0 fits s.1 in
     then s.0.0 s.0.1 b (bytes_after (Unsigned s.0.0) bytes s.0.1 fits b) s.2
 
--- likewise opaque data
+-- The same for opaque data.
 opaque_step : {P : Type 0} (bytes : List ℕ) (f : List ℕ × List ℕ → Result PlainCall CallFault) (r : Result PlainCall CallFault)
     → IsBytes bytes
     → Good r → (opaque_at max_auth bytes >>= f) ≡ r
@@ -105,7 +105,7 @@ opaque_step bytes f r fits good e then =
     let b = opaque_at_takes max_auth bytes s.0.0 s.0.1 fits s.1 in
     then s.0.0 s.0.1 b.0 b.1 (bytes_after (Opaque s.0.0) bytes s.0.1 fits b.0) s.2
 
--- what is read behind the version is spelled there
+-- A call that is read from the bytes after the RPC version is encoded there.
 body_takes : (xid : ℕ) (bytes : List ℕ) (r : Result PlainCall CallFault) → IsBytes bytes → Good r → body_at xid bytes ≡ r
     → (call : PlainCall) × (xid ≡ call.xid) × (Ok call ≡ r) × (c v : Auth) × (length c.body ≤ max_auth)
     × (length v.body ≤ max_auth)
@@ -129,7 +129,7 @@ body_takes xid bytes r fits good e =
       (l1, b1, (l2, b2, (l3, b3, (l4, b4, (l5, b5, (l6, b6, (args, b7, refl))))))),
     ))))))))
 
--- a call that is read is spelled, and another version that is reported too
+-- A call that is read is encoded there; a reported xid is that of a call under another version.
 call_takes : (bytes : List ℕ) (r : Result PlainCall CallFault) → IsBytes bytes → Good r → call_at bytes ≡ r → CallIs bytes r
 unfolding call_at
 call_takes bytes r fits good e =
@@ -146,7 +146,6 @@ call_takes bytes r fits good e =
     (λ other e5. subst (CallIs bytes) e5 (version, l3, other, (l1, b1, (l2, called, (l3, b3, refl)))))))
     (λ other e3. absurd (good (sym e3)))))
 
--- what reading gives is so, whatever it is
 is_outcome : (bytes : List ℕ) (r : Result PlainCall CallFault) → IsBytes bytes → call_at bytes ≡ r → CallIs bytes r
 is_outcome bytes (Ok call) fits e = call_takes bytes (Ok call) fits (λ bad. absurd cc) e
 is_outcome bytes (Err (Version xid)) fits e = call_takes bytes (Err (Version xid)) fits (λ bad. absurd cc) e
@@ -155,10 +154,10 @@ is_outcome bytes (Err BadHeader) fits e = (
   λ xid h. absurd (cc (version_reads bytes xid h)),
 )
 
--- what reading gives is what the record is
+-- For any bytes, the function returns what the definition requires.
 pub call_is : (bytes : List ℕ) → IsBytes bytes → CallIs bytes (call_at bytes)
 call_is bytes fits = is_outcome bytes (call_at bytes) fits refl
 
--- what the record is is what reading gives
+-- What the definition says of the bytes is what the function returns.
 pub call_only : (bytes : List ℕ) (outcome : Result PlainCall CallFault) → IsBytes bytes → CallIs bytes outcome → call_at bytes ≡ outcome
 call_only bytes outcome fits h = one_call bytes (call_at bytes) outcome (call_is bytes fits) h

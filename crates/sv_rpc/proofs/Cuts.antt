@@ -1,4 +1,4 @@
--- Bytes cut into records, and how much they count.
+-- A buffer's bytes cut into records by a list of lengths, and how much of the capacity they use.
 use Rattle.std.proofs.Common.{◌≡◌, ℕ, ◌+◌, ◌*◌, ◌≤◌, Bool, List, [], ◌∷◌, ◌++◌, length, take, drop, refl, sym, ap, ◌∙◌, arith}
 use Rattle.std.specs.Prelude.{sum, sum_by}
 use Rattle.std.proofs.lemmas.List.{length-take-le, length-drop, take-append-le, drop-append-le, drop-drop}
@@ -14,7 +14,7 @@ sum_cons n ns = sum_by-cons (λ x. x) n ns
 pub sum_push : (ns : List ℕ) (n : ℕ) → sum (ns ++ n ∷ []) ≡ sum ns + n
 sum_push ns n = sum_by-append (λ x. x) ns (n ∷ []) ∙ ap (λ (k : ℕ). sum ns + k) (sum_cons n [] ∙ omega arith)
 
--- what whole records count
+-- The capacity that complete records use: 4 bytes for each, and their lengths.
 pub counted_cut : (ns : List ℕ) (bytes : List ℕ) → sum ns ≤ length bytes
     → sum_by (λ (r : List ℕ). 4 + length r) (cut ns bytes) ≡ 4 * length ns + sum ns
 counted_cut [] bytes h = refl
@@ -24,7 +24,7 @@ counted_cut (n ∷ ns) bytes h =
     let size : length (take n bytes) ≡ n = length-take-le n bytes (omega arith) in
     omega (arith, sum_by-cons (λ (r : List ℕ). 4 + length r) (take n bytes) (cut ns (drop n bytes)), counted_cut ns (drop n bytes) short)
 
--- more bytes behind them change no record
+-- Bytes that follow the records change none of them.
 pub cut_append : (ns bytes piece : List ℕ) → sum ns ≤ length bytes → cut ns (bytes ++ piece) ≡ cut ns bytes
 cut_append [] bytes piece h = refl
 cut_append (n ∷ ns) bytes piece h =
@@ -35,7 +35,7 @@ cut_append (n ∷ ns) bytes piece h =
     let others = ap (cut ns) (drop-append-le n bytes piece le) ∙ cut_append ns (drop n bytes) piece short in
     cc
 
--- what stands behind them is one record more
+-- With the length of the unfinished record, the bytes after the other records are one more record.
 pub cut_push : (ns bytes : List ℕ) (n : ℕ) → sum ns + n ≡ length bytes → cut (ns ++ n ∷ []) bytes ≡ cut ns bytes ++ drop (sum ns) bytes ∷ []
 cut_push [] bytes n h = let size : n ≡ length bytes = omega arith in
     ap (λ (r : List ℕ). r ∷ []) (ap (λ (k : ℕ). take k bytes) size ∙ take-length bytes)
@@ -47,7 +47,7 @@ cut_push (m ∷ ns) bytes n h =
     ap (λ (rs : List (List ℕ)). take m bytes ∷ rs)
     (cut_push ns (drop m bytes) n rest ∙ ap (λ (r : List ℕ). cut ns (drop m bytes) ++ r ∷ []) behind)
 
--- what the buffer counts, by the lengths of its parts
+-- The capacity that the buffer uses, computed from the lengths of its fields.
 pub used_at_header : (ns bytes header : List ℕ) (n : ℕ) → sum ns + n ≡ length bytes
     → used_by (cut ns bytes) (Header (drop (sum ns) bytes) header) ≡ 4 * length ns + length bytes + 4 + length header
 used_at_header ns bytes header n h = omega (arith, counted_cut ns bytes (omega arith), length-drop (sum ns) bytes)

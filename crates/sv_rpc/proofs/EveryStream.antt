@@ -1,4 +1,4 @@
--- Each byte stream splits into records and a rest, as reading it splits it.
+-- Each byte stream splits into the records and the tail that reading it gives.
 use Rattle.std.proofs.Common.{◌≡◌, ℕ, zero, suc, ◌+◌, ◌-◌, ◌%◌, ◌<◌, ◌≤◌, ◌^◌, Bool, true, false, leb, List, [], ◌∷◌, ◌++◌, length, take, drop, refl, sym, ap, subst, ◌∙◌, inl, inr, append_assoc, arith, lt-ltb, le-ltb}
 use Rattle.std.specs.List.{concat, flat_map}
 use Rattle.std.specs.Int.{w32, from_be_bytes}
@@ -11,12 +11,12 @@ use Rattle.sv_rpc.specs.Stream.{Reading, read_on, read_data, read, reading, reco
 use Rattle.sv_rpc.specs.Laws.{ReadAsSplit}
 use Rattle.sv_rpc.proofs.Steps.{header_read}
 
--- behind these fragments, which aren't the last of their record, the bytes are read, and the whole
--- splits so
+-- The unfinished record begins with the fragments `front`, none of which is its last. `bytes`
+-- follow them, and the whole splits into the records and the tail of `reading`.
 abbrev pub SplitsSo : List (List ℕ) → List ℕ → Reading → Type 0
 SplitsSo front bytes reading = Splits (flat_map (fragment false) front ++ bytes) reading.0 reading.1
 
--- nothing but a tail
+-- Bytes without a complete record are a tail.
 tail_alone : (front : List (List ℕ)) (bytes : List ℕ) (tail : Tail) → IsTail (flat_map (fragment false) front ++ bytes) tail
     → SplitsSo front bytes ([], tail)
 tail_alone front bytes tail is = record {
@@ -28,7 +28,6 @@ tail_alone front bytes tail is = record {
   behind = is;
 }
 
--- the fragments in front, with one more
 front_more : (front : List (List ℕ)) (text rest : List ℕ)
     → flat_map (fragment false) (front ++ text ∷ []) ++ rest ≡ flat_map (fragment false) front ++ (fragment false text ++ rest)
 front_more [] text rest = ap (λ (l : List ℕ). l ++ rest) (append-nil (fragment false text))
@@ -41,7 +40,7 @@ concat_more : (front : List (List ℕ)) (text : List ℕ) → concat (front ++ t
 concat_more [] text = append-nil text
 concat_more (first ∷ front) text = ap (λ (l : List ℕ). first ++ l) (concat_more front text) ∙ sym (append_assoc first (concat front) text)
 
--- a last fragment, and a stream behind it that splits
+-- A last fragment completes the record; the stream after it splits on its own.
 last_more : (front : List (List ℕ)) (text rest : List ℕ) (all : List (List ℕ)) (tail : Tail)
     → length (concat front ++ text) ≤ max_record
     → Splits rest all tail → SplitsSo front (fragment true text ++ rest) ((concat front ++ text) ∷ all, tail)
@@ -56,11 +55,9 @@ last_more front text rest all tail short splits =
       behind = splits.behind;
     }
 
--- bytes without the first so many
 bytes_behind : (n : ℕ) (bytes : List ℕ) → IsBytes bytes → IsBytes (drop n bytes)
 bytes_behind n bytes fits i = subst (λ (b : ℕ). b < 256) (sym (get_or-drop n bytes i 0)) (fits (n + i))
 
--- four bytes, and the word of them
 first_four : (a b c d : ℕ) → a < 256 → b < 256 → c < 256 → d < 256 → IsBytes (a ∷ b ∷ c ∷ d ∷ [])
 first_four a b c d e f g h zero = e
 first_four a b c d e f g h (suc zero) = f
@@ -71,7 +68,6 @@ first_four a b c d e f g h (suc (suc (suc (suc i)))) = omega arith
 word_small : (a b c d : ℕ) (rest : List ℕ) → a < 256 → b < 256 → c < 256 → d < 256 → from_be_bytes w32 (a ∷ b ∷ c ∷ d ∷ rest) < 2 ^ 32
 word_small a b c d rest e f g h = omega arith
 
--- a header and less than its data, behind fragments in front
 part_of : (front : List (List ℕ)) (last : Bool) (size : ℕ) (rest : List ℕ) → length rest < size
     → flat_map (fragment false) front ++ (header_of last size ++ rest)
     ≡ flat_map (fragment false) front ++ (header_of last (length rest + (size - length rest)) ++ rest)
@@ -79,7 +75,7 @@ part_of front last size rest less =
     let same : length rest + (size - length rest) ≡ size = omega (arith, less) in
     ap (λ (m : ℕ). flat_map (fragment false) front ++ (header_of last m ++ rest)) (sym same)
 
--- four bytes in front are a header
+-- Any four bytes are the header of a fragment.
 header_in_front : (bytes : List ℕ) → 4 ≤ length bytes → IsBytes bytes
     → bytes ≡ header_of (leb (2 ^ 31) (from_be_bytes w32 bytes)) (from_be_bytes w32 bytes % 2 ^ 31) ++ drop 4 bytes
 header_in_front (a ∷ b ∷ c ∷ d ∷ rest) four fits =
@@ -87,7 +83,7 @@ header_in_front (a ∷ b ∷ c ∷ d ∷ rest) four fits =
     (first_four a b c d (fits 0) (fits 1) (fits 2) (fits 3)) refl (word_small a b c d rest (fits 0) (fits 1) (fits 2) (fits 3)))
 header_in_front _ four fits = absurd (omega arith)
 
--- what is read behind a header splits
+-- The bytes after a fragment's header split as they are read.
 pub data_splits : (n : ℕ) (front : List (List ℕ)) (last : Bool) (size : ℕ) (rest : List ℕ)
     → ((others : List (List ℕ)) (bytes : List ℕ) → length bytes < n → IsBytes bytes → length (concat others) ≤ max_record
     → SplitsSo others bytes (read n (concat others) bytes))
@@ -110,7 +106,7 @@ data_splits n front last size rest again short fits kept small = elim (cases_lt 
   ])
 ]
   where
-    -- the data of the fragment, and what stands behind them
+    -- The fragment's data, and the bytes after them.
     cut : rest ≡ take size rest ++ drop size rest
     cut = sym (take-append-drop size rest)
 
@@ -143,7 +139,7 @@ data_splits n front last size rest again short fits kept small = elim (cases_lt 
         (read n (concat front ++ take size rest) (drop size rest)).1) (front_more front (take size rest) (drop size rest))
         (subst (λ (p : List ℕ). SplitsSo (front ++ take size rest ∷ []) (drop size rest) (read n p (drop size rest))) joined next))
 
--- behind fragments that aren't the last of their record the bytes split as they are read
+-- After fragments that don't complete their record, the bytes split as they are read.
 pub read_splits : (n : ℕ) (front : List (List ℕ)) (bytes : List ℕ) → length bytes < n → IsBytes bytes
     → length (concat front) ≤ max_record
     → SplitsSo front bytes (read n (concat front) bytes)

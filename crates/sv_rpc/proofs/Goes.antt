@@ -1,4 +1,4 @@
--- What is held stands for the stream as it goes on.
+-- Each byte that is pushed into a buffer extends the stream for which the buffer stands.
 use Rattle.std.proofs.Common.{◌≡◌, ℕ, ◌+◌, ◌-◌, ◌%◌, ◌<◌, ◌≤◌, ◌^◌, Bool, true, false, cond, leb, List, [], ◌∷◌, ◌++◌, length, take, drop, set, refl, sym, ap, subst, ◌∙◌, append-nil, arith, inl, inr}
 use Rattle.std.specs.Prelude.{sum}
 use Rattle.std.specs.Int.{w32, from_be_bytes}
@@ -15,13 +15,13 @@ use Rattle.sv_rpc.proofs.Steps.{header_grows, header_ends, empty_ends, empty_las
 abbrev held : List (List ℕ) → Tail → Records
 held records tail = record { records = records; tail = tail }
 
--- another tail behind the same records
+-- The records stay, and the stream ends in another tail.
 same_records : (records : List (List ℕ)) (s t : Tail) (stream piece : List ℕ) (dropped : ℕ) (st : StandsFor (held records s) stream dropped)
     → Splits (stream ++ piece) st.all t
     → StandsFor (held records t) (stream ++ piece) dropped
 same_records records s t stream piece dropped st splits = record { all = st.all; splits = splits; bounded = st.bounded; kept = st.kept }
 
--- a record more
+-- The stream has one more complete record.
 more_records : (records : List (List ℕ)) (r : List ℕ) (s t : Tail) (stream piece : List ℕ) (dropped : ℕ)
     (st : StandsFor (held records s) stream dropped)
     → Splits (stream ++ piece) (st.all ++ r ∷ []) t → StandsFor (held (records ++ r ∷ []) t) (stream ++ piece) dropped
@@ -32,7 +32,7 @@ more_records records r s t stream piece dropped st splits = record {
   kept = ap (λ (rs : List (List ℕ)). rs ++ r ∷ []) st.kept ∙ sym (drop-append-le dropped st.all (r ∷ []) st.bounded);
 }
 
--- a whole header
+-- A byte that completes a header extends the stream.
 header_goes : (records : List (List ℕ)) (payload header : List ℕ) (byte size : ℕ) (last : Bool) → header ++ byte ∷ [] ≡ header_of last size
     → size < 2 ^ 31
     → GoesOn (held records (Header payload header)) (after_header records (Header payload header) size last) (byte ∷ [])
@@ -61,7 +61,7 @@ header_goes records payload header byte size last whole small stream dropped st 
     empty false e = same_records records (Header payload header) (Header payload []) stream (byte ∷ []) dropped st
         (empty_ends stream st.all payload header byte st.splits e)
 
--- a byte of a header, whole or not
+-- A byte of a header, whether it completes the header or not, extends the stream.
 pub byte_goes : (records : List (List ℕ)) (payload header : List ℕ) (byte : ℕ)
     → (3 ≤ length header → let word = from_be_bytes w32 (header ++ byte ∷ []) in
     header ++ byte ∷ [] ≡ header_of (leb (2 ^ 31) word) (word % 2 ^ 31))
@@ -75,7 +75,7 @@ byte_goes records payload header byte whole stream dropped st =
           (header_goes records payload header byte _ _ (whole three) (omega arith) stream dropped st)
     ]
 
--- some of a fragment's data
+-- A piece of a fragment's data extends the stream.
 pub data_goes : (records : List (List ℕ)) (payload piece : List ℕ) (missing : ℕ) (last : Bool) → length piece ≤ missing
     → GoesOn (held records (Data payload missing last)) (after_data records (Data payload missing last) piece) piece
 data_goes records payload piece missing last within stream dropped st =
@@ -94,16 +94,15 @@ data_goes records payload piece missing last within stream dropped st =
     ends false e st = same_records records (Data payload missing false) (Header (payload ++ piece) []) stream piece dropped st
         (data_ends stream piece st.all payload missing st.splits e)
 
--- one stretch after the other
+-- Two extensions of the stream make one.
 pub goes_on_then : (old mid new : Records) (a b : List ℕ) → GoesOn old mid a → GoesOn mid new b → GoesOn old new (a ++ b)
 goes_on_then old mid new a b first second stream dropped st =
     subst (λ (l : List ℕ). StandsFor new l dropped) (append_assoc stream a b) (second (stream ++ a) dropped (first stream dropped st))
 
--- no stretch at all
 pub goes_on_none : (held : Records) → GoesOn held held []
 goes_on_none held stream dropped st = rw (append-nil stream) st
 
--- all of a piece, once none of it is left
+-- Once nothing of the piece is left, the whole piece has extended the stream.
 pub goes_on_all : (old new : Records) (piece rest : List ℕ) → length rest ≡ 0
     → (taken : List ℕ) × (piece ≡ taken ++ rest) × GoesOn old new taken
     → GoesOn old new piece
@@ -111,7 +110,7 @@ goes_on_all old new piece [] e stands =
     subst (λ (l : List ℕ). GoesOn old new l) (sym (stands.1 ∙ append-nil stands.0)) stands.2
 goes_on_all old new piece (b ∷ rest) e stands = absurd (omega arith)
 
--- a byte of a header, where a buffer takes it in
+-- The same as `byte_goes`, for the fields of a buffer.
 pub header_goes_on : (bytes lengths header : List ℕ) (spot : Place) (old new : Records) (byte : ℕ) → held_of bytes lengths header spot ≡ old
     → IsInHeader old.tail
     → new ≡ after_byte old.records old.tail byte
@@ -128,12 +127,11 @@ header_goes_on bytes lengths header spot old new byte is in_header value whole =
     at (place.Data missing last) h = absurd h
     at place.TooLong h = absurd h
 
--- the last byte of a header in its place
 set_last : (header : List ℕ) (n byte : ℕ) → length header ≡ 4 → n ≡ 3 → set header n byte ≡ take n header ++ byte ∷ []
 set_last (a ∷ b ∷ c ∷ d ∷ []) n byte four is = rw is refl
 set_last _ n byte four is = absurd (omega arith)
 
--- the word of a header that is whole with its last byte
+-- The four bytes of a complete header are those of the fragment that their word describes.
 pub whole_word : (header : List ℕ) (n byte word : ℕ) → length header ≡ 4 → n ≡ 3 → word ≡ from_be_bytes w32 (set header n byte)
     → set header n byte ≡ header_of (leb (2 ^ 31) word) (word % 2 ^ 31)
     → let w = from_be_bytes w32 (take n header ++ byte ∷ []) in take n header ++ byte ∷ [] ≡ header_of (leb (2 ^ 31) w) (w % 2 ^ 31)
@@ -141,13 +139,12 @@ whole_word header n byte word four is value whole =
     subst (λ (h : List ℕ). let w = from_be_bytes w32 h in h ≡ header_of (leb (2 ^ 31) w) (w % 2 ^ 31)) (set_last header n byte four is)
     (subst (λ (w : ℕ). set header n byte ≡ header_of (leb (2 ^ 31) w) (w % 2 ^ 31)) value whole)
 
--- in a header that wants one byte, three came
 pub three_came : (spot : Place) (payload n : ℕ) (p h : List ℕ) → IsPlace spot payload n → IsInHeader (tail_of spot p h) → 3 ≤ n → n ≡ 3
 three_came place.Header payload n p h at in_header le = omega (arith, at.1)
 three_came (place.Data missing last) payload n p h at in_header le = absurd in_header
 three_came place.TooLong payload n p h at in_header le = absurd in_header
 
--- a byte that leaves its header unfinished
+-- A byte that doesn't complete the header is stored after the others.
 pub header_grown : (bytes lengths header : List ℕ) (n byte : ℕ) (spot : Place) (old : Records)
     → held_of bytes lengths (take n header) spot ≡ old → IsInHeader old.tail → n < 3 → length header ≡ 4
     → held_of bytes lengths (take (n + 1) (set header n byte)) spot ≡ after_byte old.records old.tail byte
@@ -163,7 +160,7 @@ header_grown bytes lengths header n byte spot old is in_header less four =
     at (place.Data missing last) h = absurd h
     at place.TooLong h = absurd h
 
--- a byte that completes its header
+-- A byte that completes the header opens the fragment that the header describes.
 pub header_opens : (bytes lengths header : List ℕ) (n byte word : ℕ) (spot : Place) (old new : Records)
     → held_of bytes lengths (take n header) spot ≡ old → IsInHeader old.tail → length header ≡ 4 → n ≡ 3
     → word ≡ from_be_bytes w32 (set header n byte)
@@ -182,7 +179,7 @@ header_opens bytes lengths header n byte word spot old new is in_header four who
     at (place.Data missing last) h = absurd h
     at place.TooLong h = absurd h
 
--- some of a fragment's data, where a buffer takes it in
+-- The same as `data_goes`, for the fields of a buffer.
 pub data_goes_on : (bytes lengths header : List ℕ) (spot : Place) (old new : Records) (missing : ℕ) (last : Bool) (piece : List ℕ)
     → held_of bytes lengths header spot ≡ old
     → spot ≡ place.Data missing last → new ≡ after_data old.records old.tail piece → length piece ≤ missing → GoesOn old new piece
@@ -191,12 +188,12 @@ data_goes_on bytes lengths header spot old new missing last piece is at value wi
     rw value (subst (λ (h : Records). GoesOn h (after_data h.records h.tail piece) piece) old_is
     (data_goes (cut lengths bytes) (drop (sum lengths) bytes) piece missing last within))
 
--- after a record that is too long
+-- After a record that is too long, any bytes leave the buffer as it is.
 long_goes : (records : List (List ℕ)) (piece : List ℕ) → GoesOn (held records TooLong) (held records TooLong) piece
 long_goes records piece stream dropped st =
     same_records records TooLong TooLong stream piece dropped st (still_long stream piece st.all st.splits)
 
--- the same, where a buffer takes it in
+-- The same for the fields of a buffer.
 pub long_goes_on : (bytes lengths header : List ℕ) (spot : Place) (old : Records) (piece : List ℕ)
     → held_of bytes lengths header spot ≡ old → spot ≡ place.TooLong → GoesOn old old piece
 long_goes_on bytes lengths header spot old piece is at =

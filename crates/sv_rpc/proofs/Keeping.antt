@@ -1,4 +1,4 @@
--- The records that stand in a buffer stay in front while bytes come.
+-- Pushed bytes only add records to the buffer: those that are complete stay in front.
 use Rattle.std.proofs.Common.{◌≡◌, ℕ, ◌+◌, ◌-◌, ◌%◌, ◌^◌, Bool, true, false, cond, leb, ltb, List, [], ◌∷◌, ◌++◌, length, refl, sym, ap, ◌∙◌, append_assoc, append-nil}
 use Rattle.std.specs.Int.{w32, from_be_bytes}
 use Rattle.sv_rpc.specs.Limits.{max_record}
@@ -13,7 +13,7 @@ pub keeps_then : (old mid new : Records) → Keeps old mid → Keeps mid new →
 keeps_then old mid new a b =
     (a.0 ++ b.0, b.1 ∙ ap (λ (rs : List (List ℕ)). rs ++ b.0) a.1 ∙ append_assoc old.records a.0 b.0)
 
--- the records with more behind them, or none
+-- The records, possibly followed by more.
 abbrev Front : List (List ℕ) → Records → Type 0
 Front records new = (more : List (List ℕ)) × (new.records ≡ records ++ more)
 

@@ -1,4 +1,4 @@
--- What GETPORT answers is what its arguments spell.
+-- GETPORT's answer is the one that the encoding of its arguments requires.
 use Rattle.std.proofs.Common.{◌≡◌, ℕ, List, Result, Ok, Err, refl, sym, ◌∙◌}
 use Rattle.sv_xdr.specs.declared.fault.XdrFault.{XdrFault}
 use Rattle.sv_xdr.specs.declared.garbage.Garbage.{Garbage}
@@ -9,7 +9,7 @@ use Rattle.sv_xdr.proofs.Fields.{IsBytes, bytes_after, unsigned_begins, unsigned
 use Rattle.sv_rpc.specs.declared.ports.Ports.{Ports}
 use Rattle.sv_rpc.specs.Ports.{Mapping, mapping_fields, port_of, PortIs, port_at}
 
--- a mapping that is spelled is read
+-- Arguments that encode a mapping are answered with the mapping's port.
 mapping_reads : (ports : Ports) (args after : List ℕ) (m : Mapping) → BeginsAll args (mapping_fields m) after
     → port_at ports args ≡ Ok (port_of ports m)
 unfolding port_at
@@ -24,7 +24,7 @@ mapping_reads ports args after m prog =
       unsigned_begins prot.0 port.0 m.port port.1,
     ) refl
 
--- a field that was read, and what follows from that
+-- If reading succeeds, the next field is an unsigned integer, and the rest of the reading follows.
 step : {P : Type 0} (bytes : List ℕ) (f : ℕ × List ℕ → Result ℕ Garbage) (port : ℕ) → IsBytes bytes → (unsigned_at bytes >>= f) ≡ Ok port
     → ((n : ℕ) (after : List ℕ) → Begins bytes (Unsigned n) after → IsBytes after → f (n, after) ≡ Ok port → P) → P
 step {P = P} bytes f port fits e then = took (unsigned_at bytes) refl e
@@ -35,7 +35,7 @@ step {P = P} bytes f port fits e then = took (unsigned_at bytes) refl e
         then x.0 x.1 b (bytes_after (Unsigned x.0) bytes x.1 fits b) e1
     took (Err fault) is e1 = absurd cc
 
--- a port that is told is that of a mapping
+-- An answered port is that of a mapping which the arguments encode.
 port_takes : (ports : Ports) (args : List ℕ) (port : ℕ) → IsBytes args → port_at ports args ≡ Ok port → PortIs ports args (Ok port)
 unfolding port_at
 port_takes ports args port fits e =
@@ -45,7 +45,7 @@ port_takes ports args port fits e =
     step l3 _ port fits3 e3 (λ unused l4 b4 fits4 e4.
     (record { prog = prog; vers = vers; prot = prot; port = unused }, l4, (l1, b1, (l2, b2, (l3, b3, (l4, b4, refl)))), cc)))))
 
--- what the answer is, whatever it is
+-- For any arguments, the answer is the one that the definition requires.
 pub port_is : (ports : Ports) (args : List ℕ) → IsBytes args → PortIs ports args (port_at ports args)
 port_is ports args fits = outcome (port_at ports args) refl
   where

@@ -1,4 +1,4 @@
--- A byte stream splits into records in only one way.
+-- A byte stream splits into records and a tail in only one way.
 use Rattle.std.proofs.Common.{◌≡◌, ℕ, zero, suc, ◌+◌, ◌-◌, ◌%◌, ◌<◌, ◌≤◌, ◌^◌, Bool, true, false, leb, List, [], ◌∷◌, ◌++◌, length, drop, map, refl, sym, ap, subst, ◌∙◌, append_assoc, arith, lt-ltb, le-ltb}
 use Rattle.std.specs.List.{concat, flat_map, AllByRecursion}
 use Rattle.std.specs.Int.{w32, from_be_bytes}
@@ -10,11 +10,11 @@ use Rattle.sv_rpc.specs.Record.{header_of, fragment, Sent, bytes_of, record_of, 
 use Rattle.sv_rpc.specs.Stream.{Reading, read_on, read_data, read, reading}
 use Rattle.sv_rpc.specs.Laws.{OneReading, ReadAlone}
 
--- behind a payload the bytes are read so
+-- After `payload` of the record came, the bytes are read as `reading`, if `n` is large enough.
 abbrev Reads : List ℕ → List ℕ → Reading → Type 0
 Reads payload bytes reading = (n : ℕ) → length bytes < n → read n payload bytes ≡ reading
 
--- a header stands for its mark and its length
+-- A header's word has the mark of the last fragment as its top bit, and the length in the others.
 header_word : (last : Bool) (size : ℕ) (rest : List ℕ) → size < 2 ^ 31
     → (leb (2 ^ 31) (from_be_bytes w32 (header_of last size ++ rest)) ≡ last)
     × (from_be_bytes w32 (header_of last size ++ rest) % 2 ^ 31 ≡ size)
@@ -27,13 +27,13 @@ header_word false size rest small =
     let word : from_be_bytes w32 (header_of false size ++ rest) ≡ size = from_be_bytes-to_be_bytes_4 size (omega arith) in
     (lt-leb _ _ (omega arith), omega arith, refl, omega arith)
 
--- less than a header
+-- Fewer than four bytes are an unfinished header.
 short_reads : (payload header : List ℕ) → length header < 4 → Reads payload header ([], Header payload header)
 unfolding read
 short_reads payload header short zero more = absurd (omega arith)
 short_reads payload header short (suc n) more = rw (lt-ltb (length header) 4 short) refl
 
--- a header, and what its data are read as
+-- After a header, its fragment's data are read.
 header_reads : (last : Bool) (size : ℕ) (payload rest : List ℕ) (reading : Reading) → size < 2 ^ 31
     → ((n : ℕ) → length rest < n → read_data (read n) payload last size rest ≡ reading)
     → Reads payload (header_of last size ++ rest) reading
@@ -43,13 +43,13 @@ header_reads last size payload rest reading small next (suc n) more =
     let w = header_word last size rest small in
     rw (le-ltb (length (header_of last size ++ rest)) 4 (omega (arith, w)), w.0, w.1, w.2) (next n (omega (arith, w)))
 
--- a header that makes the record too long
+-- A header that makes the record too long ends the reading.
 long_reads : (last : Bool) (size : ℕ) (payload rest : List ℕ) → size < 2 ^ 31 → max_record < length payload + size
     → Reads payload (header_of last size ++ rest) ([], TooLong)
 long_reads last size payload rest small long = header_reads last size payload rest ([], TooLong) small
     (λ n more. rw (lt-ltb max_record (length payload + size) long) refl)
 
--- a header and less than its data
+-- A header with too few bytes after it is a fragment with missing data.
 part_reads : (last : Bool) (missing : ℕ) (payload text : List ℕ) → 0 < missing
     → length payload + (length text + missing) ≤ max_record
     → Reads payload (header_of last (length text + missing) ++ text) ([], Data (payload ++ text) missing last)
@@ -62,7 +62,7 @@ part_reads last missing payload text some fits =
       left,
     ) refl)
 
--- a whole fragment
+-- After a complete fragment, the next one is read.
 fragment_reads : (last : Bool) (payload text rest : List ℕ) (reading : Reading) → length payload + length text ≤ max_record
     → ((n : ℕ) → length rest < n → read_on (read n) (payload ++ text) last rest ≡ reading)
     → Reads payload (fragment last text ++ rest) reading
@@ -78,11 +78,10 @@ fragment_reads last payload text rest reading fits next =
     )
     (next n (omega (arith, length-append text rest)))))
 
--- equal bytes are read alike
 moved : (payload a b : List ℕ) (reading : Reading) → b ≡ a → Reads payload a reading → Reads payload b reading
 moved payload a b reading same reads = subst (λ bytes. Reads payload bytes reading) (sym same) reads
 
--- the fragments in front of the last one
+-- Fragments before the last one add their data to the record.
 fronts_read : (front : List (List ℕ)) (payload rest : List ℕ) (reading : Reading)
     → length payload + length (concat front) ≤ max_record
     → Reads (payload ++ concat front) rest reading
@@ -94,7 +93,7 @@ fronts_read (text ∷ front) payload rest reading fits next =
     moved payload _ _ reading (append_assoc (fragment false text) (flat_map (fragment false) front) rest)
     (fragment_reads false payload text (flat_map (fragment false) front ++ rest) reading (omega arith) again)
 
--- whole records, and a tail that is read so
+-- Complete records are read one after the other, and then the tail.
 records_read : (sent : List Sent) (rest : List ℕ) (tail : Tail) → AllByRecursion IsTaken sent → Reads [] rest ([], tail)
     → Reads [] (flat_map bytes_of sent ++ rest) (map record_of sent, tail)
 records_read [] rest tail taken next = next
@@ -107,7 +106,7 @@ records_read (first ∷ sent) rest tail taken next =
     moved [] _ _ (map record_of (first ∷ sent), tail) (simp append_assoc)
     (fronts_read first.front [] (fragment true first.final ++ bytes) (map record_of (first ∷ sent), tail) (omega (arith, taken.0)) final)
 
--- what stands behind the whole records is read as it is told
+-- A tail is read as this tail.
 tail_reads : (rest : List ℕ) (tail : Tail) → IsTail rest tail → Reads [] rest ([], tail)
 tail_reads rest (Header payload header) is =
     let size = ap length is.2 in
@@ -120,19 +119,18 @@ tail_reads rest (Data payload missing last) is =
 tail_reads rest TooLong is =
     rw is.4 (fronts_read is.0 [] (header_of is.2 is.1 ++ is.3) _ (omega (arith, is.5)) (long_reads is.2 is.1 (concat is.0) is.3 is.6 is.7))
 
--- a stream is read as it splits
+-- A stream is read as the records and the tail into which it splits.
 splits_read : (stream : List ℕ) (all : List (List ℕ)) (tail : Tail) → Splits stream all tail → Reads [] stream (all, tail)
 splits_read stream all tail splits = rw (splits.whole, ← splits.records_are)
     (records_read splits.sent splits.rest tail splits.taken (tail_reads splits.rest tail splits.behind))
 
--- a stream that splits in two ways is read as both
+-- A stream that splits in two ways is read as both, so they are equal.
 pub one_reading : OneReading
 one_reading stream a b s t one other =
     let size : length stream < length stream + 1 = omega arith in
     let same = sym (splits_read stream a s one (length stream + 1) size) ∙ splits_read stream b t other (length stream + 1) size in
     (ap (λ (r : Reading). r.0) same, ap (λ (r : Reading). r.1) same)
 
--- a stream splits in no other way than it is read
 pub read_alone : ReadAlone
 read_alone stream records tail splits =
     let same = splits_read stream records tail splits (length stream + 1) (omega arith) in

@@ -1,4 +1,4 @@
--- No header begins another.
+-- No header of a call or a reply is a proper prefix of another.
 use Rattle.std.proofs.Common.{◌≡◌, ℕ, List, [], ◌∷◌, refl, sym, subst, ◌∙◌, arith}
 use Rattle.sv_xdr.specs.Spelling.{Field, Unsigned, Opaque, BeginsAll}
 use Rattle.sv_xdr.proofs.PrefixFree.{one_field}
@@ -8,7 +8,7 @@ use Rattle.sv_rpc.specs.Call.{heading}
 use Rattle.sv_rpc.specs.Reply.{reply_fields}
 use Rattle.sv_rpc.specs.Laws.{CallsPrefixFree, RepliesPrefixFree}
 
--- The fields are the same as far as they are words or opaque data in both lists, and so is what
+-- The fields agree as far as both lists have words or both have opaque data, and so does what
 -- follows two lists that end together.
 abbrev Agree : List Field → List Field → List ℕ → List ℕ → Type 0
 Agree [] [] after behind = after ≡ behind
@@ -16,15 +16,13 @@ Agree (Unsigned m ∷ xs) (Unsigned n ∷ ys) after behind = (m ≡ n) × Agree 
 Agree (Opaque s ∷ xs) (Opaque t ∷ ys) after behind = (s ≡ t) × Agree xs ys after behind
 Agree _ _ after behind = Unit {0}
 
--- the number of an unsigned integer
 unsigned_is : (m n : ℕ) → Unsigned m ≡ Unsigned n → m ≡ n
 unsigned_is m n e = cc
 
--- the bytes of opaque data
 opaque_is : (s t : List ℕ) → Opaque s ≡ Opaque t → s ≡ t
 opaque_is s t e = cc
 
--- two lists of fields that begin the same bytes
+-- Two lists of fields that the same bytes encode agree.
 agree : (xs ys : List Field) (bytes after behind : List ℕ) → BeginsAll bytes xs after → BeginsAll bytes ys behind → Agree xs ys after behind
 agree [] [] bytes after behind h k = sym h ∙ k
 agree (Unsigned m ∷ xs) (Unsigned n ∷ ys) bytes after behind h k =
@@ -35,11 +33,11 @@ agree (Opaque s ∷ xs) (Opaque t ∷ ys) bytes after behind h k =
     (opaque_is s t one.0, agree xs ys k.0 after behind (subst (λ (l : List ℕ). BeginsAll l xs after) one.1 h.2) k.2)
 agree xs ys bytes after behind h k = tt
 
--- headers of calls have the same kinds of fields, so they agree in all
+-- The headers of two calls have the same kinds of fields, so they agree in all of them.
 pub calls_prefix_free : CallsPrefixFree
 calls_prefix_free x y c d v w bytes after behind h k = let a = agree (heading x c v) (heading y d w) bytes after behind h k in (cc, cc)
 
--- headers of replies that agree are one: of two shapes, the third or the sixth words differ
+-- The headers of two replies that agree are equal: different shapes differ in some word.
 replies_agree : (x y : ℕ) (r s : Reply) (after behind : List ℕ) → Agree (reply_fields x r) (reply_fields y s) after behind
     → (x ≡ y) × (r ≡ s) × (after ≡ behind)
 replies_agree x y Success Success after behind h = (h.0, refl, cc)
@@ -50,7 +48,6 @@ replies_agree x y ProcUnavail ProcUnavail after behind h = (h.0, refl, cc)
 replies_agree x y GarbageArgs GarbageArgs after behind h = (h.0, refl, cc)
 replies_agree x y r s after behind h = absurd (omega arith)
 
--- headers of replies that begin the same bytes
 pub replies_prefix_free : RepliesPrefixFree
 replies_prefix_free x y r s bytes after behind h k =
     replies_agree x y r s after behind (agree (reply_fields x r) (reply_fields y s) bytes after behind h k)

@@ -1,4 +1,4 @@
--- What a change of the fields makes of what is held.
+-- How each change of a buffer's fields changes the records and the tail that the buffer holds.
 use Rattle.std.proofs.Common.{◌≡◌, ◌≢◌, ℕ, ◌+◌, ◌-◌, ◌*◌, ◌<◌, ◌≤◌, Bool, true, false, List, [], ◌∷◌, ◌++◌, length, take, drop, get_or, set, refl, sym, ap, subst, ◌∙◌, arith, inl, inr}
 use Rattle.std.proofs.lemmas.Bool.{cases_lt, lt-ltb, le-ltb}
 use Rattle.std.specs.Prelude.{sum}
@@ -12,7 +12,7 @@ use Rattle.sv_rpc.specs.RecordBuf.{Records, StandsFor, IsRoom, used_by, room_of}
 use Rattle.sv_rpc.specs.Representation.{IsValid, InRoom, IsPlace, IsInHeader, IsBeforeHeader, IsInData, held_of, cut, tail_of, finish_record, begun_of, after_data}
 use Rattle.sv_rpc.proofs.Cuts.{sum_push, cut_append, cut_push, used_at_header, used_in_data}
 
--- the room of a value is the room of the stream
+-- The room computed from the buffer is the room that the stream leaves.
 pub room_answer : (held : Records) (stream : List ℕ) (dropped room : ℕ) → room ≡ room_of held → StandsFor held stream dropped
     → IsRoom stream dropped room
 room_answer held stream dropped room e s = (
@@ -23,7 +23,7 @@ room_answer held stream dropped room e s = (
   e ∙ ap (λ (rs : List (List ℕ)). capacity - used_by rs held.tail) s.kept,
 )
 
--- one record fewer
+-- Dropping the first record leaves a buffer for the same stream, with one more record dropped.
 pub drop_answer : (old new : Records) (stream : List ℕ) (dropped : ℕ) → new ≡ record { records = drop 1 old.records; tail = old.tail }
     → old.records ≢ [] → StandsFor old stream dropped
     → StandsFor new stream (dropped + 1)
@@ -36,17 +36,16 @@ drop_answer old new stream dropped e some s =
     ] in
     rw e (record { all = s.all; splits = s.splits; bounded = few; kept = kept })
 
--- a complete record has a length
+-- The buffer stores a length for each complete record.
 pub some_length : (bytes lengths : List ℕ) → cut lengths bytes ≢ [] → 0 < length lengths
 some_length bytes [] some = absurd (some refl)
 some_length bytes (n ∷ lengths) some = omega arith
 
--- the first length counts the first record
 first_counted : (n size : ℕ) (lengths bytes : List ℕ) (payload : ℕ) → size ≡ n → sum (n ∷ lengths) + payload ≡ length bytes
     → size + sum lengths + payload ≡ length bytes
 first_counted n size lengths bytes payload e whole = omega (arith, sum_by-append (λ (m : ℕ). m) (n ∷ []) lengths)
 
--- the fields without the first record
+-- Dropping the first record keeps the fields valid.
 pub first_dropped : (bytes bytes' lengths lengths' header : List ℕ) (space space' slots slots' payload header_len size : ℕ) (spot : Place)
     → IsValid bytes lengths header space slots payload header_len spot → 0 < length lengths → size ≡ get_or lengths 0 size
     → lengths' ≡ drop 1 lengths → bytes' ≡ drop size bytes → space' ≡ space → slots' ≡ slots
@@ -66,7 +65,7 @@ first_dropped bytes bytes' (n ∷ lengths) lengths' header space space' slots sl
       counted = omega (arith, k.counted, left, fewer);
     }
 
--- what is held without the first record
+-- Dropping the first length, and as many bytes, drops the first record.
 pub first_gone : (bytes bytes' lengths lengths' header : List ℕ) (payload size : ℕ) (spot : Place) (old : Records)
     → held_of bytes lengths header spot ≡ old → sum lengths + payload ≡ length bytes → 0 < length lengths
     → size ≡ get_or lengths 0 size
@@ -79,7 +78,7 @@ first_gone bytes bytes' (n ∷ lengths) lengths' header payload size spot old is
     (omega (arith, first, sum_by-append (λ (m : ℕ). m) (n ∷ []) lengths))) in
     rw (← is, rest, e, f, first) refl
 
--- the room, by the lengths of the parts
+-- The room, computed from the lengths of the fields.
 pub room_by_parts : (bytes lengths header : List ℕ) (space slots payload header_len begun : ℕ) (spot : Place)
     → IsValid bytes lengths header space slots payload header_len spot
     → begun ≡ begun_of spot header_len → capacity - (4 * length lengths + length bytes + 4 + begun)
@@ -94,7 +93,7 @@ room_by_parts bytes lengths header space slots payload header_len begun (place.D
     omega (arith, used_in_data lengths bytes payload missing last k.whole)
 room_by_parts bytes lengths header space slots payload header_len begun place.TooLong k e = omega arith
 
--- where a record ends, there is a slot for its length
+-- Where a record ends, the buffer has room for its length.
 pub finish_room : (bytes lengths header : List ℕ) (space slots payload header_len : ℕ) (spot : Place)
     → IsValid bytes lengths header space slots payload header_len spot
     → IsBeforeHeader (tail_of spot (drop (sum lengths) bytes) (take header_len header))
@@ -105,7 +104,7 @@ finish_room bytes lengths header space slots payload header_len place.Header k h
 finish_room bytes lengths header space slots payload header_len (place.Data missing last) k h room = absurd h
 finish_room bytes lengths header space slots payload header_len place.TooLong k h room = absurd h
 
--- with its length the record is whole
+-- Storing the record's length completes the record and keeps the fields valid.
 pub finish_keeps : (bytes lengths lengths' header : List ℕ) (space slots slots' payload header_len : ℕ) (spot : Place)
     → IsValid bytes lengths header space slots payload header_len spot
     → IsBeforeHeader (tail_of spot (drop (sum lengths) bytes) (take header_len header))
@@ -140,14 +139,14 @@ finish_holds bytes lengths lengths' header space slots payload header_len place.
 finish_holds bytes lengths lengths' header space slots payload header_len (place.Data missing last) k h e = absurd h
 finish_holds bytes lengths lengths' header space slots payload header_len place.TooLong k h e = absurd h
 
--- data are missing where the tail says so
+-- If the tail lacks data, the buffer is within a fragment's data.
 pub at_data : (spot : Place) (payload header : List ℕ) (missing : ℕ) (last : Bool) → IsInData (tail_of spot payload header) missing last
     → spot ≡ place.Data missing last
 at_data place.Header payload header missing last h = absurd h
 at_data (place.Data m l) payload header missing last h = let m_is = h.0 in let l_is = h.1 in cc
 at_data place.TooLong payload header missing last h = absurd h
 
--- how many bytes there are with a piece of data
+-- The bytes with the next piece of data stay within the capacity.
 pub data_room : (bytes lengths header : List ℕ) (space slots payload header_len n missing : ℕ) (last : Bool) (spot : Place)
     → IsValid bytes lengths header space slots payload header_len spot
     → spot ≡ place.Data missing last → InRoom (held_of bytes lengths (take header_len header) spot) n
@@ -157,7 +156,7 @@ data_room bytes lengths header space slots payload header_len n missing last (pl
     omega (arith, used_in_data lengths bytes payload m l k.whole)
 data_room bytes lengths header space slots payload header_len n missing last place.TooLong k e room = absurd cc
 
--- the fields with a byte of a header that stays unfinished
+-- A byte that doesn't complete the header keeps the fields valid.
 pub header_keeps : (bytes lengths header : List ℕ) (space slots payload header_len byte : ℕ) (spot : Place)
     → IsValid bytes lengths header space slots payload header_len spot
     → IsInHeader (tail_of spot (drop (sum lengths) bytes) (take header_len header)) → header_len < 3
@@ -173,7 +172,7 @@ header_keeps bytes lengths header space slots payload header_len byte place.Head
 header_keeps bytes lengths header space slots payload header_len byte (place.Data missing last) k h less = absurd h
 header_keeps bytes lengths header space slots payload header_len byte place.TooLong k h less = absurd h
 
--- the fields with a piece of data
+-- A piece of data keeps the fields valid.
 pub data_keeps : (bytes bytes' lengths header piece : List ℕ) (space space' slots payload header_len : ℕ) (spot spot' : Place)
     → IsValid bytes lengths header space slots payload header_len spot → bytes' ≡ bytes ++ piece → space ≤ space'
     → 4 * length lengths + length bytes + 4 + length piece ≤ capacity
@@ -190,7 +189,7 @@ data_keeps bytes bytes' lengths header piece space space' slots payload header_l
       counted = omega arith;
     }
 
--- what is held with a piece of data
+-- A piece of data is appended to the unfinished record.
 pub data_holds : (bytes bytes' lengths header piece : List ℕ) (n : ℕ) (spot' : Place) → sum lengths + n ≡ length bytes
     → bytes' ≡ bytes ++ piece
     → held_of bytes' lengths header spot' ≡ record {
@@ -206,7 +205,7 @@ data_holds bytes bytes' lengths header piece n spot' whole e =
     let made : List (List ℕ) → List ℕ → Records = λ rs p. record { records = rs; tail = tail_of spot' p header } in
     ap (λ (rs : List (List ℕ)). made rs (drop (sum lengths) bytes')) records ∙ ap (made (cut lengths bytes)) payload
 
--- a piece of data that isn't the last of its fragment
+-- A piece that doesn't end its fragment leaves fewer bytes missing.
 pub data_grown : (bytes bytes' lengths header piece : List ℕ) (n missing : ℕ) (last : Bool) (spot : Place) (old : Records)
     → held_of bytes lengths header spot ≡ old
     → spot ≡ place.Data missing last → sum lengths + n ≡ length bytes → bytes' ≡ bytes ++ piece → length piece < missing
@@ -221,7 +220,7 @@ data_grown bytes bytes' lengths header piece n missing last spot old is at whole
     } ≡ after_data h.records h.tail piece) old_is
     (rw (lt-ltb (length piece) missing less) refl)
 
--- the piece that ends a fragment, not the last one
+-- A piece that ends a fragment, but not the record: a header follows.
 pub data_ended : (bytes bytes' lengths header piece : List ℕ) (n missing : ℕ) (last : Bool) (spot : Place) (old : Records)
     → held_of bytes lengths header spot ≡ old
     → spot ≡ place.Data missing last → sum lengths + n ≡ length bytes → bytes' ≡ bytes ++ piece → missing ≤ length piece → header ≡ []
@@ -234,7 +233,7 @@ data_ended bytes bytes' lengths header piece n missing last spot old is at whole
     ≡ after_data h.records h.tail piece) old_is
     (rw (le-ltb (length piece) missing all, other, none) refl)
 
--- the piece that ends the last fragment: the record is whole
+-- A piece that ends the last fragment completes the record.
 pub data_finished : (bytes bytes' lengths header piece : List ℕ) (n missing : ℕ) (last : Bool) (spot : Place) (old new : Records)
     → held_of bytes lengths header spot ≡ old
     → spot ≡ place.Data missing last → sum lengths + n ≡ length bytes → bytes' ≡ bytes ++ piece → missing ≤ length piece → last ≡ true
@@ -248,7 +247,7 @@ data_finished bytes bytes' lengths header piece n missing last spot old new is a
     ≡ after_data h.records h.tail piece) old_is
     (rw (le-ltb (length piece) missing all, other) refl)
 
--- where a fragment ends, there is room for its record
+-- Where a fragment ends, there is room for the length of its record.
 pub ended_room : (bytes bytes' lengths header piece : List ℕ) (n : ℕ) → sum lengths + n ≡ length bytes → bytes' ≡ bytes ++ piece
     → header ≡ []
     → 4 * length lengths + length bytes + 4 + length piece ≤ capacity

@@ -1,4 +1,4 @@
--- What is taken in stays within the room.
+-- Bytes that fit into the room of a buffer still fit while they are pushed one by one.
 use Rattle.std.proofs.Common.{◌≡◌, ℕ, ◌+◌, ◌-◌, ◌<◌, ◌≤◌, Bool, true, false, cond, List, [], ◌∷◌, ◌++◌, length, drop, ap, subst, ◌∙◌, arith, inl, inr}
 use Rattle.std.specs.Prelude.{sum, sum_by}
 use Rattle.std.proofs.lemmas.Bool.{cases_lt, le-ltb, lt-ltb}
@@ -11,7 +11,6 @@ use Rattle.sv_rpc.specs.Record.{Tail, Header, Data, TooLong}
 use Rattle.sv_rpc.specs.RecordBuf.{Records, used_by, room_of}
 use Rattle.sv_rpc.specs.Representation.{InRoom, Fits, IsInHeader, IsInData, held_of, tail_of, spare_of, after_byte, after_header, after_data}
 
--- what records count, with one more
 counted_push : (records : List (List ℕ)) (r : List ℕ)
     → sum_by (λ (r : List ℕ). 4 + length r) (records ++ r ∷ []) ≡ sum_by (λ (r : List ℕ). 4 + length r) records + (4 + length r)
 counted_push records r = sum_by-append (λ r. 4 + length r) records (r ∷ [])
@@ -21,7 +20,7 @@ spare_is_small : (payload : List ℕ) → spare_of payload ≤ 4
 spare_is_small [] = omega arith
 spare_is_small (b ∷ payload) = omega arith
 
--- behind a whole header
+-- After a complete header, the bytes that follow it still fit.
 header_room : (records : List (List ℕ)) (payload header : List ℕ) (size n : ℕ) (last : Bool) → Fits records (Header payload []) (4 + n)
     → InRoom (after_header records (Header payload header) size last) n
 header_room records payload header size n last fits =
@@ -39,7 +38,7 @@ header_room records payload header size n last fits =
     empty true = omega (arith, counted_push records payload, spare_is_small payload, fits)
     empty false = omega (arith, fits)
 
--- behind a byte of a header
+-- After a byte of a header, the other bytes still fit.
 pub byte_room : (held new : Records) (byte n : ℕ) → IsInHeader held.tail → new ≡ after_byte held.records held.tail byte → InRoom held
     (1 + n)
     → InRoom new n
@@ -54,7 +53,7 @@ byte_room held new byte n in_header value fits = rw value (at held.tail in_heade
     at (Data payload missing last) h f = absurd h
     at TooLong h f = absurd h
 
--- what the room holds fits
+-- Bytes that don't exceed the room fit.
 pub room_fits : (held : Records) (n : ℕ) → n ≤ room_of held → 0 < n → InRoom held n
 room_fits held n le some = at held.tail le
   where
@@ -63,7 +62,7 @@ room_fits held n le some = at held.tail le
     at (Data payload missing last) h = omega (arith, h, some)
     at TooLong h = tt
 
--- the last byte of a header leaves room for a record's
+-- A header that is complete frees the room that its four bytes took.
 pub header_fits : (bytes lengths header : List ℕ) (spot : Place) (old : Records) → held_of bytes lengths header spot ≡ old
     → IsInHeader old.tail → length header ≡ 3 → InRoom old 1
     → InRoom (held_of bytes lengths [] spot) 4
@@ -76,7 +75,7 @@ header_fits bytes lengths header spot old is in_header three fits =
     at (place.Data missing last) h f = absurd h
     at place.TooLong h f = absurd h
 
--- fewer bytes fit where more fit
+-- If more bytes fit, so do fewer.
 pub fewer_fit : (held : Records) (n m : ℕ) → n ≤ m → InRoom held m → InRoom held n
 fewer_fit held n m le fits = at held.tail fits
   where
@@ -85,7 +84,7 @@ fewer_fit held n m le fits = at held.tail fits
     at (Data payload missing last) f = omega (arith, f, le)
     at TooLong f = tt
 
--- behind some of a fragment's data
+-- After a piece of a fragment's data, the other bytes still fit.
 data_room : (records : List (List ℕ)) (payload piece : List ℕ) (missing : ℕ) (last : Bool) (n m : ℕ) → length piece + m ≡ n
     → Fits records (Data payload missing last) n
     → InRoom (after_data records (Data payload missing last) piece) m
@@ -100,7 +99,7 @@ data_room records payload piece missing last n m all fits =
     ends true = omega (arith, counted_push records (payload ++ piece), length-append payload piece, fits)
     ends false = omega (arith, length-append payload piece, fits)
 
--- behind some of a fragment's data, where a buffer takes it in
+-- The same for any tail that is within a fragment's data.
 pub piece_room : (held new : Records) (piece : List ℕ) (missing : ℕ) (last : Bool) (n m : ℕ) → IsInData held.tail missing last
     → length piece + m ≡ n → new ≡ after_data held.records held.tail piece → InRoom held n
     → InRoom new m

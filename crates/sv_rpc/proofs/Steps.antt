@@ -1,4 +1,4 @@
--- What one more byte of a header, or one more piece of data, does to the reading of a stream.
+-- How another byte of a header or another piece of data changes what a stream splits into.
 use Rattle.std.proofs.Common.{◌≡◌, ℕ, ◌+◌, ◌-◌, ◌%◌, ◌<◌, ◌≤◌, ◌^◌, Bool, true, false, leb, List, [], ◌∷◌, ◌++◌, length, get_or, refl, sym, ap, ◌∙◌, append_assoc, arith}
 use Rattle.std.specs.List.{concat, AllByRecursion}
 use Rattle.std.specs.Int.{w32, to_be_bytes, from_be_bytes}
@@ -10,12 +10,11 @@ use Rattle.std.proofs.lemmas.List.Folds.{concat-append}
 use Rattle.sv_rpc.specs.Limits.{max_record}
 use Rattle.sv_rpc.specs.Record.{header_of, fragment, Sent, bytes_of, record_of, IsTaken, Tail, Header, Data, TooLong, IsTail, Splits}
 
--- a property of all elements and of one more at the end
 all_push : {A : Type 0} (P : A → Type 0) (xs : List A) (x : A) → AllByRecursion P xs → P x → AllByRecursion P (xs ++ x ∷ [])
 all_push P [] x all one = (one, tt)
 all_push P (y ∷ xs) x all one = (all.0, all_push P xs x all.1 one)
 
--- the stream with another tail behind the same records
+-- The stream has the same records and another tail.
 longer : (stream piece : List ℕ) (all : List (List ℕ)) (s t : Tail) (splits : Splits stream all s) → IsTail (splits.rest ++ piece) t
     → Splits (stream ++ piece) all t
 longer stream piece all s t splits behind = record {
@@ -27,7 +26,7 @@ longer stream piece all s t splits behind = record {
   behind = behind;
 }
 
--- the stream with one more whole record, and nothing behind it
+-- The stream has one more complete record, and nothing follows it.
 one_more : (stream piece : List ℕ) (all : List (List ℕ)) (text : List ℕ) (s : Tail) (splits : Splits stream all s) (sent : Sent)
     → splits.rest ++ piece ≡ bytes_of sent
     → text ≡ record_of sent → length text ≤ max_record → Splits (stream ++ piece) (all ++ text ∷ []) (Header [] [])
@@ -40,7 +39,7 @@ one_more stream piece all text s splits sent is text_is taken = record {
   behind = ([], refl, refl, omega arith, omega arith);
 }
 
--- a byte that does not complete the header
+-- The byte doesn't complete the header.
 pub header_grows : (stream : List ℕ) (all : List (List ℕ)) (payload header : List ℕ) (byte : ℕ) → Splits stream all (Header payload header)
     → length header + 1 < 4
     → Splits (stream ++ byte ∷ []) all (Header payload (header ++ byte ∷ []))
@@ -54,7 +53,7 @@ header_grows stream all payload header byte splits short =
       b.4,
     )
 
--- the byte that completes the header of a fragment with data that may be taken
+-- The byte completes the header of a fragment that has data, which fit into the record.
 pub header_ends : (stream : List ℕ) (all : List (List ℕ)) (payload header : List ℕ) (byte size : ℕ) (last : Bool)
     → Splits stream all (Header payload header)
     → header ++ byte ∷ [] ≡ header_of last size → 0 < size → length payload + size ≤ max_record
@@ -65,7 +64,7 @@ header_ends stream all payload header byte size last splits is some fits =
     longer stream (byte ∷ []) all (Header payload header) _ splits
     (b.0, [], rw (b.1, append_assoc, is, none, append-nil (header_of last size)) refl, b.2 ∙ sym (append-nil (concat b.0)), some, fits)
 
--- the byte that completes the header of an empty fragment, not the last of its record
+-- The byte completes the header of an empty fragment that isn't the last one of its record.
 pub empty_ends : (stream : List ℕ) (all : List (List ℕ)) (payload header : List ℕ) (byte : ℕ) → Splits stream all (Header payload header)
     → header ++ byte ∷ [] ≡ header_of false 0 → Splits (stream ++ byte ∷ []) all (Header payload [])
 empty_ends stream all payload header byte splits is =
@@ -78,7 +77,7 @@ empty_ends stream all payload header byte splits is =
       b.4,
     )
 
--- the byte that completes the header of an empty fragment, the last of its record
+-- The byte completes the header of an empty fragment that is the last one of its record.
 pub empty_last_ends : (stream : List ℕ) (all : List (List ℕ)) (payload header : List ℕ) (byte : ℕ)
     → Splits stream all (Header payload header)
     → header ++ byte ∷ [] ≡ header_of true 0 → Splits (stream ++ byte ∷ []) (all ++ payload ∷ []) (Header [] [])
@@ -88,7 +87,7 @@ empty_last_ends stream all payload header byte splits is =
     one_more stream (byte ∷ []) all payload (Header payload header) splits sent (rw (b.1, append_assoc, is) refl)
     (b.2 ∙ sym (append-nil (concat b.0))) b.4
 
--- the byte that completes the header of a fragment that makes the record too long
+-- The byte completes the header of a fragment that makes the record too long.
 pub header_too_long : (stream : List ℕ) (all : List (List ℕ)) (payload header : List ℕ) (byte size : ℕ) (last : Bool)
     → Splits stream all (Header payload header)
     → header ++ byte ∷ [] ≡ header_of last size → size < 2 ^ 31 → max_record < length payload + size
@@ -98,13 +97,13 @@ header_too_long stream all payload header byte size last splits is small long =
     longer stream (byte ∷ []) all (Header payload header) _ splits
     (b.0, size, last, [], rw (b.1, append_assoc, is, append-nil (header_of last size)) refl, rw (← b.2) b.4, small, rw (← b.2) long)
 
--- after a record that is too long nothing changes that
+-- Once a record is too long, nothing that follows changes this.
 pub still_long : (stream piece : List ℕ) (all : List (List ℕ)) → Splits stream all TooLong → Splits (stream ++ piece) all TooLong
 still_long stream piece all splits =
     let b = splits.behind in
     longer stream piece all TooLong _ splits (b.0, b.1, b.2, b.3 ++ piece, rw b.4 (simp append_assoc), b.5, b.6, b.7)
 
--- a piece of the data, but not all that are missing
+-- The piece is shorter than the fragment's missing data.
 pub data_grows : (stream piece : List ℕ) (all : List (List ℕ)) (payload : List ℕ) (missing : ℕ) (last : Bool)
     → Splits stream all (Data payload missing last)
     → length piece < missing → Splits (stream ++ piece) all (Data (payload ++ piece) (missing - length piece) last)
@@ -120,7 +119,7 @@ data_grows stream piece all payload missing last splits less =
       omega (arith, length-append payload piece),
     )
 
--- the data that are missing, of a fragment that is not the last of its record
+-- The piece completes a fragment that isn't the last one of its record.
 pub data_ends : (stream piece : List ℕ) (all : List (List ℕ)) (payload : List ℕ) (missing : ℕ)
     → Splits stream all (Data payload missing false)
     → length piece ≡ missing → Splits (stream ++ piece) all (Header (payload ++ piece) [])
@@ -135,7 +134,7 @@ data_ends stream piece all payload missing splits ends =
       omega (arith, length-append payload piece),
     )
 
--- the data that are missing, of the last fragment of a record
+-- The piece completes the last fragment of a record.
 pub data_last_ends : (stream piece : List ℕ) (all : List (List ℕ)) (payload : List ℕ) (missing : ℕ)
     → Splits stream all (Data payload missing true)
     → length piece ≡ missing → Splits (stream ++ piece) (all ++ (payload ++ piece) ∷ []) (Header [] [])
@@ -147,13 +146,13 @@ data_last_ends stream piece all payload missing splits ends =
     (rw (b.3, append_assoc) refl)
     (omega (arith, length-append payload piece))
 
--- each word is spelled as a header
+-- Each 32-bit word is encoded as the header of a fragment.
 word_heads : (word : ℕ) (last : Bool) → leb (2 ^ 31) word ≡ last → word < 2 ^ 32 → to_be_bytes w32 word ≡ header_of last (word % 2 ^ 31)
 word_heads word true is small = ap (to_be_bytes w32) (omega (arith, leb-true (2 ^ 31) word is))
 word_heads word false is small = ap (to_be_bytes w32) (omega (arith, leb-false (2 ^ 31) word is))
 
--- four bytes are the header that their word stands for: its top bit says whether the fragment is
--- the last, and the others are the length
+-- Four bytes are the header that their word stands for: its top bit marks the last fragment, and
+-- the other bits are the length.
 pub header_read : (header : List ℕ) (word : ℕ) → length header ≡ 4 → ((i : ℕ) → get_or header i 0 < 256) → word ≡ from_be_bytes w32 header
     → word < 2 ^ 32
     → header ≡ header_of (leb (2 ^ 31) word) (word % 2 ^ 31)

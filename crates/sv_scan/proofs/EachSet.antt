@@ -1,4 +1,4 @@
--- What each of the settings is after one is set.
+-- The settings after one of them is set.
 use Rattle.std.proofs.Common.{◌≡◌, Some, None, unwrap_or, rules}
 use Rattle.sv_scan.specs.declared.setting.Setting.{Setting}
 use Rattle.sv_scan.specs.declared.setting.Setting.TheVariants.{List as SetList, Monitor, Range, Upper, Lower, Limits, Source as SetSource, Count}
@@ -6,7 +6,7 @@ use Rattle.sv_scan.specs.declared.settings.Settings.{Settings}
 use Rattle.sv_scan.specs.Setting.{least_range}
 use Rattle.sv_scan.specs.Together.{IsSet}
 
--- Each has the value that is given for it, or else is as it was.
+-- Each setting has its new value if it was set, else the old one.
 pub record EachSet (setting : Setting) (old new : Settings) : Type 0 where
   pub list : new.list ≡ unwrap_or (elim setting [ SetList channels ↦ Some channels | _ ↦ None ]) old.list
   pub monitor : new.monitor ≡ unwrap_or (elim setting [ Monitor channel ↦ Some channel | _ ↦ None ]) old.monitor

@@ -1,4 +1,4 @@
--- A list that was copied to the front of an array of zeros.
+-- A list that is copied to the front of an array of zeros.
 use Rattle.std.proofs.Common.{◌≡◌, ℕ, ◌-◌, ◌≤◌, List, ◌++◌, length, drop, replicate, ap, ◌∙◌, subst, sym, arith, length-append}
 use Rattle.sv_errors.specs.Limits.{longest_list}
 use Rattle.std.proofs.Math.Seq.{drop-append_seam}

@@ -1,4 +1,4 @@
--- What is true of a measurement: its channels are there, and there is room for its readings.
+-- A measurement scans existing channels, and memory suffices for its readings.
 use Rattle.std.proofs.Common.{◌≡◌, ℕ, ◌*◌, ◌%◌, ◌<◌, ◌≤◌, ◌+◌, Bool, true, false, List, [], ◌∷◌, ◌++◌, length, length-append, Some, None, Option, refl, ap, ◌∙◌, sym, subst, arith, if◌then◌else◌}
 use Rattle.std.proofs.Math.Nat.{mul-le-mul}
 use Rattle.std.proofs.lemmas.Bool.{and_parts, eqb-false}
@@ -18,7 +18,7 @@ use Rattle.sv_scan.specs.Counted.{is_scanning}
 use Rattle.sv_scan.specs.Stands.{Run, Contents}
 use Rattle.sv_scan.specs.Representation.{IsValid, IsRun, IsRunOf, run_state}
 
--- a list that may be scanned
+-- A list that may be scanned has 1 to 128 channels.
 size_is : (n : ℕ) → nat_le 1 n ≡ true → nat_le n longest_list ≡ true → (1 ≤ n) × (n ≤ longest_list)
 size_is n some few = grind (arith, nat_tests)
 
@@ -35,18 +35,18 @@ channel_in channels read possible =
     All-get_or (λ (channel : ℕ). is_channel channel ≡ true) channels (read % length channels) 0
     (mod_below read (length channels) (omega arith)) (AllPass-from_list_all is_channel channels all)
 
--- the scan under way, of a state that is valid
+-- The measurement under way has its invariant.
 pub run_in : (contents : Contents) (capacity : ℕ) (r : Run) → contents.run ≡ Some r → IsValid contents capacity
     → IsRun r (length contents.readings)
 run_in contents capacity r e kept = subst (λ (o : Option Run). IsRunOf o (length contents.readings)) e kept.run
 
--- the channel whose turn it is
+-- The next channel exists.
 pub turn_is : (contents : Contents) (capacity : ℕ) (r : Run) → contents.run ≡ Some r → IsValid contents capacity
     → is_channel (channel_at r.channels (length contents.readings)) ≡ true
 turn_is contents capacity r e kept =
     channel_in r.channels (length contents.readings) (run_in contents capacity r e kept).channels
 
--- in a scan not each triggered channel was read
+-- While a scan is under way, not all channels of the triggered scans were read.
 is_short : (all triggered : Bool) → is_scanning (if all then Idle else if triggered then Waiting else Scanning) ≡ true → triggered ≡ false
 is_short true triggered e = cc
 is_short false true e = cc
@@ -57,7 +57,7 @@ short_in : (r : Run) (read : ℕ) → is_scanning (state_by r.triggers read (len
 short_in r read e = eqb-false read (r.triggers * length r.channels)
     (is_short (read == r.scans * length r.channels) (read == r.triggers * length r.channels) e)
 
--- there are no more readings than there may be
+-- A measurement has at most as many readings as memory was reserved for.
 few_of : (r : Run) (read : ℕ) → IsRun r read → read ≤ most_readings
 few_of r read run =
     let size = size_in r.channels run.channels in
@@ -69,7 +69,7 @@ pub few_in : (run : Option Run) (read : ℕ) → IsRunOf run read → read ≤ m
 few_in None read e = omega (arith, e)
 few_in (Some r) read run = few_of r read run
 
--- one reading more
+-- One more reading keeps the invariant.
 read_more : (r : Run) (read : ℕ) → IsRun r read → (read ≡ r.triggers * length r.channels → ⊥) → IsRun r (read + 1)
 read_more r read run short = record {
   channels = run.channels;
@@ -78,7 +78,7 @@ read_more r read run short = record {
   read = omega (arith, run.read, short);
 }
 
--- so there is room for one more
+-- There is room for one more reading.
 room_in : (r : Run) (read capacity : ℕ) → most_readings ≤ capacity → IsRun r read → (read ≡ r.triggers * length r.channels → ⊥)
     → read < capacity
 room_in r read capacity room run short = omega (arith, room, few_of r (read + 1) (read_more r read run short))
@@ -91,7 +91,7 @@ has_room contents capacity r e kept scanning =
     subst (λ (o : Option Run). is_scanning (run_state o (length contents.readings)) ≡ true) e scanning in
     room_in r (length contents.readings) capacity kept.room run (short_in r (length contents.readings) now)
 
--- what is true of a scanner stays true with a reading more
+-- One more reading keeps the scanner's invariants.
 bounded_more : (readings : List Reading) (x : Reading) → list_all is_bounded readings ≡ true → is_bounded x ≡ true
     → list_all is_bounded (readings ++ x ∷ []) ≡ true
 bounded_more readings x all one =

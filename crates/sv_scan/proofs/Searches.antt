@@ -1,4 +1,4 @@
--- What the searches of the acts find, by what the scanner holds.
+-- What the specification finds by searching the acts, computed from the state of the scanner.
 use Rattle.std.proofs.Common.{◌≡◌, ℕ, ◌+◌, ◌-◌, sym, List, [], ◌∷◌, length, Some, None, Option, refl, ap, ◌∙◌, length-append, add-one}
 use Rattle.std.specs.Prelude.{Bool, true, false, ◌*◌, ◌%◌, ◌==◌, cond, slice_get, option_map}
 use Rattle.sv_scan.specs.declared.setting.Reading.{Reading}
@@ -16,7 +16,6 @@ use Rattle.sv_scan.specs.Progress.{progress, newest_reading}
 use Rattle.sv_scan.specs.Stands.{Run, Contents, Holds, current_run, progress_by}
 use Rattle.sv_scan.specs.Representation.{run_state, run_complete}
 
--- there are as many readings as samples
 pub length_readings : (log : List ScanAct) → length (readings log) ≡ samples log
 length_readings [] = refl
 length_readings (Sample ∷ log) = length-append (readings log) (reading log ∷ []) ∙ ap (λ (n : ℕ). n + 1) (length_readings log)
@@ -28,16 +27,15 @@ length_readings (Input channel microvolts ∷ log) = length_readings log
 length_readings (Configure setting ∷ log) = length_readings log
 length_readings (Trigger source ∷ log) = length_readings log
 
--- the last reading
 pub last_found : (found kept : List Reading) (log : List ScanAct) → found ≡ kept → kept ≡ readings log
     → slice_get found (length found - 1) ≡ last_reading log
 last_found found kept log same is = ap (λ (xs : List Reading). slice_get xs (length xs - 1)) (same ∙ is)
 
--- a measurement, as the acts in front of its initiation give it
+-- A measurement, with the scan list and the count before its initiation.
 abbrev run_of : ℕ → List ScanAct → Run
 run_of count_of before = record { channels = scan_list before; scans = count before; triggers = count_of }
 
--- the state of the measurement of the contents
+-- The state of a measurement, from the acts before its initiation.
 abbrev state_since : Option (List ScanAct) → ℕ → ℕ → State
 state_since before had read = option_map_or (λ acts. state_by had read (length (scan_list acts)) (count acts)) before Idle
 
@@ -53,7 +51,7 @@ state_is contents log is =
     ∙ ap (run_state (current_run log)) (ap length is.readings ∙ length_readings log)
     ∙ state_of_run (before_init log) (triggers log) (samples log)
 
--- whether its readings are complete
+-- Whether the readings of a measurement are complete.
 complete_of_run : (before : Option (List ScanAct)) (had read : ℕ)
     → run_complete (option_map (run_of had) before) read ≡ option_map_or (λ acts. read == count acts * length (scan_list acts)) before false
 complete_of_run None had read = refl
@@ -66,7 +64,7 @@ complete_is contents log is =
     ∙ ap (run_complete (current_run log)) (ap length is.readings ∙ length_readings log)
     ∙ complete_of_run (before_init log) (triggers log) (samples log)
 
--- the list of the measurement of the contents
+-- The scan list of a measurement.
 list_of_run : (before : Option (List ScanAct)) (had : ℕ) (r : Run) → option_map (run_of had) before ≡ Some r
     → option_map_or scan_list before [] ≡ r.channels
 list_of_run None had r e = cc
@@ -75,19 +73,19 @@ list_of_run (Some before) had r e = let same : run_of had before ≡ r = cc in a
 pub list_is : (log : List ScanAct) (r : Run) → current_run log ≡ Some r → option_map_or scan_list (before_init log) [] ≡ r.channels
 list_is log r e = list_of_run (before_init log) (triggers log) r e
 
--- how far a measurement is; `None` without one
+-- How far a measurement is; `None` if there is none.
 abbrev pub run_progress : Option Run → ℕ → Option Progress
 run_progress None samples = None
 run_progress (Some run) samples = progress_by run samples
 
--- what is told of a measurement that is under way
+-- While a measurement is under way, it has a progress.
 under_way : (all triggered : Bool) (told : Option Progress)
     → cond all None told ≡ cond (is_idle (cond all Idle (cond triggered Waiting Scanning))) None told
 under_way true triggered told = refl
 under_way false true told = refl
 under_way false false told = refl
 
--- how far it is, by the acts in front of its initiation
+-- How far a measurement is, from the acts before its initiation.
 abbrev progress_since : Option (List ScanAct) → ℕ → ℕ → Option Progress
 progress_since before had read = cond (is_idle (state_since before had read)) None (option_map (λ acts. record {
   scan = had;
@@ -109,7 +107,7 @@ progress_is contents log is =
     ∙ ap (run_progress (current_run log)) (ap length is.readings ∙ length_readings log)
     ∙ progress_of_run (before_init log) (triggers log) (samples log)
 
--- the newest reading, with its channel
+-- The newest reading and its channel.
 pub newest_is : (contents : Contents) (log : List ScanAct) (r : Run) (reading_now : Reading) (channel : ℕ) → Holds contents log
     → contents.run ≡ Some r → Some reading_now ≡ last_reading log → channel ≡ channel_at r.channels (length contents.readings - 1)
     → Some (record { channel = channel; reading = reading_now }) ≡ newest_reading log

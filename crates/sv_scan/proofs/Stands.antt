@@ -1,4 +1,4 @@
--- The scanner after one more act.
+-- The scanner's state stands for the acts after each act.
 use Rattle.std.proofs.Common.{◌≡◌, ◌≢◌, ℕ, ◌-◌, ◌<◌, ◌≤◌, ◌==◌, ℤ, pos, Bool, true, false, List, [], ◌∷◌, ◌++◌, length, get_or, Some, None, Option, inl, inr, replicate, refl, ap, ◌∙◌, sym, subst, arith, if◌then◌else◌}
 use Rattle.std.proofs.lemmas.Bool.{cond_both, cases_lt, eqb-true, eqb-false}
 use Rattle.std.proofs.lemmas.Bool.Decides.{nat_tests}
@@ -23,7 +23,7 @@ use Rattle.sv_scan.specs.Together.{AreOf}
 use Rattle.sv_scan.proofs.Searches.{length_readings, list_is}
 use Rattle.sv_scan.proofs.Untouched.{is_touched_all, is_touched_input}
 
--- ---- acts that count
+-- ---- acts that take effect
 
 keeps : (act : ScanAct) (acts : List ScanAct) → counts (effective acts) act ≡ true → effective (act ∷ acts) ≡ act ∷ effective acts
 keeps act acts e = ap (λ (b : Bool). if b then act ∷ effective acts else effective acts) e
@@ -32,7 +32,7 @@ pub stands_for_counted : (contents : Contents) (act : ScanAct) (acts : List Scan
     → Holds contents (act ∷ effective acts) → StandsFor contents (act ∷ acts)
 stands_for_counted contents act acts e is = subst (Holds contents) (sym (keeps act acts e)) is
 
--- ---- acts that don't
+-- ---- acts that have no effect
 
 drops : (act : ScanAct) (acts : List ScanAct) → counts (effective acts) act ≡ false → effective (act ∷ acts) ≡ effective acts
 drops act acts e = ap (λ (b : Bool). if b then act ∷ effective acts else effective acts) e
@@ -41,7 +41,7 @@ pub stands_for_dropped : (contents : Contents) (act : ScanAct) (acts : List Scan
     → StandsFor contents acts → StandsFor contents (act ∷ acts)
 stands_for_dropped contents act acts e is = subst (Holds contents) (sym (drops act acts e)) is
 
--- ---- what is accepted counts, and what is refused doesn't
+-- ---- an act takes effect exactly if it is accepted
 
 pub is_accepted : (fault : Option Code) → Ok tt ≡ refused_by fault → is_none fault ≡ true
 is_accepted None e = refl
@@ -51,13 +51,12 @@ pub is_refused : (fault : Option Code) (code : Code) → Err code ≡ refused_by
 is_refused None code e = cc
 is_refused (Some other) code e = refl
 
--- ---- the scanner after an act that counts
+-- ---- the state after an act that takes effect
 
--- where a channel's input is
 is_in : (channel : ℕ) → is_channel channel ≡ true → (1 ≤ channel) × (channel ≤ channel_count)
 is_in channel legal = grind (arith, nat_tests)
 
--- an input
+-- An input is set.
 input_after : (inputs : List ℤ) (channel other : ℕ) (microvolts before : ℤ) → length inputs ≡ channel_count → is_channel channel ≡ true
     → is_channel other ≡ true → slice_index_or inputs (other - 1) (pos 0) ≡ before
     → slice_index_or (slice_set inputs (channel - 1) microvolts) (other - 1) (pos 0)
@@ -98,7 +97,7 @@ holds_input contents log channel microvolts size legal is = record {
       (sym is.monitor) (is_touched_input channel microvolts log);
 }
 
--- whether an act changes neither inputs nor settings
+-- Whether an act changes neither inputs nor settings.
 abbrev pub is_of_run : ScanAct → Bool
 is_of_run = elim [ Input channel microvolts ↦ false | Configure setting ↦ false | Reset ↦ false | _ ↦ true ]
 
@@ -114,7 +113,7 @@ holds_run contents log (Input channel microvolts) now made touched e is at has s
 holds_run contents log (Configure setting) now made touched e is at has said = cc
 holds_run contents log Reset now made touched e is at has said = cc
 
--- a sample
+-- A channel is sampled.
 abbrev pub sampled : Contents → Run → Reading
 sampled contents r =
     reading_in contents.range (slice_index_or contents.inputs (channel_at r.channels (length contents.readings) - 1) (pos 0))
@@ -146,7 +145,7 @@ zeros n place = elim (cases_lt place n) [
   | inr past ↦ get_or_past (replicate n (pos 0)) place (pos 0) (omega (arith, length-replicate {A = ℤ}))
 ]
 
--- no input was given, and each is 0
+-- At first, no input was set, and each is 0.
 pub stands_for_new : (n : ℕ) (settings : Settings) → AreOf settings []
     → StandsFor (contents_of (replicate n (pos 0)) settings None [] nothing) []
 stands_for_new n settings are = record {

@@ -1,4 +1,4 @@
--- What a step is where its answer is known.
+-- What a step is once the answer on which it depends is known.
 use Rattle.std.proofs.Common.{◌≡◌, ℕ, Bool, true, Option, Result, Err, sym, subst}
 use Rattle.sv_history.specs.declared.event.Config.{Config}
 use Rattle.sv_history.specs.declared.event.Dial.{Dial}

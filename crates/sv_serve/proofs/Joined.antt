@@ -1,4 +1,4 @@
--- A step for each number up to a bound: adding one more number, and all of them.
+-- Steps for all numbers below a bound: one more step, and an equal bound.
 use Rattle.std.proofs.Common.{◌≡◌, ℕ, suc, subst, sym, rules, refl, zero, List, [], ◌∷◌, drop, Some, ◌<◌, ◌≤◌, inl, inr, arith}
 use Rattle.std.proofs.Math.Nat.{eq-or-lt_of_le}
 use Rattle.std.specs.List.{slice_get}
@@ -6,20 +6,18 @@ use Rattle.sv_history.specs.declared.event.Config.{Config}
 use Rattle.sv_history.specs.Event.{PlainEvent}
 use Rattle.sv_serve.specs.DriverView.{DriverView, DriverState, ForEach, Steps, driver_view}
 
--- one more number
 pub one_more : {W : Type 0} (step : ℕ → Config → DriverView W → DriverView W → Type 0) (config : Config) (n m : ℕ) (a b c : DriverView W)
     → m ≡ suc n
     → ForEach n step config a b → step n config b c → ForEach m step config a c
 one_more step config n m a b c is front last =
     subst (λ (k : ℕ). ForEach k step config a c) (sym is) (b, front, last)
 
--- as many as another number says
 pub as_many : {W : Type 0} (step : ℕ → Config → DriverView W → DriverView W → Type 0) (config : Config) (n m : ℕ) (a b : DriverView W) → n
     ≡ m
     → ForEach n step config a b → ForEach m step config a b
 as_many step config n m a b is each = subst (λ (k : ℕ). ForEach k step config a b) is each
 
--- the same of a driver, whatever happened to its server before
+-- The same for steps of a driver, whatever the history of its server.
 pub goes_more : {W J : Type 0} (notes : J → List PlainEvent → J → Type 0) (step : ℕ → Config → DriverView W → DriverView W
     → Type 0) (n m : ℕ) (first mid last : DriverState W J) → m
     ≡ suc n
@@ -34,13 +32,11 @@ pub goes_all : {W J : Type 0} (notes : J → List PlainEvent → J → Type 0) (
     → Steps notes (ForEach n step) first last → Steps notes (ForEach m step) first last
 goes_all notes step n m first last is each = subst (λ (k : ℕ). Steps notes (ForEach k step) first last) is each
 
--- an entry of a list begins what stands from its place on
 pub from_here : {A : Type 0} (xs : List A) (n m : ℕ) (x : A) → m ≡ suc n → slice_get xs n ≡ Some x → drop n xs ≡ x ∷ drop m xs
 from_here [] n m x is here = search rules
 from_here (y ∷ ys) zero m x is here = rw is (search rules)
 from_here (y ∷ ys) (suc n) m x is here = rw is (from_here ys n (suc n) x refl here)
 
--- what holds for each number below one and for that one holds below the next
 pub up_to : (P : ℕ → Type 0) (n m : ℕ) → m ≡ suc n → ((d : ℕ) → d < n → P d) → P n → (d : ℕ) → d < m → P d
 up_to P n m is below last d less =
     let le : d ≤ n = omega (arith, is, less) in

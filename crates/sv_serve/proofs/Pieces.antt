@@ -1,4 +1,4 @@
--- What is read comes to the front of a buffer.
+-- A read stores its bytes at the front of a buffer.
 use Rattle.std.proofs.Common.{◌≡◌, ℕ, ◌<◌, List, ◌++◌, take, drop, length, min, inr, refl, subst, ap, ◌∙◌, arith}
 use Rattle.std.proofs.lemmas.List.{take_at, take-append-le, length-take}
 use Rattle.sv_serve.specs.declared.wire.Answer.{Answer}
@@ -8,7 +8,7 @@ use Rattle.sv_serve.specs.Heard.{Heard, WasRead, bytes_of, IsWithin, IsPiece}
 use Rattle.sv_serve.specs.DriverView.{DriverView}
 use Rattle.sv_serve.specs.Steps.{Comes, ReadsUpTo}
 
--- the buffer is what was read into, and what was behind that stays
+-- The bytes that were read lie in the part of the buffer that the read was given.
 pub front_bytes : (answer : Answer ℕ) (front rest : List ℕ) → IsWithin answer (length front)
     → bytes_of answer (front ++ rest) ≡ bytes_of answer front
 front_bytes (Got n) front rest h = ap Got (take-append-le n front rest h)
@@ -20,7 +20,7 @@ within_piece (Got n) buffer size h = let long = length-take n buffer in omega (a
 within_piece Pending buffer size h = tt
 within_piece Failed buffer size h = tt
 
--- a buffer that was lent as a whole
+-- New contents of a buffer that was lent as a whole replace all that it held.
 pub again : (len : ℕ) (items lent new : List ℕ) → length lent ≡ len → length new ≡ length lent
     → take len (new ++ drop (length new) items) ≡ new
 again len items lent new short same = take_at new (drop (length new) items) len (same ∙ short)
@@ -28,7 +28,8 @@ again len items lent new short same = take_at new (drop (length new) items) len 
 pub asked_for : (len room size : ℕ) → size ≡ min len room → len ≡ 16384 → size ≡ min room 16384
 asked_for len room size is long = grind (arith, is, long)
 
--- as many bytes are asked for as there is room for, and what comes of them follows
+-- A read asks for as many bytes as there is room for, at most 16,384, and its answer decides what
+-- follows.
 pub read_so : {W : Type 0} (hears : W → Heard → W → Type 0) (config : Config) (conn room size : ℕ) (answer : Answer ℕ) (buffer : List ℕ)
     (before after : DriverView W) (wire : W) → 0 < room → size ≡ min room 16384 → IsWithin answer size
     → hears before.wire (WasRead conn size (bytes_of answer buffer)) wire

@@ -1,5 +1,5 @@
--- Each event that the driver makes from its wire fits the server's answers, so the server accepts
--- it.
+-- The answers of the server's queries allow each event that the driver makes from an answer of its
+-- wire, so the server applies it.
 use Rattle.std.proofs.Common.{◌≡◌, ℕ, ◌<◌, ◌≤◌, Bool, true, false, List, [], ◌∷◌, length, Option, Some, None, Result, Ok, Err, refl, sym, ap, subst, ◌∙◌, inl, inr, arith, le-ltb}
 use Rattle.std.specs.Prelude.{min, not, is_some, ◌||◌}
 use Rattle.std.proofs.lemmas.Bool.{cases_Bool}
@@ -40,7 +40,7 @@ use Rattle.sv_replay.specs.Entry.{stimulus_event, IsAccepted}
 use Rattle.sv_replay.specs.declared.entry.Stimulus.{Stimulus}
 use Rattle.sv_replay.specs.declared.entry.Stimulus.TheVariants as stimuli
 
--- ---- what suits is done
+-- ---- an event that is allowed is applied
 
 pub suited : {W : Type 0} (config : Config) (event : PlainEvent) (at : DriverView W) (log : List Act) (result : Result Did Refused)
     → IsLogOf config at.history log → Answers config event log result → IsSuited event config at → result ≡ Ok Done
@@ -53,7 +53,7 @@ pub refused : {W : Type 0} (config : Config) (c : ℕ) (at : DriverView W) (log 
 refused config c at log result was answers (other, also, none) = can_be_refused config at.history c other result also none
     (subst (λ (l : List Act). Answers config (Refuse c) l result) (one_log config at.history log other was also) answers)
 
--- ---- what is open
+-- ---- open connections and interrupt channels
 
 pub not_shut : (c : ℕ) (log : List Act) → c < 16 → is_open (of c log) ≡ true → is_port_shut (Conn c) log ≡ false
 not_shut c log lt opened = ap (λ (b : Bool). b || not (is_open (of c log))) (le-ltb 15 c (omega (arith, lt))) ∙ ap not opened
@@ -113,7 +113,7 @@ channel_open c channel_log log lt tells some =
     ap (λ (b : Bool). b || not (has_channel c (device_acts log))) (le-ltb 15 c (omega (arith, lt)))
     ∙ ap not (sym (has_channel_told c (device_acts log) channel_log tells) ∙ there)
 
--- ---- what suits
+-- ---- events that are allowed
 
 not_not : (b : Bool) → false ≡ not (not b) → b ≡ false
 not_not true e = absurd cc
@@ -174,7 +174,7 @@ pub dialed_suits : {W : Type 0} (c : ℕ) (dial : Dial) (ok : Bool) (config : Co
 dialed_suits c dial ok config at lt (log, was, is) =
     let channel_log = some_told (device_acts log) in (log, channel_log.0, was, channel_log.1, (lt, dial, sym is))
 
--- ---- what was so stays so while no event comes
+-- ---- while no event comes, the server's answers stay the same
 
 hung_on : {W : Type 0} (hears : W → Heard → W → Type 0) (c : ℕ) (found : Option Dial) (config : Config) (before after : DriverView W)
     → ClosesChannelOn hears c found config before after → after.history ≡ before.history
@@ -211,9 +211,9 @@ still_lowest (Some c) config before after same (lt, free, lower) = (
 )
 still_lowest None config before after same all = λ d less. still_open (Conn d) true true config before after same refl (all d less)
 
--- ---- want of memory
+-- ---- out of memory
 
--- a Turn that finds none changes nothing
+-- A Turn that runs out of memory leaves its call to be taken, and memory for it is still refused.
 pub may_find_none : {W : Type 0} (c : ℕ) (result : Result Did Refused) (config : Config) (before after : DriverView W)
     → Given (Turn c) result config before after → MayFindNone c result config after
 may_find_none c result config before after (log, was, answers, is) none =
@@ -241,7 +241,7 @@ pub finds_none : {W : Type 0} (c : ℕ) (answer : Result Did Refused) (refused :
     → answer ≡ Err refused → so ≡ is_no_memory refused → MayFindNone c answer config at → FindsNoneIf c so config at
 finds_none c answer refused so config at is same may told = may (is ∙ ap Err (no_memory refused (sym same ∙ told)))
 
--- a stimulus that is accepted suits
+-- A stimulus that the server accepts is an event that the server's queries allow.
 pub stimulus_suits : (stimulus : Stimulus) (channel_log : List ChannelAct) (log : List Act) → IsAccepted stimulus
     → Suits (stimulus_event stimulus) channel_log log
 stimulus_suits (stimuli.Input channel microvolts) channel_log log h = h

@@ -1,4 +1,4 @@
--- On connections that were never opened a sweep does nothing.
+-- For connections that were never opened a sweep does nothing.
 use Rattle.std.proofs.Common.{◌≡◌, ℕ, zero, suc, ◌≤◌, Bool, true, false, List, [], None, nat_lt, replicate, slice_index_or, refl, sym, ap, subst, arith, inl, inr}
 use Rattle.std.proofs.Math.Nat.{eq-or-lt_of_le}
 use Rattle.std.specs.Prelude.{Option, not, ◌||◌}
@@ -15,7 +15,7 @@ use Rattle.sv_serve.specs.DriverView.{DriverView, DriverState, ForEach, Steps, S
 use Rattle.sv_serve.specs.Asked.{NoneUsed}
 use Rattle.sv_serve.specs.Steps.{dialed_of, ReadsFrom, Turns, Dials, WritesTo, Ends}
 
--- steps that change nothing behind those that were taken
+-- Steps that change nothing may follow for further numbers.
 pub and_rest : {W : Type 0} (step : ℕ → Config → DriverView W → DriverView W → Type 0) (config : Config) (n m : ℕ) (a b : DriverView W) → n
     ≤ m
     → ForEach n step config a b → ((c : ℕ) → n ≤ c → step c config b b) → ForEach m step config a b
@@ -26,7 +26,7 @@ and_rest step config n (suc m) a b le each stays = elim (eq-or-lt_of_le le) [
   | inr less ↦ (let low : n ≤ m = omega (arith, less) in (b, and_rest step config n m a b low each stays, stays m low))
 ]
 
--- the same of a driver, whatever happened to its server before
+-- The same for steps of a driver, whatever the history of its server.
 pub goes_rest : {W J : Type 0} (notes : J → List PlainEvent → J → Type 0) (step : ℕ → Config → DriverView W → DriverView W
     → Type 0) (n m : ℕ) (first last : DriverState W J) → n ≤ m
     → Steps notes (ForEach n step) first last
@@ -64,7 +64,6 @@ pub ends_none : {W : Type 0} (hears : W → Heard → W → Type 0) (n : ℕ) (c
     → (c : ℕ) → n ≤ c → Ends hears c config at at
 ends_none hears n config at (log, is_log, none) c le = (false, (log, is_log, nothing_faulted _ (none c le)), refl)
 
--- of nobody there is none at any place
 pub nobody : {A : Type 0} (n c : ℕ) → slice_index_or {A = Option A} (replicate n None) c None ≡ None
 nobody zero c = refl
 nobody (suc n) zero = refl

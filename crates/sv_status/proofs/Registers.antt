@@ -9,34 +9,33 @@ use Rattle.sv_status.specs.declared.register.RegisterAct.TheVariants.{Condition,
 use Rattle.sv_status.specs.Register.{Latches, StandsFor, EventStands, Passes, NotCleared, condition, rise, fall, without_top_bit}
 use Rattle.sv_status.proofs.Words.{no_bits, both_bits, either_bit, rose, fell}
 
--- a bit that doesn't change passes no filter
+-- A bit that doesn't change passes no filter.
 pub no_change : (c k : ℕ) (P Q : Type 0) → ((bit_at c k ≡ 0) × (bit_at c k ≡ 1) × P) ⊎ ((bit_at c k ≡ 1) × (bit_at c k ≡ 0) × Q) → ⊥
 no_change c k P Q (inl h) = absurd (omega arith)
 no_change c k P Q (inr h) = absurd (omega arith)
 
--- ---- which events stand
+-- ---- which events are set
 
--- none before all acts
 pub event_none : (k : ℕ) → EventStands k [] → ⊥
 event_none k stands = ((since_empty (Passes k) NotCleared).0 stands).0
 
--- an act that keeps a bit, and at which it doesn't pass
+-- An act that doesn't clear the register, and at which the bit passes no filter, leaves the event.
 pub same_event : (k : ℕ) (act : RegisterAct) (acts : List RegisterAct) → NotCleared (act ∷ acts) → (Passes k (act ∷ acts) → ⊥)
     → EventStands k acts ↔ EventStands k (act ∷ acts)
 same_event k act acts kept none =
     let same = since_same (Passes k) NotCleared act acts kept none in (same.1, same.0)
 
--- a condition: a bit passes its filter, or its event stood before
+-- A new condition sets the event of a bit that passes its filter, and leaves all others.
 pub event_condition : (k word : ℕ) (acts : List RegisterAct)
     → EventStands k (Condition word ∷ acts) ↔ (Passes k (Condition word ∷ acts) ⊎ EventStands k acts)
 event_condition k word acts = since_kept (Passes k) NotCleared (Condition word) acts tt
 
--- the condition that there was
+-- A condition that is equal to the old one changes no event.
 pub event_unchanged : (k word : ℕ) (acts : List RegisterAct) → word ≡ condition acts
     → EventStands k (Condition word ∷ acts) ↔ EventStands k acts
 event_unchanged k word acts same = since_same (Passes k) NotCleared (Condition word) acts tt (rw same (no_change (condition acts) k _ _))
 
--- filters, enable and presetting
+-- Setting filters or the enable, or a preset, changes no event.
 pub event_filter : (k up down : ℕ) (acts : List RegisterAct) → EventStands k (SetFilter up down ∷ acts) ↔ EventStands k acts
 event_filter k up down acts = since_same (Passes k) NotCleared (SetFilter up down) acts tt (no_change (condition acts) k _ _)
 
@@ -46,16 +45,16 @@ event_enable k word acts = since_same (Passes k) NotCleared (SetEnable word) act
 pub event_preset : (k : ℕ) (acts : List RegisterAct) → EventStands k (Preset ∷ acts) ↔ EventStands k acts
 event_preset k acts = since_same (Passes k) NotCleared Preset acts tt (no_change (condition acts) k _ _)
 
--- a reading or a clearing
+-- Reading or clearing the register clears all events.
 pub event_read : (k : ℕ) (acts : List RegisterAct) → EventStands k (ReadEvent ∷ acts) → ⊥
 event_read k acts = since_ended (Passes k) NotCleared ReadEvent acts (λ kept. kept)
 
 pub event_cleared : (k : ℕ) (acts : List RegisterAct) → EventStands k (Clear ∷ acts) → ⊥
 event_cleared k acts = since_ended (Passes k) NotCleared Clear acts (λ kept. kept)
 
--- ---- what a register keeps
+-- ---- the state of the register
 
--- filters and enable change no event
+-- Setting filters or the enable leaves the events as they are.
 pub stands_for_filter : (start : ℕ) (latches : Latches) (acts : List RegisterAct) (up down : ℕ) → StandsFor start latches acts
     → StandsFor start (record latches { rise = without_top_bit up; fall = without_top_bit down }) (SetFilter up down ∷ acts)
 stands_for_filter start latches acts up down is = record {
@@ -89,13 +88,13 @@ stands_for_preset start latches acts is = record {
   event = λ k. then_same (is.event k) (same_event k Preset acts tt (no_change (condition acts) k _ _));
 }
 
--- the bits that a change of the condition sets
+-- The event word after the condition changes.
 abbrev pub latched : Latches → ℕ → ℕ
 latched latches word =
     bit_or (bit_or latches.event (bit_and (bit_and (bit_xor latches.condition word) word) latches.rise))
     (bit_and (bit_and (bit_xor latches.condition word) latches.condition) latches.fall)
 
--- a bit changes in a direction whose filter is on
+-- The bit changes in a direction whose filter has it set.
 abbrev PassesBy : ℕ → ℕ → ℕ → ℕ → ℕ → Type 0
 PassesBy k old new up down = ((bit_at old k ≡ 0) × (bit_at new k ≡ 1) × (bit_at up k ≡ 1))
     ⊎ ((bit_at old k ≡ 1) × (bit_at new k ≡ 0) × (bit_at down k ≡ 1))
@@ -133,7 +132,7 @@ latched_bit latches word k =
       ]),
     )
 
--- a change of the condition
+-- The condition changes.
 pub stands_for_condition : (start : ℕ) (latches : Latches) (acts : List RegisterAct) (word : ℕ) → StandsFor start latches acts
     → StandsFor start (record latches { condition = word; event = latched latches word }) (Condition word ∷ acts)
 stands_for_condition start latches acts word is = record {
@@ -154,7 +153,7 @@ stands_for_condition start latches acts word is = record {
       );
 }
 
--- the event register is cleared, by reading it or by itself
+-- The event register is read or cleared.
 pub stands_for_read : (start : ℕ) (latches : Latches) (acts : List RegisterAct) → StandsFor start latches acts
     → StandsFor start (record latches { event = 0 }) (ReadEvent ∷ acts)
 stands_for_read start latches acts is = record {
@@ -177,7 +176,7 @@ stands_for_cleared start latches acts is = record {
   event = λ k. no_bits k (EventStands k (Clear ∷ acts)) (event_cleared k acts);
 }
 
--- what it keeps for a preset is what its enable started with
+-- The enable after a preset is the one at first.
 pub stands_for_start : (start : ℕ) (latches : Latches) (acts : List RegisterAct) → StandsFor start latches acts
     → StandsFor latches.start latches acts
 stands_for_start start latches acts is = subst (λ (s : ℕ). StandsFor s latches acts) (sym is.begins) is

@@ -11,30 +11,29 @@ use Rattle.sv_status.specs.declared.standard_event.StandardAct.TheVariants.{Occu
 use Rattle.sv_status.specs.StandardEvent.{Latches, StandsFor, Stands, Occurs, NotCleared}
 use Rattle.sv_status.proofs.Words.{no_bits, either_bit}
 
--- ---- which events stand
+-- ---- which events are set
 
--- power on alone before all acts
+-- At first, only power on (bit 7) is set.
 pub stands_none : (k : ℕ) → Stands k [] ↔ (k ≡ 7)
 stands_none k = let law = since_empty (Occurs k) NotCleared in ((λ s. (law.0 s).0), (λ e. law.1 (e, tt)))
 
--- events occur: one of these, or it stood before
+-- Events that occur are set, and all others stay.
 pub stands_occurred : (k bits : ℕ) (acts : List StandardAct) → Stands k (Occur bits ∷ acts) ↔ ((bit_at bits k ≡ 1) ⊎ Stands k acts)
 stands_occurred k bits acts = since_kept (Occurs k) NotCleared (Occur bits) acts tt
 
--- the enable
 pub stands_enable : (k word : ℕ) (acts : List StandardAct) → Stands k (SetEnable word ∷ acts) ↔ Stands k acts
 stands_enable k word acts = since_same (Occurs k) NotCleared (SetEnable word) acts tt (λ none. none)
 
--- a reading or a clearing
+-- Reading or clearing the register clears all events.
 pub stands_read : (k : ℕ) (acts : List StandardAct) → Stands k (Read ∷ acts) → ⊥
 stands_read k acts = since_ended (Occurs k) NotCleared Read acts (λ kept. kept)
 
 pub stands_cleared : (k : ℕ) (acts : List StandardAct) → Stands k (Clear ∷ acts) → ⊥
 stands_cleared k acts = since_ended (Occurs k) NotCleared Clear acts (λ kept. kept)
 
--- ---- what the register keeps
+-- ---- the state of the register
 
--- power on alone
+-- Power on alone.
 power_on : (k : ℕ) → (bit_at 128 k ≡ 1) ↔ Stands k []
 power_on k =
     let law = since_empty (Occurs k) NotCleared in (
@@ -66,7 +65,7 @@ stands_for_enable latches acts word is = record {
       ((λ h. law.1 (tt, inr ((is.event k).0 h))), (λ s. elim (law.0 s).1 [ inl none ↦ absurd none | inr before ↦ (is.event k).1 before ]));
 }
 
--- the register is cleared, by reading it or by itself
+-- The register is read or cleared.
 pub stands_for_read : (latches : Latches) (acts : List StandardAct) → StandsFor latches acts
     → StandsFor (record latches { event = 0 }) (Read ∷ acts)
 stands_for_read latches acts is = record { enable = is.enable; event = λ k. no_bits k (Stands k (Read ∷ acts)) (stands_read k acts) }

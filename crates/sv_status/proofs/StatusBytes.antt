@@ -11,13 +11,13 @@ use Rattle.sv_status.specs.declared.status_byte.StatusAct.TheVariants.{Update, P
 use Rattle.sv_status.specs.StatusByte.{Latches, StandsFor, ServiceRequested, ServiceRequestedAt, Master, Reason, Lasts, Request, IsRaised, StatusBit, MasterBit, bits, enable}
 use Rattle.sv_status.proofs.Words.{not_zero, rose, either_bit, without_six}
 
--- ---- whether a request stands
+-- ---- whether a request for service is pending
 
--- none before all acts
 pub request_none : Request [] → ⊥
 request_none stands = ((since_empty Reason Lasts).0 stands).0
 
--- an update: it stands if the master summary does, and a reason arises or it stood before
+-- After an update, a request is pending if the master summary is set and either a reason arises or
+-- one was pending.
 pub request_updated : (word mask : ℕ) (acts : List StatusAct) → Request (Update word mask ∷ acts)
     ↔ (Master (Update word mask ∷ acts) × (Reason (Update word mask ∷ acts) ⊎ Request acts))
 request_updated word mask acts = since_step Reason Lasts (Update word mask) acts
@@ -25,9 +25,9 @@ request_updated word mask acts = since_step Reason Lasts (Update word mask) acts
 pub request_polled : (acts : List StatusAct) → Request (Poll ∷ acts) → ⊥
 request_polled acts = since_ended Reason Lasts Poll acts (λ lasts. lasts)
 
--- ---- whether it is raised
+-- ---- whether a request is raised
 
--- an update: a reason arises, and none stood
+-- An update raises a request if a reason arises and none was pending.
 pub raised_updated : (word mask : ℕ) (acts : List StatusAct)
     → IsRaised (Update word mask ∷ acts) ↔ (Reason (Update word mask ∷ acts) × (Request acts → ⊥))
 raised_updated word mask acts =
@@ -36,13 +36,13 @@ raised_updated word mask acts =
       (λ h. let r = h.0 in (law.1 ((r.0, r.1), inl r), h.1)),
     )
 
--- ---- what the status byte keeps
+-- ---- the state of the status byte
 
--- The word has these summary bits that ask.
+-- The word has exactly the summary bits that are set and enabled.
 abbrev pub HasAsking : ℕ → ℕ → ℕ → Type 0
 HasAsking word bits enable = (k : ℕ) → (bit_at word k ≡ 1) ↔ ServiceRequested k bits enable
 
--- some bit asks
+-- The master summary is set exactly if this word isn't 0.
 pub master_is : (word : ℕ) (latches : Latches) (acts : List StatusAct) → StandsFor latches acts → HasAsking word latches.bits latches.enable
     → (not (eqb word 0) ≡ true) ↔ Master acts
 master_is word latches acts is asks =
@@ -56,7 +56,7 @@ master_is word latches acts is asks =
 zero_bit : (w k : ℕ) → (bit_at w k ≡ 1 → ⊥) → bit_at w k ≡ 0
 zero_bit w k none = elim (cases_eq (bit_at w k) 1) [ inl one ↦ absurd (none one) | inr other ↦ (let lt = bit_at-lt w k in omega arith) ]
 
--- a reason arises where a bit asks that didn't before
+-- A reason arises exactly if a bit is set in the new word that isn't in the old one.
 reason_is : (before now : ℕ) (latches : Latches) (acts : List StatusAct) (word mask : ℕ) → StandsFor latches acts
     → HasAsking before latches.bits latches.enable → HasAsking now word mask
     → (not (eqb (bit_and (bit_xor before now) now) 0) ≡ true) ↔ Reason (Update word mask ∷ acts)
@@ -75,7 +75,7 @@ reason_is before now latches acts word mask is was asks =
       )),
     )
 
--- a request after an update: it stands where a bit asks, and a reason arises or it stood before
+-- Whether a request is pending after an update, computed from both words.
 request_is : (before now : ℕ) (latches : Latches) (acts : List StatusAct) (word mask : ℕ) → StandsFor latches acts
     → HasAsking before latches.bits latches.enable → HasAsking now word mask
     → (((not (eqb (bit_and (bit_xor before now) now) 0) || latches.request) && not (eqb now 0)) ≡ true) ↔ Request (Update word mask ∷ acts)
@@ -105,7 +105,7 @@ request_is before now latches acts word mask is was asks =
           (zero.1 (parts.0.0, (asks parts.0.0).1 parts.0.1))),
     )
 
--- it is raised where a reason arises and it didn't stand
+-- Whether an update raises a request, computed from both words.
 pub raised_is : (before now : ℕ) (latches : Latches) (acts : List StatusAct) (word mask : ℕ) → StandsFor latches acts
     → HasAsking before latches.bits latches.enable → HasAsking now word mask
     → ((not (eqb (bit_and (bit_xor before now) now) 0) && not latches.request) ≡ true) ↔ IsRaised (Update word mask ∷ acts)
@@ -121,7 +121,7 @@ raised_is before now latches acts word mask is was asks =
           (not_from_false latches.request (false_from_ne_true latches.request (λ one. parts.1 (is.request.0 one))))),
     )
 
--- the bits that asked before an update, and those that ask after it, decide the request
+-- The summary bits and the enable are updated.
 pub stands_for_updated : (before now : ℕ) (latches : Latches) (acts : List StatusAct) (word mask : ℕ) → StandsFor latches acts
     → HasAsking before latches.bits latches.enable → HasAsking now word mask
     → StandsFor (record {
@@ -133,7 +133,7 @@ pub stands_for_updated : (before now : ℕ) (latches : Latches) (acts : List Sta
 stands_for_updated before now latches acts word mask is was asks =
     record { bits = refl; enable = refl; request = request_is before now latches acts word mask is was asks }
 
--- a poll ends the request
+-- A serial poll ends the request.
 pub stands_for_polled : (latches : Latches) (acts : List StatusAct) → StandsFor latches acts
     → StandsFor (record latches { request = false }) (Poll ∷ acts)
 stands_for_polled latches acts is = record {
@@ -143,14 +143,14 @@ stands_for_polled latches acts is = record {
       ((λ h. absurd cc), (λ s. absurd (request_polled acts s)));
 }
 
--- ---- the status byte as it is shown
+-- ---- the status byte as it is returned
 
--- these bits, but bit 6 as told
+-- These bits, with bit 6 set to the flag.
 abbrev pub with_six : Bool → ℕ → ℕ
 with_six true word = bit_or (bit_and word 191) 64
 with_six false word = bit_and word 191
 
--- a bit of it, where bit 6 tells a fact
+-- A bit of the status byte, where bit 6 stands for `P`.
 abbrev pub ShowsBit : ℕ → ℕ → Type 0 → Type 0
 ShowsBit k word P = ((k ≢ 6) × (bit_at word k ≡ 1)) ⊎ ((k ≡ 6) × P)
 
@@ -186,12 +186,12 @@ same_shown k word found P Q e same = (
   ]),
 )
 
--- as a poll gives it
+-- The status byte that a serial poll returns.
 pub polled_bit : (latches : Latches) (acts : List StatusAct) (k : ℕ) → StandsFor latches acts
     → ShowsBit k latches.bits (latches.request ≡ true) ↔ StatusBit k acts
 polled_bit latches acts k is = same_shown k latches.bits (bits acts) (latches.request ≡ true) (Request acts) is.bits is.request
 
--- as `*STB?` gives it
+-- The status byte that `*STB?` returns.
 pub master_bit : (latches : Latches) (acts : List StatusAct) (k : ℕ) (master : Bool) → StandsFor latches acts
     → (master ≡ true) ↔ Master acts
     → ShowsBit k latches.bits (master ≡ true) ↔ MasterBit k acts

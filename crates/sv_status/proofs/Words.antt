@@ -1,4 +1,4 @@
--- Bits of words under and, or and exclusive or.
+-- Single bits of words, under and, or and exclusive or.
 use Rattle.std.proofs.Common.{◌≡◌, ◌≢◌, ℕ, zero, suc, ◌+◌, ◌<◌, ◌≤◌, ◌%◌, ◌/◌, true, eqb, refl, sym, ap, ◌∙◌, ◌⊎◌, inl, inr, arith, bit_and, bit_or}
 use Rattle.std.specs.Prelude.{◌↔◌, not, min, max, bit_xor}
 use Rattle.std.specs.Int.{bit_at}
@@ -7,7 +7,7 @@ use Rattle.std.proofs.Common.{eq-eqb}
 use Rattle.sv_logs.proofs.Since.{then_same}
 use Rattle.std.proofs.lemmas.Nat.Bits.{bit_at_and, bit_at_or, bit_at_xor, bit_at-lt, bit_at-zero, bit_at_lowest, bit_at-suc, bit_at_above}
 
--- a word that isn't 0 has a bit
+-- A word that isn't 0 has a bit set.
 bit_within : (most w : ℕ) → w ≤ most → w ≢ 0 → (k : ℕ) × (bit_at w k ≡ 1)
 bit_within zero w le ne = absurd (ne (omega arith))
 bit_within (suc most) w le ne = elim (cases_eq (w % 2) 1) [
@@ -26,32 +26,29 @@ no_bit w k h e = absurd (omega (arith, h, ap (λ (n : ℕ). bit_at n k) e, bit_a
 both_of : (a b : ℕ) → a < 2 → b < 2 → min a b ≡ 1 → (a ≡ 1) × (b ≡ 1)
 both_of a b p q h = (grind arith, grind arith)
 
--- a bit stands in both of two words
 pub both_bits : (a b k : ℕ) → (bit_at (bit_and a b) k ≡ 1) ↔ ((bit_at a k ≡ 1) × (bit_at b k ≡ 1))
 both_bits a b k = (
   (λ h. both_of (bit_at a k) (bit_at b k) (bit_at-lt a k) (bit_at-lt b k) (sym (bit_at_and a b k) ∙ h)),
   (λ h. bit_at_and a b k ∙ ap (λ (n : ℕ). min n (bit_at b k)) h.0 ∙ ap (min 1) h.1),
 )
 
--- a test whether a word is 0
 pub not_zero : (w : ℕ) → (not (eqb w 0) ≡ true) ↔ ((k : ℕ) × (bit_at w k ≡ 1))
 not_zero w = (
   (λ h. some_bit w (λ e. let yes : eqb w 0 ≡ true = eq-eqb w 0 e in absurd cc)),
   (λ h. ap not (ne_eqb w 0 (no_bit w h.0 h.1))),
 )
 
--- 0 has none
 pub no_bits : (k : ℕ) (P : Type 0) → (P → ⊥) → (bit_at 0 k ≡ 1) ↔ P
 no_bits k P none = ((λ h. absurd (no_bit 0 k h refl)), (λ p. absurd (none p)))
 
--- two words meet in some bit
+-- Two words have a bit in common exactly if their and isn't 0.
 pub meets : (a b : ℕ) → (not (eqb (bit_and a b) 0) ≡ true) ↔ ((k : ℕ) × (bit_at a k ≡ 1) × (bit_at b k ≡ 1))
 meets a b = (
   (λ h. let some = (not_zero (bit_and a b)).0 h in let both = (both_bits a b some.0).0 some.1 in (some.0, both.0, both.1)),
   (λ h. (not_zero (bit_and a b)).1 (h.0, (both_bits a b h.0).1 (h.1, h.2))),
 )
 
--- some bit stands that is enabled
+-- The same bits are enabled under equal masks.
 pub same_enabled : {P Q : ℕ → Type 0} (mask other : ℕ) → mask ≡ other → ((k : ℕ) → P k ↔ Q k)
     → ((k : ℕ) × P k × (bit_at mask k ≡ 1)) ↔ ((k : ℕ) × Q k × (bit_at other k ≡ 1))
 same_enabled mask other same stands = (
@@ -59,12 +56,11 @@ same_enabled mask other same stands = (
   (λ s. (s.0, (stands s.0).1 s.1, ap (λ (w : ℕ). bit_at w s.0) same ∙ s.2)),
 )
 
--- the same, as a test of the word of these bits
+-- Some bit is set and enabled exactly if the and of both words isn't 0.
 pub enabled_is : {P : ℕ → Type 0} (event mask other : ℕ) → mask ≡ other → ((k : ℕ) → (bit_at event k ≡ 1) ↔ P k)
     → (not (eqb (bit_and event mask) 0) ≡ true) ↔ ((k : ℕ) × P k × (bit_at other k ≡ 1))
 enabled_is event mask other same stands = then_same (meets event mask) (same_enabled mask other same stands)
 
--- one bit or another
 either_of : (a b : ℕ) → a < 2 → b < 2 → max a b ≡ 1 → (a ≡ 1) ⊎ (b ≡ 1)
 either_of a b p q h = elim (cases_eq a 1) [ inl e ↦ inl e | inr ne ↦ inr (grind arith) ]
 
@@ -78,7 +74,7 @@ either_bit a b k = (
   ]),
 )
 
--- a bit that changed
+-- The bits that rise, and those that fall, from one word to the next.
 changed_of : (a b : ℕ) → a < 2 → b < 2 → (a + b) % 2 ≡ 1 → b ≡ 1 → a ≡ 0
 changed_of a b p q h e = grind arith
 
@@ -103,24 +99,22 @@ fell a b k = (
   )),
 )
 
--- a byte has eight bits
 pub within_byte : (w k : ℕ) → w < 256 → bit_at w k ≡ 1 → k < 8
 within_byte w k fits h = elim (cases_lt k 8) [ inl lt ↦ lt | inr le ↦ absurd (let none = bit_at_above w 8 k fits le in omega arith) ]
 
--- the byte without bit 6 has the others
 others_of_mask : (k : ℕ) → k < 8 → k ≢ 6 → bit_at 191 k ≡ 1
 others_of_mask (suc (suc (suc (suc (suc (suc zero)))))) lt ne = absurd (ne refl)
 others_of_mask (suc (suc (suc (suc (suc (suc (suc (suc k)))))))) lt ne = absurd (omega arith)
 others_of_mask _ lt ne = refl
 
--- bits of a byte without bit 6
+-- Masking a byte with 191 clears bit 6 only.
 pub without_six : (w k : ℕ) → w < 256 → (bit_at (bit_and w 191) k ≡ 1) ↔ ((k ≢ 6) × (bit_at w k ≡ 1))
 without_six w k fits = (
   (λ h. let both = (both_bits w 191 k).0 h in ((λ e. let six : bit_at 191 k ≡ 0 = ap (bit_at 191) e in absurd (omega arith)), both.0)),
   (λ h. (both_bits w 191 k).1 (h.1, others_of_mask k (within_byte w k fits h.1) h.0)),
 )
 
--- bits of two bytes, without bit 6
+-- The summary bits that are set and enabled: bit 6 isn't one of them.
 pub asking_bit : (a b k : ℕ) → a < 256 → (bit_at (bit_and (bit_and a b) 191) k ≡ 1) ↔ ((k ≢ 6) × (bit_at a k ≡ 1) × (bit_at b k ≡ 1))
 asking_bit a b k fits = (
   (λ h.

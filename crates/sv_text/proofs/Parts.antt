@@ -5,15 +5,14 @@ use Rattle.std.proofs.lemmas.Bool.{cases_lt, lt-ltb, le-ltb, eqb-true}
 use Rattle.std.proofs.lemmas.List.{take_all}
 use Rattle.sv_text.specs.Cut.{cut_at}
 
--- where the first separator stands
+-- The position of the first separator.
 abbrev pub part_size : ℕ → List ℕ → ℕ
 part_size separator bytes = position_or_len (λ b. b == separator) bytes
 
--- the first part is cut off behind so many bytes of so many
+-- The first part has `n` of the `size` bytes, and the other parts follow a separator.
 abbrev pub parts_at : ℕ → ℕ → ℕ → List ℕ → List (List ℕ)
 parts_at separator n size bytes = take n bytes ∷ cond (nat_lt n size) (cut_at separator (drop (n + 1) bytes)) []
 
--- a byte in front
 parts_at_cons : (s b n m : ℕ) (bytes : List ℕ) → m ≡ suc n
     → onto b (parts_at s n (length bytes) bytes) ≡ parts_at s m (suc (length bytes)) (b ∷ bytes)
 parts_at_cons s b n m bytes e =
@@ -24,7 +23,7 @@ parts_at_cons s b n m bytes e =
       | inr ge ↦ rw (e, le-ltb n (length bytes) ge, le-ltb (suc n) (suc (length bytes)) (omega arith)) refl
     ]
 
--- the first part, and those behind it
+-- The first part, and the parts after it.
 pub parts_cut : (s : ℕ) (bytes : List ℕ) → cut_at s bytes ≡ parts_at s (part_size s bytes) (length bytes) bytes
 parts_cut s [] = refl
 parts_cut s (b ∷ bytes) = at (b == s) (parts_cut s bytes)
@@ -35,16 +34,16 @@ parts_cut s (b ∷ bytes) = at (b == s) (parts_cut s bytes)
     at true h = rw (lt-ltb 0 (suc (length bytes)) (omega arith)) refl
     at false h = ap (onto b) h ∙ parts_at_cons s b (part_size s bytes) (1 + part_size s bytes) bytes (omega arith)
 
--- a part that a separator ends, and those behind it
+-- If a separator ends the first part, the parts after it are cut on their own.
 pub part_ended : (s n : ℕ) (bytes : List ℕ) → n ≡ part_size s bytes → n < length bytes
     → cut_at s bytes ≡ take n bytes ∷ cut_at s (drop (n + 1) bytes)
 part_ended s n bytes e lt = parts_cut s bytes ∙ rw (← e, lt-ltb n (length bytes) lt) refl
 
--- a part that no separator ends is all
+-- Without a separator, the whole text is one part.
 pub part_last : (s n : ℕ) (bytes : List ℕ) → n ≡ part_size s bytes → length bytes ≤ n → cut_at s bytes ≡ bytes ∷ []
 part_last s n bytes e ge = parts_cut s bytes ∙ rw (← e, le-ltb n (length bytes) ge, take_all n bytes ge) refl
 
--- the separator stands between the first part and the others
+-- The first part, a separator and the rest are the whole text.
 pub whole_ended : (s n : ℕ) (bytes : List ℕ) → n ≡ part_size s bytes → n < length bytes → bytes ≡ take n bytes ++ s ∷ drop (n + 1) bytes
 whole_ended s n [] e lt = absurd (omega arith)
 whole_ended s n (b ∷ bytes) e lt = at (b == s) refl e lt (whole_ended s (part_size s bytes) bytes refl)
@@ -58,6 +57,5 @@ whole_ended s n (b ∷ bytes) e lt = at (b == s) refl e lt (whole_ended s (part_
         let next : n + 1 ≡ suc (part_size s bytes + 1) = omega (arith, e) in
         rw (next, size) (ap (λ xs. b ∷ xs) (h (omega (arith, e))))
 
--- there is always a part
 pub parts_some : (s : ℕ) (bytes : List ℕ) → 1 ≤ length (cut_at s bytes)
 parts_some s bytes = rw (parts_cut s bytes) (omega arith)

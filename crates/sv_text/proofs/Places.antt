@@ -4,11 +4,9 @@ use Rattle.std.specs.List.{position, position_or_len}
 use Rattle.std.proofs.lemmas.Bool.{cases_lt, lt-ltb, le-ltb}
 use Rattle.std.proofs.lemmas.List.Sums.{prefix_len-le-length}
 
--- no place is behind the end
 pub place_within : (p : ℕ → Bool) (bytes : List ℕ) → position_or_len p bytes ≤ length bytes
 place_within p bytes = prefix_len-le-length (λ b. not (p b)) bytes
 
--- the place, or the length
 pub place_or_len : (p : ℕ → Bool) (bytes : List ℕ) → unwrap_or (position p bytes) (length bytes) ≡ position_or_len p bytes
 place_or_len p bytes =
     let le = place_within p bytes in

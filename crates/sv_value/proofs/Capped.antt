@@ -1,4 +1,4 @@
--- A value that is counted to a bound only.
+-- A value that is capped while its digits are read is the capped value of all digits.
 use Rattle.std.proofs.Common.{◌≡◌, ℕ, ◌+◌, ◌-◌, ◌*◌, ◌^◌, ◌<◌, ◌≤◌, ◌++◌, List, [], ◌∷◌, length, take, drop, slice_index_or, min, refl, sym, ap, ◌∙◌, inl, inr, arith}
 use Rattle.std.specs.Char.{digit_value}
 use Rattle.std.specs.Str.Parse.{digits_value, digits_value_after}
@@ -10,7 +10,7 @@ use Rattle.sv_value.specs.Number.{nearest}
 use Rattle.sv_value.proofs.Rounding.{value_join}
 use Rattle.std.proofs.lemmas.Nat.{mul-le}
 
--- one more digit
+-- A value may be capped before another digit is read: the capped result is the same.
 cap_past : (m b x d : ℕ) → 1 ≤ b → m ≤ x → min (min x m * b + d) m ≡ min (x * b + d) m
 cap_past m b x d some le =
     let small : min x m ≡ m = grind (arith, le) in
@@ -25,7 +25,7 @@ cap_step m b x d some =
       | inr ge ↦ let same : min x m ≡ x = omega (arith, ge) in rw same refl
     ]
 
--- it makes no difference to count on from the bound
+-- If the value so far is capped, the further digits lead to the same capped value.
 pub cap : (m b x : ℕ) (digits : List ℕ) → 1 ≤ b → min (digits_value_after b (min x m) digits) m ≡ min (digits_value_after b x digits) m
 cap m b x [] some = omega arith
 cap m b x (d ∷ digits) some =
@@ -33,7 +33,7 @@ cap m b x (d ∷ digits) some =
     ∙ ap (λ n. min (digits_value_after b n digits) m) (cap_step m b x (digit_value d) some)
     ∙ cap m b (x * b + digit_value d) digits some
 
--- a digit is counted in
+-- Reading the next digit and capping keeps the capped value of all digits.
 pub cap_digit : (b most x v : ℕ) (digits : List ℕ) → 1 ≤ b → 1 ≤ length digits
     → v ≡ min most (x * b + digit_value (slice_index_or digits 0 0))
     → min (digits_value_after b x digits) most ≡ min (digits_value_after b v (take (length digits - 1) (drop 1 digits))) most
@@ -42,37 +42,36 @@ cap_digit b most x v (d ∷ digits) some lt e =
     let swap : v ≡ min (x * b + digit_value d) most = omega (arith, e) in
     rw (take_rest (d ∷ digits) 1, swap) (sym (cap most b (x * b + digit_value d) digits some))
 
--- digits behind a value that was counted to the bound
+-- The value of the first digits may be capped before the others are read.
 pub cap_join : (most : ℕ) (front behind : List ℕ)
     → min (digits_value_after 10 (min (digits_value 10 front) most) behind) most ≡ min (digits_value 10 (front ++ behind)) most
 cap_join most front behind = cap most 10 (digits_value 10 front) behind (omega arith) ∙ ap (λ n. min n most) (sym (value_join front behind))
 
--- so far into two lists is all of the first and the rest into the second
 pub take_join : (k : ℕ) (front behind : List ℕ) → length front ≤ k → take k (front ++ behind) ≡ front ++ take (k - length front) behind
 take_join k front behind le =
     let e : k ≡ length front + (k - length front) = omega (arith, le) in
     ap (λ n. take n (front ++ behind)) e ∙ take-append-add front behind (k - length front)
 
--- a value that isn't 0, nineteen places up, is past the bound
+-- A value above 0 that is moved by 19 decimal places or more exceeds the cap.
 pub past : (value tens : ℕ) → 1 ≤ value → 18 < tens → 1000000000000000000 ≡ min (value * 10 ^ tens) 1000000000000000000
 past value tens some many =
     let pow : 10 ^ 18 ≤ 10 ^ tens = pow-le-pow_right (omega arith) {i = 18} {j = tens} (omega (arith, many)) in
     let times : 1 * 10 ^ 18 ≤ value * 10 ^ tens = mul-le 1 (10 ^ 18) value (10 ^ tens) some pow in
     omega (arith, times)
 
--- a value that was counted to the bound, some places up
+-- A value may be capped before it is multiplied: the capped product is the same.
 pub cap_up : (most value k : ℕ) → 1 ≤ k → min (min value most * k) most ≡ min (value * k) most
 cap_up most value k some =
     let none : min value most * k ≡ min value most * k + 0 = omega arith in
     let same : value * k + 0 ≡ value * k = omega arith in
     ap (λ n. min n most) none ∙ cap_step most k value 0 some ∙ ap (λ n. min n most) same
 
--- a value that was counted to the bound, rounded up or not
+-- A value may be capped before it is rounded up: the capped result is the same.
 pub cap_round : (most value up front carry result : ℕ) → front ≡ min value most → carry ≡ up → result ≡ min most (front + carry)
     → result ≡ min (value + up) most
 cap_round most value up front carry result f u e = omega (arith, f, u, e)
 
--- a fraction whose powers of ten are told in another way
+-- Equal powers of ten give the same value.
 pub same_powers : (most n up right down left : ℕ) → up ≡ right → down ≡ left
     → min (nearest (n * 10 ^ up) (10 ^ down)) most ≡ min (nearest (n * 10 ^ right) (10 ^ left)) most
 same_powers most n up right down left u d = rw (u, d) refl

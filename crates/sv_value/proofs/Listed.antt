@@ -1,4 +1,4 @@
--- What is read as a channel list is one.
+-- What is read as a channel list is a valid channel list.
 use Rattle.std.proofs.Common.{◌≡◌, ℕ, zero, suc, ◌+◌, ◌-◌, ◌<◌, ◌≤◌, ◌&&◌, Bool, true, false, not, cond, List, [], ◌∷◌, ◌++◌, length, refl, ap, ◌∙◌, inl, inr, arith}
 use Rattle.std.specs.Prelude.{nat_le, nat_lt, is_some, Option, Some, None, Result, Ok, Err, MatchResult, IfOk}
 use Rattle.std.specs.List.{list_all}
@@ -16,11 +16,10 @@ use Rattle.sv_value.specs.Channels.{Span as Ends, inner, list_channels, next, re
 use Rattle.sv_value.specs.Value.{ReadIsChannelList}
 use Rattle.sv_value.proofs.Spans.{run_up, run_down, run_one, length_run}
 
--- one more channel in front
 cons_channel : (c : ℕ) (cs : List ℕ) → 1 ≤ c → c ≤ channel_count → list_all is_channel cs ≡ true → list_all is_channel (c ∷ cs) ≡ true
 cons_channel c cs some most h = rw (le-leb 1 c some, le-leb c channel_count most) h
 
--- a run between two channels
+-- All channels between two channels are channels.
 run_channels : (k first last : ℕ) → (first - last) + (last - first) ≡ k → 1 ≤ first → first ≤ channel_count → 1 ≤ last
     → last ≤ channel_count → list_all is_channel (channel_range first last) ≡ true
 run_channels zero first last size f1 f2 l1 l2 =
@@ -39,7 +38,6 @@ run_channels (suc k) first last size f1 f2 l1 l2 =
           (run_channels k (first - 1) last (omega (arith, size, down)) (omega (arith, down, l1)) (omega (arith, f2)) l1 l2)
     ]
 
--- both tests hold
 both : (a b : Bool) → (a && b) ≡ true → (a ≡ true) × (b ≡ true)
 both true b h = (refl, h)
 both false b h = absurd cc
@@ -52,12 +50,12 @@ ends_channels first last h =
     run_channels ((first - last) + (last - first)) first last refl (leb-true 1 first f.0)
     (leb-true first channel_count f.1) (leb-true 1 last l.0) (leb-true last channel_count l.1)
 
--- as many as a list may have, and at least one
+-- Channels are a valid list if there are 1 to 128 of them.
 are_listed : (before list : List ℕ) → list_all is_channel before ≡ true → length before ≤ longest_list → 1 ≤ length before → before ≡ list
     → is_channel_list list ≡ true
 are_listed before list all most some e = rw (← e) (rw (le-leb 1 (length before) some, le-leb (length before) longest_list most) all)
 
--- the channels of an item behind others, if the items behind it go on well
+-- If an item and the items after it are read without error, all of them are channels.
 item_channels : (o : Option Ends) (before list : List ℕ) (others : List ℕ → Result (List ℕ) Code) → list_all is_channel before ≡ true
     → ((so_far : List ℕ) → list_all is_channel so_far ≡ true → length so_far ≤ longest_list → 1 ≤ length so_far → others so_far ≡ Ok list
     → is_channel_list list ≡ true)
@@ -105,7 +103,7 @@ read_channels Base text list h = absurd cc
 read_channels Word text list h = absurd cc
 read_channels Other text list h = absurd cc
 
--- what is found to be a list is one
+-- A list that the code returns is valid.
 pub if_listed : {L : Type 0} (items : L → List ℕ) (text : List ℕ) (r : Result L Code)
     → MatchResult r (λ list. read_list text ≡ Ok (items list)) (λ code. read_list text ≡ Err code)
     → IfOk r (λ list. is_channel_list (items list) ≡ true)

@@ -1,4 +1,4 @@
--- Pieces of a text that are joined, and taken apart again.
+-- The pieces of a number are read from their joined text, and each text divides into pieces.
 use Rattle.std.proofs.Common.{◌≡◌, ℕ, suc, ◌+◌, ◌==◌, ◌&&◌, ◌||◌, Bool, true, false, not, cond, List, [], ◌∷◌, ◌++◌, take, drop, refl, sym, ap, ◌∙◌, inl, inr, arith}
 use Rattle.sv_text.specs.Front.{has_minus}
 use Rattle.std.specs.List.{list_all}
@@ -11,7 +11,7 @@ use Rattle.sv_value.specs.Decimal.{digits_in, behind_digits, digits_size, behind
 use Rattle.sv_value.specs.Spelling.{AreDigits, IsSpace, IsSign, IsFraction}
 use Rattle.sv_value.proofs.Runs.{run_passes}
 
--- whether the first byte passes a test
+-- Whether the first byte passes a test.
 abbrev pub begins : (ℕ → Bool) → List ℕ → Bool
 begins test [] = false
 begins test (b ∷ text) = test b
@@ -22,7 +22,7 @@ is_sign b = b == 43 || b == 45
 abbrev pub is_point : ℕ → Bool
 is_point b = b == 46
 
--- digits in front of text
+-- Leading digits are read up to the first byte that isn't a digit.
 pub digits_joined : (digits text : List ℕ) → AreDigits digits → digits_in (digits ++ text) ≡ digits ++ digits_in text
 digits_joined [] text all = refl
 digits_joined (b ∷ digits) text all = at (is_ascii_digit b) all (digits_joined digits text)
@@ -52,7 +52,7 @@ pub behind_none : (text : List ℕ) → begins is_ascii_digit text ≡ false →
 behind_none [] h = refl
 behind_none (b ∷ text) h = rw h refl
 
--- white space in front of text
+-- Leading white space is removed.
 pub trim_joined : (space text : List ℕ) → IsSpace space → trim_start (space ++ text) ≡ trim_start text
 trim_joined [] text all = refl
 trim_joined (b ∷ space) text all = at (is_white b) all (trim_joined space text)
@@ -66,14 +66,14 @@ pub trim_none : (text : List ℕ) → begins is_white text ≡ false → trim_st
 trim_none [] h = refl
 trim_none (b ∷ text) h = rw h refl
 
--- text is the digits in front and what stands behind them
+-- A text consists of its leading digits and the rest.
 pub digits_apart : (text : List ℕ) → text ≡ digits_in text ++ behind_digits text
 digits_apart text = sym (take-append-drop (digits_size text) text)
 
 pub digits_all : (text : List ℕ) → AreDigits (digits_in text)
 digits_all text = run_passes is_ascii_digit text
 
--- text is white space and what stands behind it
+-- A text consists of leading white space and the rest.
 pub trim_apart : (text : List ℕ) → (space : List ℕ) × (text ≡ space ++ trim_start text) × IsSpace space
 trim_apart [] = ([], refl, refl)
 trim_apart (b ∷ text) = at (is_white b) refl (trim_apart text)
@@ -83,7 +83,7 @@ trim_apart (b ∷ text) = at (is_white b) refl (trim_apart text)
     at true is h = (b ∷ h.0, ap (λ xs. b ∷ xs) h.1, rw is h.2)
     at false is h = ([], refl, refl)
 
--- a sign in front of text
+-- A leading sign is read, unless a second one follows.
 pub sign_joined : (sign text : List ℕ) (minus : Bool) → IsSign sign minus → begins is_sign text ≡ false
     → (has_minus (sign ++ text) ≡ minus) × (behind_sign (sign ++ text) ≡ text)
 sign_joined sign text minus (inl s) h = rw (s.0, s.1) (none text h)
@@ -105,7 +105,7 @@ sign_apart (b ∷ text) = at (b == 43) (b == 45) refl refl
     at false true p m = (45 ∷ [], ap (λ x. x ∷ text) (eqb-true b 45 m), inr (inr (refl, refl)))
     at false false p m = ([], refl, inl (refl, refl))
 
--- a fraction in front of text
+-- A leading point and the digits after it are read.
 pub fraction_joined : (piece digits text : List ℕ) → IsFraction piece digits → begins is_ascii_digit text ≡ false
     → begins is_point text ≡ false
     → (fraction_in (piece ++ text) ≡ digits) × (behind_fraction (piece ++ text) ≡ text)

@@ -1,18 +1,19 @@
--- What is printed of a voltage.
+-- The text of a voltage: a sign, at most four digits, a point, and six digits.
 use Rattle.std.proofs.Common.{◌≡◌, ℕ, zero, suc, ◌+◌, ◌-◌, ◌/◌, ◌<◌, ◌≤◌, List, [], ◌∷◌, ◌++◌, length, take, drop, refl, sym, ap, ◌∙◌, arith}
 use Rattle.std.specs.Prelude.{decimal, replicate}
 use Rattle.std.proofs.lemmas.List.{append_assoc, length-append, length-replicate, drop-drop, take_all}
 use Rattle.std.proofs.lemmas.Fmt.{length-decimal-le}
 use Rattle.sv_value.specs.PrintedVoltage.{six_digits}
 
--- a number below a million has at most six digits, and up to a thousand volts at most four
+-- A number below a million has at most six digits; up to 1,000 V, at most four come before the
+-- point.
 pub six_short : (n : ℕ) → n < 1000000 → length (decimal n) ≤ 6
 six_short n lt = length-decimal-le 6 n (omega arith) (omega (arith, lt)) (omega (arith, lt))
 
 pub volts_short : (n : ℕ) → n ≤ 1000000000 → length (decimal (n / 1000000)) ≤ 4
 volts_short n le = length-decimal-le 4 (n / 1000000) (omega arith) (omega (arith, le)) (omega (arith, le))
 
--- zeros in front fill up to six
+-- Leading zeros fill the number up to six digits.
 drop_zeros : (k n : ℕ) → drop {A = ℕ} k (replicate n 48) ≡ replicate (n - k) 48
 drop_zeros zero n = let e : n - 0 ≡ n = omega arith in rw e refl
 drop_zeros (suc k) zero = let e : 0 - suc k ≡ 0 = omega arith in rw e refl
@@ -33,7 +34,7 @@ length_six n lt =
     length-replicate (6 - length (decimal n)) 48 in
     length-append (replicate (6 - length (decimal n)) 48) (decimal n) ∙ omega (arith, short, zeros)
 
--- zeros and digits behind a text are six digits behind it
+-- Zeros and digits that are written after a text appear after it as six digits.
 pub six_behind : (text rest zeros digits new six : List ℕ) → length zeros + length digits ≡ 6 → six ≡ zeros ++ digits
     → new ≡ (text ++ zeros) ++ (digits ++ drop (length digits) (drop (length zeros) rest)) → new ≡ text ++ (six ++ drop 6 rest)
 six_behind text rest zeros digits new six size e h =
@@ -41,7 +42,7 @@ six_behind text rest zeros digits new six size e h =
     drop-drop (length digits) (length zeros) rest ∙ ap (λ n. drop n rest) size in
     h ∙ ap (λ r. (text ++ zeros) ++ (digits ++ r)) dropped ∙ simp append_assoc refl ∙ ap (λ s. text ++ (s ++ drop 6 rest)) (sym e)
 
--- one byte, digits, a point and six digits, one behind the other
+-- A sign, digits, a point and six digits that are written in this order are the text of a voltage.
 pub all_behind : (old new volts six : List ℕ) (sign : ℕ) → length six ≡ 6
     → new ≡ (((sign ∷ []) ++ volts) ++ 46 ∷ []) ++ (six ++ drop 6 (drop 1 (drop (length volts) (drop 1 old))))
     → new ≡ (sign ∷ (volts ++ 46 ∷ six)) ++ drop (length (sign ∷ (volts ++ 46 ∷ six))) old
@@ -53,16 +54,14 @@ all_behind old new volts six sign size h =
     ∙ drop-drop 6 (1 + length volts + 1) old ∙ ap (λ n. drop n old) (sym whole) in
     h ∙ ap (λ r. (((sign ∷ []) ++ volts) ++ 46 ∷ []) ++ (six ++ r)) dropped ∙ simp append_assoc refl
 
--- a text in front of what it leaves of another
+-- The text of a voltage, written over the beginning of `old`.
 abbrev pub in_front : List ℕ → ℕ → List ℕ → ℕ → List ℕ
 in_front old sign volts n = (sign ∷ (volts ++ 46 ∷ six_digits n)) ++ drop (length (sign ∷ (volts ++ 46 ∷ six_digits n))) old
 
--- the same parts make the same text
 pub voltage_same : (old volts volts2 : List ℕ) (sign sign2 n n2 : ℕ) → sign ≡ sign2 → volts ≡ volts2 → n ≡ n2
     → in_front old sign volts n ≡ in_front old sign2 volts2 n2
 voltage_same old volts volts2 sign sign2 n n2 s v e =
     ap (λ x. in_front old x volts n) s ∙ ap (λ x. in_front old sign2 x n) v ∙ ap (λ x. in_front old sign2 volts2 x) e
 
--- how long it is
 pub voltage_size : (volts : List ℕ) (n : ℕ) → n < 1000000 → length (volts ++ 46 ∷ six_digits n) ≡ length volts + 1 + 6
 voltage_size volts n lt = let inner = length-append volts (46 ∷ six_digits n) in let six = length_six n lt in omega (arith, inner, six)

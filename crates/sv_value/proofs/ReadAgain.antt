@@ -1,4 +1,4 @@
--- What is printed of a voltage is read as that voltage.
+-- A voltage that is printed and read again is the same voltage.
 use Rattle.std.proofs.Common.{◌≡◌, ℕ, zero, suc, ◌+◌, ◌-◌, ◌*◌, ◌/◌, ◌%◌, ◌^◌, ◌<◌, ◌≤◌, Bool, true, false, List, [], ◌∷◌, ◌++◌, length, refl, sym, ap, ◌∙◌, pos, negsuc, Some, arith}
 use Rattle.sv_text.specs.Front.{is_empty}
 use Rattle.std.specs.Prelude.{decimal, replicate, Ok}
@@ -20,7 +20,6 @@ use Rattle.sv_value.proofs.Pieces.{digits_joined, behind_joined}
 use Rattle.sv_value.proofs.Rounding.{value_join, after_moves, nearest_right}
 use Rattle.sv_value.proofs.Printed.{length_six, volts_short}
 
--- decimal digits
 is_digit : (b : ℕ) → digit_value b < 10 → is_ascii_digit b ≡ true
 is_digit b lt = grind (arith, nat_tests, lt)
 
@@ -41,7 +40,6 @@ six_digits_back n lt =
     let digits = decimal_digits n (omega (arith, lt)) in
     list_all-append is_ascii_digit (replicate (6 - length (decimal n)) 48) (decimal n) ∙ rw (zeros, digits) refl
 
--- zeros in front are worth nothing
 zeros_value : (k : ℕ) → digits_value 10 (replicate k 48) ≡ 0
 zeros_value zero = refl
 zeros_value (suc k) = zeros_value k
@@ -52,7 +50,7 @@ six_value n lt =
     ∙ ap (λ v. digits_value_after 10 v (decimal n)) (zeros_value (6 - length (decimal n)))
     ∙ (decimal_is_IsNumeral n (omega (arith, lt))).1
 
--- the digits of a voltage
+-- The digits before and after the point have the value in microvolts.
 whole_value : (m : ℕ) → m ≤ 1000000000 → digits_value 10 (decimal (m / 1000000) ++ six_digits (m % 1000000)) ≡ m
 whole_value m le =
     let front = (decimal_is_IsNumeral (m / 1000000) (omega (arith, le))).1 in
@@ -62,7 +60,7 @@ whole_value m le =
     ∙ after_moves (digits_value 10 (decimal (m / 1000000))) (six_digits (m % 1000000))
     ∙ rw (front, behind, size) (omega arith)
 
--- the parts of digits, a point and digits behind a sign
+-- The parts that are read from a sign, digits, a point, digits and the rest.
 abbrev parts_of : Bool → List ℕ → List ℕ → List ℕ → Parts
 parts_of negative whole fraction rest = record {
   negative = negative;
@@ -73,7 +71,7 @@ parts_of negative whole fraction rest = record {
   suffix = trim_start (behind_exponent rest);
 }
 
--- are these
+-- If the digits are decimal, these are the parts.
 parts_printed : (negative : Bool) (whole fraction : List ℕ) → list_all is_ascii_digit whole ≡ true → list_all is_ascii_digit fraction ≡ true
     → parts_of negative (digits_in (whole ++ 46 ∷ fraction)) (fraction_in (behind_digits (whole ++ 46 ∷ fraction)))
     (behind_fraction (behind_digits (whole ++ 46 ∷ fraction))) ≡ parts_of negative whole fraction []
@@ -89,12 +87,11 @@ parts_printed negative whole fraction w f =
     ∙ ap (λ d. parts_of negative whole d (behind_digits fraction)) all
     ∙ ap (parts_of negative whole fraction) none
 
--- something is there
 some_there : (digits : List ℕ) → 0 < length digits → is_empty digits ≡ false
 some_there [] lt = absurd (omega (arith, lt))
 some_there (d ∷ digits) lt = refl
 
--- a voltage's parts are read as it
+-- The parts of a printed voltage are read as this voltage.
 read_parts : (negative : Bool) (m : ℕ) → m ≤ 1000000000
     → read_with (Some 6) InvalidSuffix (parts_of negative (decimal (m / 1000000)) (six_digits (m % 1000000)) []) ≡ Ok (signed negative m)
 read_parts negative m le =

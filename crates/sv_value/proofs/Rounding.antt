@@ -1,4 +1,4 @@
--- Rounding by the digit behind those that are kept.
+-- Rounding to the nearest whole number depends only on the first digit that is left out.
 use Rattle.std.proofs.Common.{◌≡◌, ℕ, zero, suc, ◌+◌, ◌-◌, ◌*◌, ◌^◌, ◌<◌, ◌≤◌, Bool, true, false, List, [], ◌∷◌, ◌++◌, length, take, drop, slice_index_or, refl, sym, ap, ◌∙◌, arith}
 use Rattle.std.specs.Prelude.{nat_le, if◌then◌else◌}
 use Rattle.std.proofs.lemmas.Bool.Decides.{nat_tests}
@@ -12,12 +12,11 @@ use Rattle.std.proofs.lemmas.Nat.{mul-le, pow-add}
 use Rattle.std.proofs.Math.Nat.{div-eq_of_lt-le, div-eq_of_lt, mul-div-mul_right, pow-succ', pow-le-pow_right, one-le-pow}
 use Rattle.sv_value.specs.Number.{nearest}
 
--- digits join
 after_join : (b n : ℕ) (xs ys : List ℕ) → digits_value_after b n (xs ++ ys) ≡ digits_value_after b (digits_value_after b n xs) ys
 after_join b n [] ys = refl
 after_join b n (x ∷ xs) ys = after_join b (n * b + digit_value x) xs ys
 
--- the digits behind a value move it
+-- Further digits multiply the value so far by ten each.
 pub after_moves : (n : ℕ) (ds : List ℕ) → digits_value_after 10 n ds ≡ n * 10 ^ length ds + digits_value 10 ds
 after_moves n [] = omega arith
 after_moves n (d ∷ ds) =
@@ -26,15 +25,13 @@ after_moves n (d ∷ ds) =
     let p : 10 ^ suc (length ds) ≡ 10 * 10 ^ length ds = pow-succ' 10 (length ds) in
     omega (arith, a, b, ap (λ x. n * x) p)
 
--- one digit or more behind others
 pub value_join : (xs ys : List ℕ) → digits_value 10 (xs ++ ys) ≡ digits_value_after 10 (digits_value 10 xs) ys
 value_join xs ys = after_join 10 0 xs ys
 
--- nothing is left out
 nearest_whole : (n : ℕ) → nearest n 1 ≡ n
 nearest_whole n = div-eq_of_lt-le 2 (omega arith) (omega arith)
 
--- a fraction may be shortened
+-- A common factor of numerator and denominator doesn't matter.
 nearest_short : (n d k : ℕ) → 1 ≤ k → nearest (n * k) (d * k) ≡ nearest n d
 nearest_short n d k some =
     let over : 2 * (n * k) + d * k ≡ (2 * n + d) * k = omega arith in
@@ -44,7 +41,7 @@ nearest_short n d k some =
 pub ten_some : (n : ℕ) → 1 ≤ 10 ^ n
 ten_some n = one-le-pow n 10 (omega arith)
 
--- the point moves to the right
+-- If the power of ten in the numerator is the greater one, nothing is rounded.
 pub nearest_right : (n up down : ℕ) → down ≤ up → nearest (n * 10 ^ up) (10 ^ down) ≡ n * 10 ^ (up - down)
 nearest_right n up down le =
     let split : 10 ^ up ≡ 10 ^ (up - down) * 10 ^ down =
@@ -54,18 +51,17 @@ nearest_right n up down le =
     ap (λ k. nearest k (10 ^ down)) over ∙ ap (λ k. nearest (n * 10 ^ (up - down) * 10 ^ down) k) under
     ∙ nearest_short (n * 10 ^ (up - down)) 1 (10 ^ down) (ten_some down) ∙ nearest_whole (n * 10 ^ (up - down))
 
--- or to the left
+-- If the one in the denominator is the greater one, only the difference matters.
 pub nearest_left : (n up down : ℕ) → up ≤ down → nearest (n * 10 ^ up) (10 ^ down) ≡ nearest n (10 ^ (down - up))
 nearest_left n up down le =
     let split : 10 ^ down ≡ 10 ^ (down - up) * 10 ^ up =
     ap (λ k. 10 ^ k) (let e : down ≡ (down - up) + up = omega (arith, le) in e) ∙ pow-add 10 (down - up) up in
     ap (λ k. nearest (n * 10 ^ up) k) split ∙ nearest_short n (10 ^ (down - up)) (10 ^ up) (ten_some up)
 
--- a digit is at most 9
 digit_most : (b : ℕ) → is_ascii_digit b ≡ true → digit_value b ≤ 9
 digit_most b h = grind (arith, nat_tests, h)
 
--- digits write less than the power of ten that has one more
+-- A number is less than the power of ten that has one digit more.
 pub value_less : (ds : List ℕ) → list_all is_ascii_digit ds ≡ true → digits_value 10 ds < 10 ^ length ds
 value_less [] h = omega arith
 value_less (d ∷ ds) h =
@@ -78,7 +74,7 @@ value_less (d ∷ ds) h =
     mul-le (digit_value d) (10 ^ length ds) 9 (10 ^ length ds) most (omega arith) in
     omega (arith, moves, p, part, rest)
 
--- where more digits are left out than there are, less than half is left
+-- If more digits are left out than there are, the value is less than a half and rounds to 0.
 pub nearest_none : (ds : List ℕ) (c : ℕ) → list_all is_ascii_digit ds ≡ true → length ds < c → nearest (digits_value 10 ds) (10 ^ c) ≡ 0
 nearest_none ds c h lt =
     let less = value_less ds h in
@@ -86,7 +82,7 @@ nearest_none ds c h lt =
     let more : 10 ^ suc (length ds) ≤ 10 ^ c = pow-le-pow_right (omega arith) (omega (arith, lt)) in
     div-eq_of_lt (omega (arith, less, p, more))
 
--- what a kept value, the digit behind it and what is behind that are rounded to
+-- A value whose first omitted digit is 5 or more is rounded up, any other is rounded down.
 half : (kept digit behind p : ℕ) → digit ≤ 9 → behind < p
     → nearest ((kept * 10 + digit) * p + behind) (10 * p) ≡ kept + (if nat_le 5 digit then 1 else 0)
 half kept digit behind p most lt = at (nat_le 5 digit) refl
@@ -106,13 +102,13 @@ half kept digit behind p most lt = at (nat_le 5 digit) refl
         let low : digit * p ≤ 4 * p = mul-le digit p 4 p few (omega arith) in
         div-eq_of_lt-le (2 * (10 * p)) (omega (arith, spread, low, lt)) (omega (arith, spread, low, lt))
 
--- the digit at a place stands between those in front of it and those behind
+-- The digits before an index, the one there, and those after it are all digits.
 split_at : (ds : List ℕ) (k : ℕ) → k < length ds → ds ≡ take k ds ++ slice_index_or ds k 0 ∷ drop (suc k) ds
 split_at [] k lt = absurd (omega (arith, lt))
 split_at (d ∷ ds) zero lt = refl
 split_at (d ∷ ds) (suc k) lt = ap (λ xs. d ∷ xs) (split_at ds k (omega (arith, lt)))
 
--- rounding by the first digit that is left out
+-- A number is rounded to its first digits by the first digit that is left out.
 pub nearest_digits : (ds : List ℕ) (c kept : ℕ) → list_all is_ascii_digit ds ≡ true → 1 ≤ c → kept + c ≡ length ds
     → nearest (digits_value 10 ds) (10 ^ c) ≡ digits_value 10 (take kept ds) +
     (if nat_le 5 (digit_value (slice_index_or ds kept 0)) then 1 else 0)

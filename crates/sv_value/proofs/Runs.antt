@@ -1,8 +1,8 @@
--- Runs of bytes that pass a test.
+-- The first byte that passes a test, and the bytes before it.
 use Rattle.std.proofs.Common.{◌≡◌, ℕ, suc, ◌+◌, ◌<◌, ◌≤◌, Bool, true, false, not, cond, List, [], ◌∷◌, ◌++◌, length, take, refl, arith}
 use Rattle.std.specs.List.{position_or_len, list_all}
 
--- what stands in front of the first that doesn't pass passes
+-- All bytes before the first one that fails a test pass the test.
 pub run_passes : (test : ℕ → Bool) (bytes : List ℕ) → list_all test (take (position_or_len (λ b. not (test b)) bytes) bytes) ≡ true
 run_passes test [] = refl
 run_passes test (b ∷ bytes) = at (test b) refl (run_passes test bytes)
@@ -13,7 +13,7 @@ run_passes test (b ∷ bytes) = at (test b) refl (run_passes test bytes)
         rw (n, is) h
     at false is h = refl
 
--- the first that passes, where it is among the first bytes, or isn't
+-- The first byte that passes is in the first part if that has one, else in the second part.
 pub first_in : (test : ℕ → Bool) (front behind : List ℕ) → position_or_len test front < length front
     → position_or_len test (front ++ behind) ≡ position_or_len test front
 first_in test [] behind lt = absurd (omega (arith, lt))

@@ -1,4 +1,4 @@
--- Runs of channels.
+-- Ranges of channels in a channel list, upwards or downwards.
 use Rattle.std.proofs.Common.{◌≡◌, ℕ, zero, suc, ◌+◌, ◌-◌, ◌<◌, ◌≤◌, ◌&&◌, Bool, true, false, List, [], ◌∷◌, ◌++◌, length, refl, sym, ap, ◌∙◌, inl, inr, arith}
 use Rattle.std.specs.Prelude.{reverse, nat_le, nat_lt, min, Option, Some, None, Result, Err, if◌then◌else◌}
 use Rattle.std.specs.List.{range_with_len}
@@ -12,30 +12,26 @@ use Rattle.sv_errors.specs.Limits.{is_channel, channel_count, longest_list}
 use Rattle.sv_value.specs.Channels.{Span as Ends, next, channel_range, span_of}
 use Rattle.sv_value.specs.Plain.{ends_up_to}
 
--- a run upwards begins with its first channel
 pub run_up : (first last : ℕ) → first < last → channel_range first last ≡ first ∷ channel_range (first + 1) last
 run_up first last lt =
     let size : last - first + 1 ≡ suc (last - (first + 1) + 1) = omega (arith, lt) in
     rw (le-leb first last (omega (arith, lt)), le-leb (first + 1) last (omega (arith, lt)), size) refl
 
--- one channel
 pub run_one : (channel : ℕ) → channel_range channel channel ≡ channel ∷ []
 run_one channel =
     let size : channel - channel + 1 ≡ 1 = omega arith in
     rw (le-leb channel channel (omega arith), size) refl
 
--- one more at the end of a range
 range_push : (first n : ℕ) → range_with_len first (suc n) ≡ range_with_len first n ++ (first + n) ∷ []
 range_push first zero = let e : first ≡ first + 0 = omega arith in ap (λ c. c ∷ []) e
 range_push first (suc n) =
     let e : first + 1 + n ≡ first + suc n = omega arith in
     ap (λ cs. first ∷ cs) (range_push (first + 1) n ∙ ap (λ c. range_with_len (first + 1) n ++ c ∷ []) e)
 
--- a run that doesn't go upwards
 run_back : (first last : ℕ) → last < first → channel_range first last ≡ reverse (range_with_len last (first - last + 1))
 run_back first last lt = rw (lt-leb first last lt) refl
 
--- one that is left, in the same words
+-- The rest of a downward range after its first channel.
 run_rest : (first last : ℕ) → last < first → channel_range (first - 1) last ≡ reverse (range_with_len last (first - last))
 run_rest first last lt =
     elim (cases_lt last (first - 1)) [
@@ -48,7 +44,7 @@ run_rest first last lt =
           rw (one, size) (run_one last)
     ]
 
--- a run downwards begins with its first channel too
+-- A downward range begins with its first channel.
 pub run_down : (first last : ℕ) → last < first → channel_range first last ≡ first ∷ channel_range (first - 1) last
 run_down first last lt =
     let size : first - last + 1 ≡ suc (first - last) = omega (arith, lt) in
@@ -74,7 +70,7 @@ length_run first last =
           rw (le-leb first last ge) up
     ]
 
--- what is pushed of a run
+-- Pushing the first channel of a range leaves the others to push.
 pub push_up : (before items list : List ℕ) (first last channel : ℕ) → channel < last → list ≡ items ++ channel ∷ []
     → items ++ channel_range channel last ≡ before ++ channel_range first last
     → list ++ channel_range (channel + 1) last ≡ before ++ channel_range first last
@@ -86,19 +82,19 @@ pub push_down : (before items list : List ℕ) (first last channel : ℕ) → la
 push_down before items list first last channel lt e h =
     rw e (simp append_assoc (ap (λ cs. items ++ cs) (sym (run_down channel last lt)) ∙ h))
 
--- a whole run behind others
+-- A list with a range after it is longer by the length of the range.
 pub run_fits : (before : List ℕ) (first last : ℕ)
     → length (before ++ channel_range first last) ≡ length before + (first - last) + (last - first) + 1
 run_fits before first last = let run_size = length_run first last in length-append before (channel_range first last)
     ∙ omega (arith, run_size)
 
--- ends that were counted to the bound are ends
+-- An item whose ends were read up to the cap is an item with these ends, up to the cap.
 capped_some : (o : Option Ends) (span : Span) → ends_up_to o ≡ Some span
     → (e : Ends) × (o ≡ Some e) × (min e.first 1000000000000000000 ≡ span.first) × (min e.last 1000000000000000000 ≡ span.last)
 capped_some None span h = absurd cc
 capped_some (Some e) span h = (e, refl, cc, cc)
 
--- a channel's number is far from the bound
+-- The numbers of channels are below the cap, so a channel's number was read exactly.
 channel_same : (n m : ℕ) → min n 1000000000000000000 ≡ m → is_channel m ≡ true → n ≡ m
 channel_same n m e c =
     let most = leb-true m channel_count (second (nat_le 1 m) (nat_le m channel_count) c) in
@@ -108,7 +104,7 @@ channel_same n m e c =
     second true b h = h
     second false b h = absurd cc
 
--- an item's channels behind others, or the error where there is no room for them
+-- A range is added to the channels before it, or is refused if the list becomes too long.
 pub add_is : (o : Option Ends) (span : Span) (before : List ℕ) (full : Bool) → ends_up_to o ≡ Some span → is_channel span.first ≡ true
     → is_channel span.last ≡ true → nat_lt longest_list (length before + abs_diff span.first span.last + 1) ≡ full
     → (others : List ℕ → Result (List ℕ) Code)
@@ -121,7 +117,7 @@ add_is o span before full h first last room others =
     run_fits before span.first span.last ∙ omega arith in
     rw (some.1, f, l, first, last, size, room) refl
 
--- an item of three parts or more is none
+-- An item has at most two parts.
 pub span_more : (a b : List ℕ) (others : List (List ℕ)) → 1 ≤ length others → span_of (a ∷ b ∷ others) ≡ None
 span_more a b [] some = absurd (omega (arith, some))
 span_more a b (c ∷ others) some = refl

@@ -1,4 +1,4 @@
--- A decimal number is read as it is spelled.
+-- A text is read as the parts of a decimal number exactly if it spells a number with these parts.
 use Rattle.std.proofs.Common.{◌≡◌, ◌≢◌, ℕ, ◌==◌, ◌&&◌, ◌||◌, Bool, true, false, not, cond, List, [], ◌∷◌, ◌++◌, refl, sym, ap, subst, ◌∙◌, ◌⊎◌, inl, inr, arith}
 use Rattle.sv_text.specs.Front.{is_empty, has_minus}
 use Rattle.std.specs.List.{list_all}
@@ -11,7 +11,7 @@ use Rattle.sv_value.specs.Decimal.{Parts, number_parts, is_spelled, begins_well,
 use Rattle.sv_value.specs.Spelling.{AreDigits, IsSpace, IsSign, IsFraction, IsExponent, NoExponent, IsSuffix, IsTail, Spells, ReadAsSpelled}
 use Rattle.sv_value.proofs.Pieces.{begins, is_sign, is_point, digits_joined, behind_joined, digits_none, behind_none, trim_joined, trim_none, digits_apart, digits_all, trim_apart, sign_joined, sign_apart, fraction_joined, fraction_apart}
 
--- what letters, digits and white space are not
+-- Letters, digits and white space are distinct from each other, from signs and from the point.
 letter_plain : (b : ℕ) → is_ascii_alphabetic b ≡ true → (is_white b ≡ false) × (is_ascii_digit b ≡ false) × (is_point b ≡ false)
 letter_plain b h = (grind (arith, nat_tests, h), grind (arith, nat_tests, h), grind (arith, nat_tests, h))
 
@@ -21,7 +21,6 @@ digit_plain b h = (grind (arith, nat_tests, h), grind (arith, nat_tests, h))
 white_plain : (b : ℕ) → is_white b ≡ true → (is_ascii_digit b ≡ false) × (is_point b ≡ false)
 white_plain b h = (grind (arith, nat_tests, h), grind (arith, nat_tests, h))
 
--- digits, of which there are some, begin with a digit
 some_digits : (digits text : List ℕ) → AreDigits digits → digits ≢ []
     → (begins is_white (digits ++ text) ≡ false) × (begins is_sign (digits ++ text) ≡ false)
 some_digits [] text all some = absurd (some refl)
@@ -31,17 +30,16 @@ some_digits (b ∷ digits) text all some = at (is_ascii_digit b) refl all
     at true is all = digit_plain b is
     at false is all = absurd cc
 
--- a sign in front of these is no white space either
 sign_plain : (sign text : List ℕ) (minus : Bool) → IsSign sign minus → begins is_white text ≡ false → begins is_white (sign ++ text) ≡ false
 sign_plain sign text minus (inl s) h = rw s.0 h
 sign_plain sign text minus (inr (inl s)) h = rw s.0 refl
 sign_plain sign text minus (inr (inr s)) h = rw s.0 refl
 
--- neither a digit nor a point begins it
+-- The text begins with neither a digit nor a point.
 abbrev IsPlain : List ℕ → Type 0
 IsPlain text = (begins is_ascii_digit text ≡ false) × (begins is_point text ≡ false)
 
--- white space in front of plain text
+-- White space before such a text doesn't change this.
 space_plain : (space text : List ℕ) → IsSpace space → IsPlain text → IsPlain (space ++ text)
 space_plain [] text all h = h
 space_plain (b ∷ space) text all h = at (is_white b) refl all
@@ -54,7 +52,7 @@ suffix_plain : (suffix : List ℕ) → begins_well suffix ≡ true → IsPlain s
 suffix_plain [] h = ((refl, refl), refl)
 suffix_plain (b ∷ suffix) h = let p = letter_plain b h in ((p.1, p.2), p.0)
 
--- a suffix is what stands behind the white space
+-- The suffix is the text after the white space.
 suffix_read : (text suffix : List ℕ) → IsSuffix text suffix → (trim_start text ≡ suffix) × IsPlain text
 suffix_read text suffix s =
     let p = suffix_plain suffix s.3 in
@@ -63,7 +61,7 @@ suffix_read text suffix s =
 suffix_spelled : (text : List ℕ) → begins_well (trim_start text) ≡ true → IsSuffix text (trim_start text)
 suffix_spelled text h = let a = trim_apart text in (a.0, a.1, a.2, h)
 
--- behind the white space and the letter of an exponent
+-- White space around an exponent's letter is skipped.
 mark_joined : (before behind text : List ℕ) (letter : ℕ) → IsSpace before → (letter ≡ 69) ⊎ (letter ≡ 101) → IsSpace behind
     → begins is_white text ≡ false
     → behind_mark (before ++ letter ∷ (behind ++ text)) ≡ text
@@ -72,14 +70,13 @@ mark_joined before behind text letter b (inl l) h plain =
 mark_joined before behind text letter b (inr l) h plain =
     rw l (ap behind_letter (trim_joined before (101 ∷ (behind ++ text)) b) ∙ trim_joined behind text h ∙ trim_none text plain)
 
--- the pieces of an exponent in front of text
 joined : (before behind sign digits text : List ℕ) (letter : ℕ)
     → (before ++ letter ∷ (behind ++ (sign ++ digits))) ++ text ≡ before ++ letter ∷ (behind ++ (sign ++ (digits ++ text)))
 joined before behind sign digits text letter =
     append_assoc before (letter ∷ (behind ++ (sign ++ digits))) text
     ∙ ap (λ xs. before ++ letter ∷ xs) (append_assoc behind (sign ++ digits) text ∙ ap (λ xs. behind ++ xs) (append_assoc sign digits text))
 
--- an exponent in front of text
+-- An exponent is read from text that begins with it.
 exponent_joined : (piece digits text : List ℕ) (minus : Bool) → IsExponent piece minus digits
     → (exponent_in (piece ++ text) ≡ digits ++ digits_in text) × (has_minus (behind_mark (piece ++ text)) ≡ minus)
     × (behind_digits (behind_sign (behind_mark (piece ++ text))) ≡ behind_digits text)
@@ -96,7 +93,7 @@ exponent_joined piece digits text minus e =
       ap (λ xs. behind_digits (behind_sign xs)) mark ∙ ap behind_digits signed.1 ∙ behind_joined digits text e.9,
     )
 
--- the letter of an exponent that has digits, and the white space behind it
+-- An E begins the exponent, and white space may follow it.
 marked : (text : List ℕ) → is_empty (digits_in (behind_sign (behind_letter text))) ≡ false
     → (letter : ℕ) × (space : List ℕ) × (text ≡ letter ∷ (space ++ behind_letter text)) × ((letter ≡ 69) ⊎ (letter ≡ 101)) × IsSpace space
 marked [] h = absurd cc
@@ -110,7 +107,7 @@ marked (b ∷ text) h = at (b == 69) (b == 101) refl refl h (trim_apart text)
     at false true p q h a = (b, a.0, ap (λ xs. b ∷ xs) a.1, inr (eqb-true b 101 q), a.2)
     at false false p q h a = absurd cc
 
--- text is an exponent, where there is one, and what stands behind it
+-- A text with an exponent consists of the exponent and the rest.
 exponent_apart : (text : List ℕ) → is_empty (exponent_in text) ≡ false
     → (piece : List ℕ) × (text ≡ piece ++ behind_exponent text) × IsExponent piece (is_down text) (exponent_in text)
 exponent_apart text some =
@@ -127,7 +124,6 @@ exponent_apart text some =
       (a.0, m.1, s.0, m.0, refl, a.2, m.3, m.4, rw some s.2, digits_all (behind_sign (behind_mark text)), there),
     )
 
--- a list of which some is there, and one that is empty
 some_there : (xs : List ℕ) → xs ≢ [] → is_empty xs ≡ false
 some_there [] h = absurd (h refl)
 some_there (x ∷ xs) h = refl
@@ -136,12 +132,12 @@ none_there : (xs : List ℕ) → is_empty xs ≡ true → xs ≡ []
 none_there [] h = refl
 none_there (x ∷ xs) h = absurd cc
 
--- what is read behind the mantissa
+-- The exponent and the suffix that are read after the mantissa are those of the number.
 abbrev IsRead : List ℕ → Parts → Type 0
 IsRead tail number = (is_down tail ≡ number.down) × (exponent_in tail ≡ number.exponent)
     × (trim_start (behind_exponent tail) ≡ number.suffix) × (begins_well number.suffix ≡ true) × IsPlain tail
 
--- the first byte of an exponent
+-- An exponent begins with neither a digit nor a point.
 exponent_plain : (piece digits text : List ℕ) (minus : Bool) → IsExponent piece minus digits → IsPlain (piece ++ text)
 exponent_plain piece digits text minus e =
     rw (e.4, joined e.0 e.1 e.2 digits text e.3) (space_plain e.0 (e.3 ∷ (e.1 ++ (e.2 ++ (digits ++ text)))) e.5 (letter e.6))
@@ -175,7 +171,7 @@ front_empty : (front behind : List ℕ) → front ≢ [] → front ++ behind ≡
 front_empty [] behind some e = some refl
 front_empty (b ∷ front) behind some e = absurd cc
 
--- what is read behind the mantissa is spelled there
+-- The exponent and the suffix that are read after the mantissa are spelled there.
 tail_spelled : (tail : List ℕ) (number : Parts) → is_down tail ≡ number.down → exponent_in tail ≡ number.exponent
     → trim_start (behind_exponent tail) ≡ number.suffix → begins_well number.suffix ≡ true
     → IsTail tail number
@@ -193,7 +189,7 @@ tail_spelled tail number d x s w = at (is_empty (exponent_in tail)) refl
         (sym (exponent_joined exponent digits behind minus isE).0 ∙ ap exponent_in (sym e) ∙ none_there (exponent_in tail) is) in
         inr (none, sym d ∙ rw is refl, sym x ∙ none_there (exponent_in tail) is, rw (← all) (suffix_spelled tail (ap begins_well all ∙ w)))
 
--- no second sign begins what stands behind the sign
+-- No second sign follows the sign.
 mantissa_plain : (whole fraction digits tail : List ℕ) → AreDigits whole → IsFraction fraction digits → (whole ≢ []) ⊎ (digits ≢ [])
     → begins is_sign (whole ++ (fraction ++ tail)) ≡ false
 mantissa_plain (b ∷ whole) fraction digits tail w f some = (some_digits (b ∷ whole) (fraction ++ tail) w (λ e. absurd cc)).1
@@ -201,13 +197,13 @@ mantissa_plain [] fraction digits tail w f (inl some) = absurd (some refl)
 mantissa_plain [] fraction digits tail w (inl f) (inr some) = absurd (some f.1)
 mantissa_plain [] fraction digits tail w (inr f) (inr some) = rw f.0 refl
 
--- nor a digit what stands behind the digits
+-- No digit follows the digits.
 fraction_plain : (fraction digits tail : List ℕ) → IsFraction fraction digits → begins is_ascii_digit tail ≡ false
     → begins is_ascii_digit (fraction ++ tail) ≡ false
 fraction_plain fraction digits tail (inl f) h = rw f.0 h
 fraction_plain fraction digits tail (inr f) h = rw f.0 refl
 
--- whether digits are there
+-- The mantissa has a digit before or after the point.
 digits_there : (whole fraction : List ℕ) → (whole ≢ []) ⊎ (fraction ≢ []) → not (is_empty whole && is_empty fraction) ≡ true
 digits_there (b ∷ whole) fraction some = refl
 digits_there [] (b ∷ fraction) some = refl
@@ -219,14 +215,13 @@ there_digits (b ∷ whole) fraction h = inl (λ e. absurd cc)
 there_digits [] (b ∷ fraction) h = inr (λ e. absurd cc)
 there_digits [] [] h = absurd cc
 
--- the parts of a number, one by one
 same_parts : (number : Parts) (negative down : Bool) (whole fraction exponent suffix : List ℕ) → negative ≡ number.negative
     → whole ≡ number.whole → fraction ≡ number.fraction → down ≡ number.down
     → exponent ≡ number.exponent → suffix ≡ number.suffix
     → record { negative = negative; whole = whole; fraction = fraction; down = down; exponent = exponent; suffix = suffix } ≡ number
 same_parts number negative down whole fraction exponent suffix n w f d x s = rw (n, w, f, d, x, s) refl
 
--- what is spelled is read
+-- A text that spells a number is read as this number.
 spelled_read : (text : List ℕ) (number : Parts) → Spells text number → (is_spelled (number_parts text) ≡ true)
     × (number_parts text ≡ number)
 spelled_read text number s =
@@ -249,7 +244,7 @@ spelled_read text number s =
     let found : is_spelled number ≡ true = rw (digits_there number.whole number.fraction some) t.3 in
     (subst (λ n. is_spelled n ≡ true) (sym same) found, same)
 
--- what is read is spelled
+-- A text that is read as a number spells it.
 read_spelled : (text : List ℕ) → is_spelled (number_parts text) ≡ true → Spells text (number_parts text)
 read_spelled text h =
     let b = and_parts _ _ h in

@@ -1,4 +1,4 @@
--- What is read as the arguments of a call is what the bytes are as such.
+-- The function that reads a call's arguments returns exactly what the definition says of the bytes.
 use Rattle.std.proofs.Common.{◌≡◌, ℕ, ℤ, ◌++◌, Bool, true, false, ◌||◌, ◌==◌, List, [], ◌∷◌, Result, Ok, Err, refl, sym, ap, ◌∙◌, subst, eqb-true}
 use Rattle.std.specs.List.{AllByRecursion}
 use Rattle.sv_xdr.specs.declared.garbage.Garbage.{Garbage}
@@ -11,12 +11,11 @@ use Rattle.sv_vxi.specs.Limits.{max_handle}
 use Rattle.sv_vxi.specs.Reading.{Kind, signed, unsigned, boolean, opaque, any, Makes, read, read_on_link, arguments_at}
 use Rattle.sv_vxi.proofs.Spelled.{Values, fields, make, Bounded, text_bound, read_begins, read_takes, on_link_begins, on_link_takes}
 
--- a value, and those behind it
 infixr 10 ◌&◌
 abbrev ◌&◌ : {A B : Type 0} → A → B → A × B
 a & b = (a, b)
 
--- the fields of the calls, of those on a link behind the link
+-- The kinds of the fields of each call; for calls on a link, without the link.
 abbrev generic : List Kind
 generic = unsigned ∷ unsigned ∷ unsigned ∷ []
 
@@ -47,7 +46,7 @@ generic_begins : (call : GenericCall) (lid : ℤ) (flags lock_timeout io_timeout
 generic_begins call lid flags lock_timeout io_timeout bytes after h =
     on_link_begins generic (Generic call) lid (flags & lock_timeout & io_timeout & tt) bytes after tt h
 
--- arguments that are spelled are read
+-- Encoded arguments are read.
 pub arguments_begin : (a : Arguments) (bytes after : List ℕ) → BeginsWith bytes a after → arguments_at (procedure_of a) bytes ≡ Ok a
 arguments_begin (OnLink lid DeviceAbort) bytes after (bounds, h) = on_link_begins [] DeviceAbort lid tt bytes after tt h
 arguments_begin (CreateLink client_id lock_device lock_timeout device) bytes after (bounds, h) =
@@ -79,11 +78,11 @@ arguments_begin (CreateIntrChan host_addr host_port prog_num prog_vers prog_fami
     read_begins create_intr_chan CreateIntrChan (host_addr & host_port & prog_num & prog_vers & prog_family & tt) bytes after tt h
 arguments_begin DestroyIntrChan bytes after h = refl
 
--- what the bytes are as arguments is read
+-- What the bytes are as arguments is what is read from them.
 pub arguments_read : (proc : ℕ) (bytes : List ℕ) (a : Arguments) → ArgumentsAre proc bytes (Ok a) → arguments_at proc bytes ≡ Ok a
 arguments_read proc bytes a h = ap (λ (n : ℕ). arguments_at n bytes) (sym h.0) ∙ arguments_begin a bytes h.1 h.2
 
--- two outcomes of one call's bytes are one
+-- The same bytes have only one meaning as a call's arguments.
 pub one_arguments : (proc : ℕ) (bytes : List ℕ) (a b : Result Arguments Garbage) → ArgumentsAre proc bytes a → ArgumentsAre proc bytes b
     → a ≡ b
 one_arguments proc bytes (Ok a) (Ok b) h k = sym (arguments_read proc bytes a h) ∙ arguments_read proc bytes b k
@@ -91,11 +90,11 @@ one_arguments proc bytes (Ok a) (Err garbage) h k = absurd (k a h.1 h.0 h.2)
 one_arguments proc bytes (Err garbage) (Ok b) h k = absurd (h b k.1 k.0 k.2)
 one_arguments proc bytes (Err garbage) (Err other) h k = refl
 
--- The arguments of this call that are read so are spelled.
+-- Arguments of this call that are read are encoded there.
 abbrev Takes : ℕ → (List ℕ → Result Arguments Garbage) → Type 0
 Takes proc at = (bytes : List ℕ) (a : Arguments) → IsBytes bytes → at bytes ≡ Ok a → ArgumentsAre proc bytes (Ok a)
 
--- What is made of these fields are arguments of this call, and spelled by them.
+-- The fields of these kinds make arguments of this call, and encode them.
 abbrev Spells : ℕ → (kinds : List Kind) → Makes kinds Arguments → Type 0
 Spells proc kinds makes = (values : Values kinds) → Bounded kinds values → (procedure_of (make kinds makes values) ≡ proc)
     × InBounds (make kinds makes values) × (argument_fields (make kinds makes values) ≡ fields kinds values)
@@ -107,7 +106,7 @@ takes proc kinds makes spells bytes a fits e =
     subst (λ (b : Arguments). ArgumentsAre proc bytes (Ok b)) (sym r.1)
     (s.0, r.3, (s.1, rw s.2 r.4))
 
--- likewise behind a link
+-- The same for a call on a link.
 abbrev SpellsCall : ℕ → (kinds : List Kind) → Makes kinds LinkCall → Type 0
 SpellsCall proc kinds makes = (lid : ℤ) (values : Values kinds) → Bounded kinds values
     → (procedure_of (OnLink lid (make kinds makes values)) ≡ proc) × InBounds (OnLink lid (make kinds makes values))
@@ -125,13 +124,13 @@ either : {P : Type 0} (b c : Bool) → (b || c) ≡ true → (b ≡ true → P) 
 either true c e f g = f refl
 either false c e f g = g e
 
--- what holds of each call holds of one of them
+-- A property of all calls is one of each of them.
 of_each : (P : ℕ → Type 0) (calls : List ℕ) (proc : ℕ) → AllByRecursion P calls → is_one_of calls proc ≡ true → P proc
 of_each P [] proc all one = absurd cc
 of_each P (call ∷ calls) proc all one = either (proc == call) (is_one_of calls proc) one
     (λ same. subst P (sym (eqb-true proc call same)) all.0) (λ rest. of_each P calls proc all.1 rest)
 
--- Each call, in the order of their numbers, and then device_abort.
+-- All calls of the core channel, in the order of their numbers, and then device_abort.
 each_takes : AllByRecursion (λ proc. Takes proc (arguments_at proc)) (core_calls ++ abort_calls)
 each_takes =
     takes 10 create_link CreateLink (λ _ _. (refl, tt, refl))
@@ -152,7 +151,7 @@ each_takes =
     & call_takes 1 [] DeviceAbort (λ _ _ _. (refl, tt, refl))
     & tt
 
--- an outcome is what the bytes are, if what is read is spelled
+-- If arguments that are read are encoded there, any result of reading is right.
 outcome_is : (proc : ℕ) (bytes : List ℕ) (r : Result Arguments Garbage) → ((a : Arguments) → r ≡ Ok a → ArgumentsAre proc bytes (Ok a))
     → arguments_at proc bytes ≡ r → ArgumentsAre proc bytes r
 outcome_is proc bytes (Ok a) reads e = reads a refl

@@ -1,4 +1,4 @@
--- No arguments and no result begin others.
+-- No encoding of a call's arguments or of a result is a proper prefix of another one.
 use Rattle.std.proofs.Common.{◌≡◌, ℕ, List, Result, Ok, [], ◌∷◌, sym, ap, subst, ◌∙◌}
 use Rattle.sv_xdr.specs.declared.garbage.Garbage.{Garbage}
 use Rattle.sv_xdr.specs.Spelling.{Field, Unsigned, BeginsAll}

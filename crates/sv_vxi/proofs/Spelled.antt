@@ -1,4 +1,4 @@
--- Arguments that are spelled are read, and what is read is spelled so.
+-- Fields are read from bytes exactly if the bytes begin with their encoding.
 use Rattle.std.proofs.Common.{◌≡◌, ◌≤◌, ℕ, ℤ, Bool, List, [], ◌∷◌, length, Result, Ok, Err, refl, ap, ◌∙◌, arith}
 use Rattle.std.specs.Bool.{⊤}
 use Rattle.sv_xdr.specs.declared.fault.XdrFault.{XdrFault}
@@ -11,7 +11,7 @@ use Rattle.std.specs.Result.{result_map_both}
 use Rattle.sv_vxi.specs.Arguments.{LinkCall, Arguments, OnLink}
 use Rattle.sv_vxi.specs.Reading.{Kind, signed, unsigned, boolean, opaque, Makes, read, read_on_link}
 
--- the values of these fields, how they are spelled, and what is made of them
+-- The values of fields of these kinds, their encoding, and what is made of them.
 abbrev pub Values : List Kind → Type 0
 Values [] = ⊤
 Values (signed ∷ kinds) = ℤ × Values kinds
@@ -33,7 +33,7 @@ make (unsigned ∷ kinds) makes values = make kinds (makes values.0) values.1
 make (boolean ∷ kinds) makes values = make kinds (makes values.0) values.1
 make (opaque most ∷ kinds) makes values = make kinds (makes values.0) values.1
 
--- No opaque data are longer than they may be.
+-- No opaque data exceed their maximum.
 abbrev pub Bounded : (kinds : List Kind) → Values kinds → Type 0
 Bounded [] values = ⊤
 Bounded (signed ∷ kinds) values = Bounded kinds values.1
@@ -41,11 +41,10 @@ Bounded (unsigned ∷ kinds) values = Bounded kinds values.1
 Bounded (boolean ∷ kinds) values = Bounded kinds values.1
 Bounded (opaque most ∷ kinds) values = (length values.0 ≤ most) × Bounded kinds values.1
 
--- opaque data that are spelled are no longer than a length can tell
 pub text_bound : {bytes after : List ℕ} (text : List ℕ) → Begins bytes (Opaque text) after → length text ≤ 4294967295
 text_bound {bytes} {after} text b = omega (arith, word_fits b.1.0 (length text) b.1.2)
 
--- fields that are spelled are read
+-- Encoded fields are read.
 pub read_begins : {A : Type 0} (kinds : List Kind) (makes : Makes kinds A) (values : Values kinds) (bytes after : List ℕ)
     → Bounded kinds values → BeginsAll bytes (fields kinds values) after → read kinds makes bytes ≡ Ok (make kinds makes values)
 read_begins [] makes values bytes after bounds h = refl
@@ -58,13 +57,12 @@ read_begins (boolean ∷ kinds) makes values bytes after bounds h =
 read_begins (opaque most ∷ kinds) makes values bytes after bounds h =
     rw (opaque_again most _ _ _ h.1 bounds.0) (read_begins kinds (makes values.0) values.1 h.0 after bounds.1 h.2)
 
--- the value of a step that did not fail
 bind_ok : {A B : Type 0} (r : Result A XdrFault) (f : A → Result B Garbage) (b : B) → (r >>= f) ≡ Ok b
     → (x : A) × (r ≡ Ok x) × (f x ≡ Ok b)
 bind_ok (Ok x) f b e = (x, refl, e)
 bind_ok (Err fault) f b e = absurd cc
 
--- Fields that are read are spelled.
+-- The value is made of fields whose encoding the bytes begin with.
 abbrev Read : {A : Type 0} → (kinds : List Kind) → Makes kinds A → List ℕ → A → Type 0
 Read kinds makes bytes a = (values : Values kinds) × (a ≡ make kinds makes values) × Bounded kinds values × (after : List ℕ)
     × BeginsAll bytes (fields kinds values) after
@@ -93,7 +91,7 @@ read_takes (opaque most ∷ kinds) makes bytes a fits e =
     let r = read_takes kinds (makes s.0.0) s.0.1 a (bytes_after (Opaque s.0.0) bytes s.0.1 fits b.0) s.2 in
     ((s.0.0, r.0), r.1, (b.1, r.2), r.3, (s.0.1, b.0, r.4))
 
--- ---- behind a link
+-- ---- calls on a link
 
 pub on_link_begins : (kinds : List Kind) (makes : Makes kinds LinkCall) (lid : ℤ) (values : Values kinds) (bytes after : List ℕ)
     → Bounded kinds values → BeginsAll bytes (Signed lid ∷ fields kinds values) after
@@ -101,7 +99,6 @@ pub on_link_begins : (kinds : List Kind) (makes : Makes kinds LinkCall) (lid : �
 on_link_begins kinds makes lid values bytes after bounds h =
     rw (signed_begins _ _ _ h.1, read_begins kinds makes values h.0 after bounds h.2) refl
 
--- what was made of a value
 map_ok : (lid : ℤ) (r : Result LinkCall Garbage) (a : Arguments) → result_map_both (OnLink lid) (λ garbage. garbage) r ≡ Ok a
     → (call : LinkCall) × (r ≡ Ok call) × (a ≡ OnLink lid call)
 map_ok lid (Ok call) a e = (call, refl, cc)

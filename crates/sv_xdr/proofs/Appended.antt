@@ -1,4 +1,4 @@
--- Two writes one after the other append their bytes one after the other.
+-- Two writes append their bytes in this order.
 use Rattle.std.proofs.Common.{◌≡◌, ℕ, ◌+◌, List, [], ◌∷◌, ◌++◌, length, take, refl, sym, ap, ◌∙◌, append_assoc, arith, Result, Ok, Err}
 use Rattle.std.proofs.lemmas.List.{take_at, length-append, length-take, append-nil}
 use Rattle.std.specs.List.{concat}
@@ -9,7 +9,6 @@ use Rattle.sv_xdr.specs.Spelling.{Opaque, spelling, pad_len}
 use Rattle.sv_xdr.specs.Writer.{text_of, rest_of, Appends, Writes, WritesEach}
 use Rattle.sv_xdr.proofs.Spelled.{take_zeros}
 
--- two writes are one of both
 pub appends_then : (a b : List ℕ) (old mid new : Writer) → Appends a old mid → Appends b mid new → Appends (a ++ b) old new
 appends_then a b old mid new first second =
     let front = take (length a) (rest_of old) in
@@ -29,7 +28,7 @@ appends_then a b old mid new first second =
       fits = omega (arith, length-append a b, second.fits);
     }
 
--- a length, data and their pad are opaque data
+-- A length, data and padding are an encoding of opaque data.
 pub opaque_appended : (size text : List ℕ) (n : ℕ) (old one two new : Writer) → size ≡ to_be_bytes w32 (length text)
     → n ≡ pad_len (length text)
     → Appends size old one → Appends text one two → Appends (take n (0 ∷ 0 ∷ 0 ∷ [])) two new → Appends (spelling (Opaque text)) old new
@@ -39,7 +38,7 @@ opaque_appended size text n old one two new size_is n_is first second third =
     let all = appends_then size _ old one new first both in
     rw (size_is, pad_is) at all
 
--- a piece that has no room ends the pieces
+-- If a piece has no room, the writing stops there.
 pub each_ends : (piece : List ℕ) (pieces : List (List ℕ)) (fault : XdrFault) (r : Result Unit XdrFault) (old new : Writer) → r ≡ Err fault
     → Writes piece (Err fault) old new
     → WritesEach (piece ∷ pieces) r old new
@@ -52,17 +51,16 @@ each_ends piece pieces fault r old new e h =
     } in
     rw e (h.0, [], pieces, piece, refl, nothing, omega (arith, ap length h.2.rest))
 
--- a piece that was written and the pieces behind it
+-- After a piece that was written, the other pieces follow.
 pub each_first : (piece : List ℕ) (pieces : List (List ℕ)) (r : Result Unit XdrFault) (old mid new : Writer) → Appends piece old mid
     → WritesEach pieces r mid new → WritesEach (piece ∷ pieces) r old new
 each_first piece pieces (Ok done) old mid new first h = appends_then piece (concat pieces) old mid new first h
 each_first piece pieces (Err fault) old mid new first h =
     (h.0, piece ∷ h.1, h.2, h.3, ap (λ (l : List (List ℕ)). piece ∷ l) h.4, appends_then piece (concat h.1) old mid new first h.5, h.6)
 
--- the last piece
 pub each_last : (piece : List ℕ) (r : Result Unit XdrFault) (old new : Writer) → Writes piece r old new → WritesEach (piece ∷ []) r old new
 each_last piece (Ok done) old new h = rw append-nil h
 each_last piece (Err fault) old new h = each_ends piece [] fault (Err fault) old new refl h
 
--- for the fields of a function that writes them one by one
+-- For functions that write their fields one by one.
 pub ruleset each_piece = (each_ends, each_first, each_last)

@@ -1,8 +1,8 @@
--- What a write into the middle of a buffer leaves in front of it and behind it.
+-- A write into a buffer leaves the bytes before and after it unchanged.
 use Rattle.std.proofs.Common.{◌≡◌, ℕ, ◌+◌, ◌≤◌, List, ◌++◌, length, take, drop, sym, ap, ◌∙◌, append_assoc, arith}
 use Rattle.std.proofs.lemmas.List.{take_at, drop_at, take-append-drop, length-append, length-take-le}
 
--- the buffer with these bytes at a place, where k of its own stood
+-- The buffer with `ys` at index `w`, in the place of `k` bytes.
 abbrev pub placed : ℕ → ℕ → List ℕ → List ℕ → List ℕ
 placed w k xs ys = take w xs ++ (ys ++ drop k (drop w xs))
 

@@ -1,4 +1,4 @@
--- Reading a field and its encoding agree, in both directions.
+-- A field is read from bytes exactly if the bytes begin with its encoding.
 use Rattle.std.proofs.Common.{◌≡◌, ℕ, ◌+◌, ◌%◌, ◌<◌, ◌≤◌, ◌^◌, Bool, true, false, cond, eqb, ltb, List, [], ◌∷◌, ◌++◌, length, take, drop, get_or, Result, Ok, Err, refl, sym, ap, subst, ◌∙◌, append_assoc, arith, inl, inr, rules, eq-eqb}
 use Rattle.std.specs.List.{AllByRecursion, list_all}
 use Rattle.std.proofs.lemmas.Int.{ints, of_z-to_z}
@@ -13,19 +13,17 @@ use Rattle.sv_xdr.specs.declared.fault.XdrFault.TheVariants.{Short, BadPad, BadB
 use Rattle.sv_xdr.specs.Spelling.{Field, Unsigned, Signed, Boolean, Opaque, IsWord, IsTwosComplement, IsPad, Begins, pad_len}
 use Rattle.sv_xdr.specs.Reader.{◌>>=◌, unsigned_at, signed_at, boolean_at, padded_at, opaque_at}
 
--- the value of a step that did not fail
+-- If the whole reading succeeds, so did its first step.
 pub bind_ok : {A B : Type 0} (r : Result A XdrFault) (f : A → Result B XdrFault) (y : B) → (r >>= f) ≡ Ok y
     → (x : A) × (r ≡ Ok x) × (f x ≡ Ok y)
 bind_ok (Ok x) f y e = (x, refl, e)
 bind_ok (Err fault) f y e = absurd cc
 
--- a test that did not fail
 pub guard_ok : {A : Type 0} (b : Bool) (fault : XdrFault) (r : Result A XdrFault) (y : A) → cond b (Err fault) r ≡ Ok y
     → (b ≡ false) × (r ≡ Ok y)
 guard_ok true fault r y e = absurd cc
 guard_ok false fault r y e = (refl, e)
 
--- a test that had to hold
 pub guard_true : {A : Type 0} (b : Bool) (fault : XdrFault) (r : Result A XdrFault) (y : A) → cond b r (Err fault) ≡ Ok y
     → (b ≡ true) × (r ≡ Ok y)
 guard_true true fault r y e = (refl, e)
@@ -37,7 +35,7 @@ pad_is_short n = omega arith
 pad_fills : (n : ℕ) → (n + pad_len n) % 4 ≡ 0
 pad_fills n = omega arith
 
--- there is one length of the pad
+-- There is only one length for the padding.
 pub pad_len_unique : (n k : ℕ) → k < 4 → (n + k) % 4 ≡ 0 → k ≡ pad_len n
 pad_len_unique n k short fills = omega arith
 
@@ -54,7 +52,7 @@ all_zeros (b ∷ bytes) h = and_from (eqb b 0) (list_all (λ byte. eqb byte 0) b
 ok_pair : {A : Type 0} (x y : A) → (let r : Result A XdrFault = Ok x in r) ≡ Ok y → x ≡ y
 ok_pair x y e = cc
 
--- data that are read are spelled so
+-- Data that are read with their padding are encoded there.
 pub padded_takes : (n : ℕ) (bytes text after : List ℕ) → padded_at n bytes ≡ Ok (text, after)
     → (pad : List ℕ) × IsPad n pad × (length text ≡ n) × (bytes ≡ text ++ (pad ++ after))
 unfolding padded_at
@@ -78,7 +76,7 @@ padded_takes n bytes text after e =
       parts ∙ ap (λ (x : List ℕ). x ++ (pad ++ drop (n + pad_len n) bytes)) text_is ∙ ap (λ (x : List ℕ). text ++ (pad ++ x)) after_is,
     )
 
--- data that are spelled are read
+-- Encoded data with their padding are read.
 pub padded_again : (text pad after : List ℕ) → IsPad (length text) pad → padded_at (length text) (text ++ (pad ++ after)) ≡ Ok (text, after)
 unfolding padded_at
 padded_again text pad after h =
@@ -107,7 +105,7 @@ unsigned_again (a ∷ b ∷ c ∷ d ∷ []) after n h =
     rw (le-ltb (length (a ∷ b ∷ c ∷ d ∷ after)) 4 long) (ap (λ (k : ℕ). let r : Result (ℕ × List ℕ) XdrFault = Ok (k, after) in r) value)
 unsigned_again _ after n h = absurd h
 
--- opaque data that are spelled are read
+-- The encoding of opaque data is read as these data.
 pub opaque_again : (max : ℕ) (bytes text after : List ℕ) → Begins bytes (Opaque text) after → length text ≤ max
     → opaque_at max bytes ≡ Ok (text, after)
 unfolding opaque_at
@@ -119,7 +117,7 @@ opaque_again max bytes text after b le =
     ap unsigned_at regrouped ∙ unsigned_again size (text ++ (pad ++ after)) (length text) b.1.2 in
     rw (first, le-ltb max (length text) le) (padded_again text pad after b.1.3)
 
--- opaque data that are read are spelled so
+-- Opaque data that are read are encoded there.
 pub opaque_takes : (bytes size rest text after : List ℕ) (n max : ℕ) → bytes ≡ size ++ rest → IsWord size n → n ≤ max
     → padded_at n rest ≡ Ok (text, after)
     → Begins bytes (Opaque text) after × (length text ≤ max)
@@ -129,7 +127,7 @@ opaque_takes bytes size rest text after n max front word le e =
     let parts : bytes ≡ (size ++ (text ++ pad)) ++ after = front ∙ ap (λ (x : List ℕ). size ++ x) t.3 ∙ simp append_assoc in
     ((size ++ (text ++ pad), (size, pad, rw t.2 word, rw t.2 t.1, refl), parts), rw t.2 le)
 
--- what stands behind the length decides, where the length is not above the maximum
+-- If the length isn't above the maximum, the bytes after it decide what is read.
 pub opaque_one : (max n : ℕ) (bytes rest text after : List ℕ) (r : Result (List ℕ × List ℕ) XdrFault) → unsigned_at bytes ≡ Ok (n, rest)
     → n ≤ max → padded_at n rest ≡ r
     → Begins bytes (Opaque text) after → length text ≤ max → r ≡ Ok (text, after)
@@ -138,32 +136,28 @@ opaque_one max n bytes rest text after r first le second b short =
     let reads : opaque_at max bytes ≡ padded_at n rest = rw (first, le-ltb max n le) refl in
     sym second ∙ sym reads ∙ opaque_again max bytes text after b short
 
--- the value and the rest that two readings give are the same
 pub pair_parts : {A B : Type 0} (x y : A) (v w : B) → (let r : Result (A × B) XdrFault = Ok (x, v) in r) ≡ Ok (y, w) → (x ≡ y) × (v ≡ w)
 pair_parts {A} {B} x y v w e = (ap (λ (p : A × B). p.0) (ok_pair (x, v) (y, w) e), ap (λ (p : A × B). p.1) (ok_pair (x, v) (y, w) e))
 
--- the elements are bytes
+-- All elements are bytes.
 abbrev pub IsBytes : List ℕ → Type 0
 IsBytes bytes = (i : ℕ) → get_or bytes i 0 < 256
 
--- bytes below 256, at each place
 pub bytes_are : (bytes : List ℕ) → All (λ byte. byte < 256) bytes → IsBytes bytes
 bytes_are bytes all i = elim (cases_lt i (length bytes)) [
   | inl within ↦ All-get_or (λ byte. byte < 256) bytes i 0 within all
   | inr beyond ↦ rw (get_or_past bytes i 0 beyond) (omega arith)
 ]
 
--- what comes after a field are bytes
+-- What follows a field's encoding are bytes.
 pub bytes_after : (field : Field) (bytes after : List ℕ) → IsBytes bytes → Begins bytes field after → IsBytes after
 bytes_after field bytes after fits b = λ i.
     let e = ap (λ (l : List ℕ). get_or l (length b.0 + i) 0) b.2 ∙ get_or-append-add b.0 after i 0 in
     omega (arith, fits (length b.0 + i), e)
 
--- an unsigned integer that is spelled is read
 pub unsigned_begins : (bytes after : List ℕ) (n : ℕ) → Begins bytes (Unsigned n) after → unsigned_at bytes ≡ Ok (n, after)
 unsigned_begins bytes after n b = ap unsigned_at b.2 ∙ unsigned_again b.0 after n b.1
 
--- an unsigned integer that is read is spelled so
 pub unsigned_takes : (bytes after : List ℕ) (n : ℕ) → IsBytes bytes → unsigned_at bytes ≡ Ok (n, after) → Begins bytes (Unsigned n) after
 unsigned_takes (a ∷ b ∷ c ∷ d ∷ rest) after n fits e =
     let long = guard_ok (ltb (length (a ∷ b ∷ c ∷ d ∷ rest)) 4) Short _ (n, after) e in
@@ -171,7 +165,7 @@ unsigned_takes (a ∷ b ∷ c ∷ d ∷ rest) after n fits e =
     (a ∷ b ∷ c ∷ d ∷ [], (fits 0, fits 1, fits 2, fits 3, omega (arith, parts.0)), ap (λ (l : List ℕ). a ∷ b ∷ c ∷ d ∷ l) parts.1)
 unsigned_takes _ after n fits e = absurd cc
 
--- opaque data that are read are spelled so, their length before them
+-- Opaque data that are read are encoded there, with their length.
 pub opaque_at_takes : (max : ℕ) (bytes text after : List ℕ) → IsBytes bytes → opaque_at max bytes ≡ Ok (text, after)
     → Begins bytes (Opaque text) after × (length text ≤ max)
 unfolding opaque_at
@@ -182,32 +176,29 @@ opaque_at_takes max bytes text after fits e =
     let short = guard_ok (ltb max n) TooLong _ (text, after) size.2 in
     opaque_takes bytes front.0 size.0.1 text after n max front.2 front.1 (ltb-false _ _ short.0) short.1
 
--- a word is below 2 ^ 32
 pub word_fits : (bytes : List ℕ) (n : ℕ) → IsWord bytes n → n < 2 ^ 32
 word_fits (a ∷ b ∷ c ∷ d ∷ []) n h = omega arith
 word_fits _ n h = absurd h
 
--- a signed integer is in two's complement in the word that it is cast to
+-- A signed integer is encoded as its two's complement.
 complement_of : (z : ℤ) → FitsSigned w32 z → IsTwosComplement (cast_unsigned w32 z) z
 complement_of (pos k) h = (omega (arith, h.sfits), refl)
 complement_of (negsuc k) h = (omega (arith, h.sfits), omega (arith, h.sfits))
 
--- a word stands for the signed integer that it is cast to
+-- Each 32-bit word is the two's complement of the signed integer to which it is cast.
 signed_of : (n : ℕ) → n < 2 ^ 32 → IsTwosComplement n (cast_signed w32 n)
 signed_of n h = subst (λ (m : ℕ). IsTwosComplement m (cast_signed w32 n)) (of_z-to_z w32 n h)
     (complement_of (cast_signed w32 n) (search rules))
 
--- and for no other
+-- A word is the two's complement of only one signed integer.
 signed_is : (n : ℕ) (z : ℤ) → IsTwosComplement n z → cast_signed w32 n ≡ z
 signed_is n (pos k) h = omega (arith, ints)
 signed_is n (negsuc k) h = grind (arith, ints)
 
--- a signed integer that is spelled is read
 pub signed_begins : (bytes after : List ℕ) (z : ℤ) → Begins bytes (Signed z) after → signed_at bytes ≡ Ok (z, after)
 unfolding signed_at
 signed_begins bytes after z b = rw (unsigned_begins bytes after b.1.0 (b.0, b.1.1, b.2), signed_is b.1.0 z b.1.2) refl
 
--- a signed integer that is read is spelled so
 pub signed_takes : (bytes after : List ℕ) (z : ℤ) → IsBytes bytes → signed_at bytes ≡ Ok (z, after) → Begins bytes (Signed z) after
 unfolding signed_at
 signed_takes bytes after z fits e =
@@ -217,20 +208,18 @@ signed_takes bytes after z fits e =
     let b = unsigned_takes bytes word.0.1 n fits word.1 in
     (b.0, (n, b.1, subst (IsTwosComplement n) parts.0 (signed_of n (word_fits b.0 n b.1))), b.2 ∙ ap (λ (l : List ℕ). b.0 ++ l) parts.1)
 
--- a boolean that is spelled is read
 pub boolean_begins : (bytes after : List ℕ) (value : Bool) → Begins bytes (Boolean value) after → boolean_at bytes ≡ Ok (value, after)
 unfolding boolean_at
 boolean_begins bytes after false b = rw (unsigned_begins bytes after 0 b) refl
 boolean_begins bytes after true b = rw (unsigned_begins bytes after 1 b) refl
 
--- the truth that a number stands for
+-- A boolean is encoded as 0 or 1.
 truth_of : (n : ℕ) (rest after : List ℕ) (value : Bool)
     → (let r : Result (Bool × List ℕ) XdrFault = cond (eqb n 0) (Ok (false, rest)) (cond (eqb n 1) (Ok (true, rest)) (Err BadBool)) in r)
     ≡ Ok (value, after)
     → (n ≡ from_bool value) × (rest ≡ after)
 truth_of n rest after value e = (grind (arith, nat_tests), grind (arith, nat_tests))
 
--- a boolean that is read is spelled so
 pub boolean_takes : (bytes after : List ℕ) (value : Bool) → IsBytes bytes → boolean_at bytes ≡ Ok (value, after)
     → Begins bytes (Boolean value) after
 unfolding boolean_at

@@ -8,14 +8,14 @@ use Rattle.sv_xdr.specs.Reader.{unsigned_at, opaque_at}
 use Rattle.sv_xdr.specs.Laws.{SameKind, PrefixFree}
 use Rattle.sv_xdr.proofs.Fields.{unsigned_again, opaque_again, pair_parts}
 
--- two words that begin the same bytes
+-- Two words that begin the same bytes are equal.
 words : (a b after behind : List ℕ) (m n : ℕ) → IsWord a m → IsWord b n → a ++ after ≡ b ++ behind → (a ≡ b) × (m ≡ n)
 words a b after behind m n h k e =
     let one = sym (unsigned_again a after m h) ∙ ap unsigned_at e ∙ unsigned_again b behind n k in
     let parts = pair_parts m n after behind one in
     (append_cancel_right a b after (e ∙ ap (λ (l : List ℕ). b ++ l) (sym parts.1)), parts.0)
 
--- a word stands for one signed integer
+-- A word is the two's complement of at most one signed integer.
 signs : (n : ℕ) (y z : ℤ) → IsTwosComplement n y → IsTwosComplement n z → y ≡ z
 signs n (pos i) (pos k) h g = ap pos (omega arith)
 signs n (pos i) (negsuc k) h g = absurd (omega arith)
@@ -28,7 +28,7 @@ truths true false e = absurd (omega arith)
 truths false true e = absurd (omega arith)
 truths false false e = refl
 
--- two opaque data that begin the same bytes
+-- Two opaque data whose encodings begin the same bytes are equal.
 texts : (s t a b after behind : List ℕ) → Spells a (Opaque s) → Spells b (Opaque t) → a ++ after ≡ b ++ behind → (a ≡ b) × (s ≡ t)
 texts s t a b after behind h k e =
     let most = length s + length t in
@@ -49,7 +49,8 @@ prefix_free (Boolean c) (Boolean d) a b after behind kind h k e =
 prefix_free (Opaque s) (Opaque t) a b after behind kind h k e = let w = texts s t a b after behind h k e in (w.0, ap Opaque w.1)
 prefix_free _ _ a b after behind kind h k e = absurd kind
 
--- two fields of one kind that begin the same bytes are one, and so is what follows them
+-- Two fields of the same kind whose encodings begin the same bytes are equal, and so is what
+-- follows them.
 pub one_field : (x y : Field) (bytes after behind : List ℕ) → SameKind x y → Begins bytes x after → Begins bytes y behind
     → (x ≡ y) × (after ≡ behind)
 one_field x y bytes after behind kind h k =
@@ -57,14 +58,14 @@ one_field x y bytes after behind kind h k =
     let w = prefix_free x y h.0 k.0 after behind kind h.1 k.1 e in
     (w.1, append_cancel_left k.0 after behind (ap (λ (l : List ℕ). l ++ after) (sym w.0) ∙ e))
 
--- two lists have fields of the same kinds
+-- The lists have fields of the same kinds, in order.
 abbrev pub SameKinds : List Field → List Field → Type 0
 SameKinds [] [] = Unit {0}
 SameKinds (x ∷ xs) (y ∷ ys) = SameKind x y × SameKinds xs ys
 SameKinds [] (y ∷ ys) = ⊥
 SameKinds (x ∷ xs) [] = ⊥
 
--- two such lists that begin the same bytes are one, and so is what follows them
+-- Two such lists whose encodings begin the same bytes are equal, and so is what follows them.
 pub all_fields : (xs ys : List Field) (bytes after behind : List ℕ) → SameKinds xs ys → BeginsAll bytes xs after → BeginsAll bytes ys behind
     → (xs ≡ ys) × (after ≡ behind)
 all_fields [] [] bytes after behind kinds h k = (refl, sym h ∙ k)

@@ -28,7 +28,6 @@ opaque_spelled text h = (
   refl,
 )
 
--- the front of three zeros
 pub take_zeros : (n : ℕ) → n < 4 → take {A = ℕ} n (0 ∷ 0 ∷ 0 ∷ []) ≡ replicate n 0
 take_zeros (suc (suc (suc (suc n)))) h = absurd (omega arith)
 take_zeros _ h = refl

@@ -7,13 +7,12 @@ use Rattle.sv_xdr.specs.declared.fault.XdrFault.{XdrFault}
 use Rattle.sv_xdr.specs.declared.writer.Writer.{Writer}
 use Rattle.sv_xdr.specs.Writer.{rest_of, Appends, WritesEach}
 
--- bytes that were written leave so much less room
+-- Written bytes take exactly their length of the room.
 pub room_left : (bytes : List ℕ) (old new : Writer) → Appends bytes old new → length bytes + length (rest_of new) ≡ length (rest_of old)
 room_left bytes old new a =
     let front : length (take (length bytes) (rest_of old)) ≡ length bytes = length-take-le (length bytes) (rest_of old) a.fits in
     omega (arith, ap length a.rest, length-append (take (length bytes) (rest_of old)) (rest_of new))
 
--- pieces that have room together are all written
 pub whole_is_written : (pieces : List (List ℕ)) (r : Result Unit XdrFault) (old new : Writer) → WritesEach pieces r old new
     → length (concat pieces) ≤ length (rest_of old)
     → Appends (concat pieces) old new

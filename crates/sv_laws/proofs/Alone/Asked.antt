@@ -1,4 +1,4 @@
--- A query that is asked alone is answered.
+-- A query that is asked alone gets its answer, and no error is reported: the law `QueryAlone`.
 use Rattle.std.proofs.Common.{◌≡◌, ℕ, Bool, true, false, List, [], ◌∷◌, ◌++◌, length, Some, None, refl, sym, ap, subst, ◌∙◌, append_assoc, arith}
 use Rattle.std.specs.Prelude.{◌||◌, drop}
 use Rattle.std.proofs.lemmas.List.{drop_all}
@@ -36,8 +36,8 @@ use Rattle.sv_laws.proofs.Alone.Quiet.{Same, same_start, quiet_same, earlier_log
 
 -- ---- a Turn
 
--- After the log `start` a Turn comes that isn't refused: its own acts lead to `log`, once all steps
--- that are due then were done.
+-- After the log `start`, a Turn of connection `c` isn't refused. The acts of this Turn, and then
+-- the steps that are due, lead to `log`.
 pub record Turns (c : ℕ) (config : Config) (start log : List Act) : Type 0 where
   pub polled : ℕ
   pub said : IsPolled polled (device_acts start)
@@ -61,7 +61,6 @@ answerable_free acts held unended = rw (held, unended) (or_true (is_something (r
     or_true true = refl
     or_true false = refl
 
--- the acts of a connection after a call, an act of the instrument, and the reply
 pub told : (c : ℕ) (act : InstrumentAct) (call reply : List ℕ) (log : List Act)
     → of c (On c (Replied reply) ∷ OnDevice (Applied act) ∷ On c (CallTaken call) ∷ log) ≡ Replied reply ∷ CallTaken call ∷ of c log
 told c act call reply log = of_mine c (Replied reply) (OnDevice (Applied act) ∷ On c (CallTaken call) ∷ log)
@@ -248,7 +247,8 @@ module _ (c lid : ℕ) (asked : Question) (sent answer : List ℕ) (most : ℕ) 
     });
   }
 
-  -- The two Turns add exactly the two replies to what is sent on the connection.
+  -- The two Turns add the reply to the write and the reply to the read to all replies on the
+  -- connection, and nothing else.
   pub both_told : all_replies (of c log)
       ≡ all_replies (of c start) ++ (write_reply asks.writes.call.xid sent ++ read_reply asks.reads.call.xid answer most
       (term_of asks.reads.flags asks.reads.term_char))
@@ -258,7 +258,7 @@ module _ (c lid : ℕ) (asked : Question) (sent answer : List ℕ) (most : ℕ) 
       ∙ ap (λ (l : List ConnAct). all_replies l ++ read) written_told
       ∙ append_assoc (all_replies (of c start)) (write_reply asks.writes.call.xid sent) read
 
-  -- From before the write to after the read, no error was reported.
+  -- No error is reported between the write and the end of the read.
   pub no_error : reported (instrument_acts (device_acts log)) ≡ reported base
   no_error = ap reported new_is ∙ same.codes ∙ ap reported last_is ∙ responding.codes
 

@@ -52,12 +52,12 @@ use Rattle.sv_laws.proofs.Alone.Moves.{happened_one, finishes, rests_now}
 
 -- ---- the unit
 
--- From the first log to the second one, a unit was done. No unit is held, and no query error was
--- reported.
+-- The unit of the command is done in the second log, and no unit is held. No query error was
+-- reported since the first log.
 abbrev IsDone : List InstrumentAct → List InstrumentAct → Type 0
 IsDone log new = (exchange_acts new ≡ UnitDone ∷ exchange_acts log) × (held_unit new ≡ None) × (query_errors new ≡ query_errors log)
 
--- These acts perform the order, and the unit is done.
+-- The order can be performed after this log, and then its unit is done (`IsDone`).
 abbrev Performed : Order → List InstrumentAct → Type 0
 Performed command log = (adds : List InstrumentAct) × Performs command log (adds ++ log) × IsDone log (adds ++ log)
 
@@ -123,8 +123,8 @@ module _ (config : Config) (lines : ℕ) (message unit : List ℕ) (links : List
   abbrev parts : List (List ℕ)
   parts = message ∷ [] ∷ replicate lines []
 
-  -- First the unit is done. Then its message is finished, and after it the empty messages of the
-  -- new lines that follow.
+  -- `Did`: the unit is done, and its message isn't finished yet. `Ended`: the message is finished,
+  -- and `k` empty messages are left to finish, which come from the new lines after it.
   data State (log : List Act) : Type 0 where
     Did : (acts : List ExchangeAct) → exchange_acts (inside log) ≡ UnitDone ∷ acts → Left parts acts → response acts ≡ [] → State log
     Ended : (k : ℕ) → Left ([] ∷ replicate k []) (exchange_acts (inside log)) → response (exchange_acts (inside log)) ≡ [] → State log
@@ -200,7 +200,7 @@ module _ (config : Config) (lines : ℕ) (message unit : List ℕ) (links : List
   next_phase log new p (inr (none, inr (still, inr (idle, (d, wait, oldest, for, is))))) =
       subst Phase (sym is) (failed_phase (late wait) d (core_call_in (pending_call (of d log))) log p)
 
-  -- If nothing is due any more, message exchange is at rest.
+  -- If no step is due any more, message exchange is at rest.
   rests_at_end : (log : List Act) → Rested config log → Phase log → State log → IsAtRest (exchange_acts (inside log))
   rests_at_end log rest p (Did acts is left none) = absurd (rest.steps (OnDevice (Applied (Exchanged Finished)) ∷ log) (
     Exchanged Finished ∷ [],

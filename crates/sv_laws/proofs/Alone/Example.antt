@@ -1,5 +1,5 @@
--- Two messages that are one query each, and message exchange at power on: so the premises of the
--- law can be met.
+-- Examples for the laws about queries: data that hold one query each, and message exchange at power
+-- on. They show that the premises of these laws can be met.
 use Rattle.std.proofs.Common.{◌≡◌, true, false, [], ◌∷◌, Some, refl, inl, inr, arith}
 use Rattle.std.specs.Prelude.{codes}
 use Rattle.sv_header.specs.declared.command.Question.TheVariants as question
@@ -10,7 +10,7 @@ use Rattle.sv_layers.specs.declared.change.Awaited.TheVariants.{Readings}
 use Rattle.sv_instrument.specs.declared.command.order.Order.TheVariants as order
 use Rattle.sv_laws.specs.QueryAlone.{IsQuery, IsAtRest, holds}
 
--- the query that drivers send first, with the line end that many of them send
+-- The query that drivers send first, with a carriage return and a new line at its end.
 pub asks_identification : IsQuery (order.Ask question.Identification) (codes "*IDN?\r\n")
 asks_identification = record {
   message = codes "*IDN?\r";
@@ -35,7 +35,8 @@ asks_identification = record {
   );
 }
 
--- a query in small letters, with a space before it, and with a semicolon in place of a line end
+-- A query in small letters, with a leading space and a leading colon, and with a semicolon instead
+-- of a new line.
 pub asks_error : IsQuery (order.Ask question.Error) (codes " :syst:error?;")
 asks_error = record {
   message = codes " :syst:error?;";

@@ -1,4 +1,5 @@
--- While nothing is due, quiet events send nothing on a connection that has no suspended call.
+-- While no step of message exchange is due, quiet events send nothing on a connection that has no
+-- suspended call.
 use Rattle.std.proofs.Common.{◌≡◌, ◌≢◌, ℕ, List, [], ◌∷◌, ◌++◌, Option, Some, None, refl, sym, ap, subst, ◌∙◌, inl, inr}
 use Rattle.std.specs.Prelude.{map, ◌==◌}
 use Rattle.std.specs.List.{AllByRecursion}
@@ -31,11 +32,11 @@ use Rattle.sv_laws.proofs.OneLog.{one_log}
 use Rattle.sv_laws.proofs.EveryLog.EachEvent.{each_settled}
 use Rattle.sv_laws.proofs.Alone.Quiet.{Same, able_is, step_same, event_same}
 
--- No call of the connection is suspended, and these bytes are all replies that were sent on it.
+-- Connection `c` has no suspended call, and `replies` are all bytes of the replies on it.
 abbrev pub Heard : ℕ → List ℕ → List Act → Type 0
 Heard c replies log = (waits c (wait_acts (device_acts log)) ≡ None) × (all_replies (of c log) ≡ replies)
 
--- An act of a connection that is no reply.
+-- The act is one of a connection, and isn't a reply.
 abbrev IsSilent : ConnAct → Type 0
 IsSilent act = (acts : List ConnAct) → all_replies (act ∷ acts) ≡ all_replies acts
 

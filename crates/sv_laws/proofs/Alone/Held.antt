@@ -1,5 +1,5 @@
 -- A query that waits for the end of the measurement is answered as soon as no measurement is under
--- way.
+-- way: the law `HeldAlone`.
 use Rattle.std.proofs.Common.{◌≡◌, ℕ, zero, suc, ◌+◌, ◌≤◌, Bool, true, false, List, [], ◌∷◌, ◌++◌, length, Option, Some, None, Ok, refl, sym, ap, subst, ◌∙◌, inl, inr, append_assoc, arith, eq-eqb}
 use Rattle.std.specs.Prelude.{map, replicate, pos, not, codes, drop}
 use Rattle.std.proofs.lemmas.Bool.{ne_eqb}
@@ -60,8 +60,8 @@ use Rattle.sv_laws.proofs.Alone.Moves.{never_answered, Holds, Gone, Live, Phase,
 
 -- ---- the unit begins
 
--- The query's unit is held after these acts of the scanner. If the unit answers with readings, the
--- newest of them initiates a measurement.
+-- The query starts with acts of the scanner, and then its unit is held. If the unit will answer
+-- with readings, the newest of these acts initiates a measurement.
 begins : (query : Order) (what : Awaited) (acts : List InstrumentAct) → holds query ≡ Some what → hold_fault query acts ≡ None
     → (scans : List ScanAct) × Performs query acts (Held what ∷ map Scanned scans ++ acts)
     × (what ≡ awaited.Readings → (older : List ScanAct) × (scans ≡ scan.Init ∷ older))
@@ -101,7 +101,7 @@ scanned_codes : (scans : List ScanAct) (acts : List InstrumentAct) → reported 
 scanned_codes [] acts = refl
 scanned_codes (act ∷ scans) acts = scanned_codes scans acts
 
--- When a held unit ends, it answers so.
+-- A held unit answers with `held_answer` when it ends.
 releases_so : (query : Order) (what : Awaited) → holds query ≡ Some what → (acts : List InstrumentAct)
     → after_release what acts ≡ after_answering (held_answer what acts) (done acts)
 releases_so query awaited.One is acts = refl

@@ -16,7 +16,7 @@ use Rattle.sv_laws.proofs.Alone.Asked.{query_alone, both_told, no_error}
 use Rattle.sv_laws.proofs.Alone.Held.{held_alone}
 use Rattle.sv_laws.proofs.Alone.Rounds.{rounds}
 
--- After all events, the connection and the instrument have the same acts as after the connection's
+-- The connection and the instrument have the same acts after all events as after the connection's
 -- own events alone.
 alone_same : (c lid : ℕ) (config : Config) (past events : List PlainEvent) (log : List Act) → IsLocked c lid config past events
     → IsLogOf config (events ++ past) log
@@ -30,7 +30,7 @@ alone_same c lid config past events log locked is_log =
     (alone.pair.own, alone.pair.view.instrument) in
     (alone.other, alone.is_log, both.0, both.1)
 
--- `IsTold` of a log rests only on the acts of the connection and of the instrument.
+-- Whether `IsTold` holds of a log depends only on the acts of the connection and of the instrument.
 told_same : (c : ℕ) (sent answer : List ℕ) (most : ℕ) (term : Option ℕ) (write_xid read_xid : ℕ) (start log other : List Act)
     → of c log ≡ of c other → instrument_acts (device_acts log) ≡ instrument_acts (device_acts other)
     → IsTold c sent answer most term write_xid read_xid start other → IsTold c sent answer most term write_xid read_xid start log

@@ -1,5 +1,5 @@
--- A query that waits for the end of the measurement: its phases, and what each step and each quiet
--- event makes of them.
+-- The phases of a query that waits for the end of the measurement, and how each step and each quiet
+-- event changes them.
 use Rattle.std.proofs.Common.{append_assoc, ◌≡◌, ◌≢◌, ℕ, zero, suc, ◌+◌, ◌≤◌, Bool, true, false, List, [], ◌∷◌, ◌++◌, length, Option, Some, None, refl, sym, ap, subst, ◌∙◌, inl, inr, ◌⊎◌, arith, eq-eqb}
 use Rattle.std.specs.Prelude.{map, replicate, pos, not, ◌&&◌}
 use Rattle.std.proofs.lemmas.Bool.{cases_eq}
@@ -52,7 +52,7 @@ use Rattle.sv_laws.proofs.Alone.Texts.{Left, Over, answered, ended_is, fits_alon
 use Rattle.sv_laws.proofs.Alone.Turns.{whole, reads_whole}
 use Rattle.sv_laws.proofs.Alone.Phases.{Status, At, Told, Mine, Others, Initiated, initiated_more, ending_more, one_read_or, inside, Alike, alike_scanned, alike_ticked, alike_channel, alike_piece, alike_taken, alike_other, alike_failed, others_left}
 
--- ---- more acts
+-- ---- a log with more acts
 
 inside_more : (adds log : List Act) → inside (adds ++ log) ≡ inside adds ++ inside log
 inside_more [] log = refl
@@ -91,8 +91,7 @@ answers_if : (answer : List ℕ) (acts : List InstrumentAct) → fits_response (
     → after_answering answer (done acts) ≡ Exchanged (Answered answer) ∷ Exchanged UnitDone ∷ acts
 answers_if answer acts fits = rw fits refl
 
--- While the message hasn't been executed to its end and there is no response, no read can be
--- answered.
+-- No read can be answered while there is no response, and the message has ended but isn't finished.
 pub never_answered : (log : List Act) → response (exchange_acts (inside log)) ≡ [] → has_ended (exchange_acts (inside log)) ≡ true
     → is_answerable (inside log) ≡ false
 never_answered log none ended = rw (none, ended) (and_false _)
@@ -120,13 +119,13 @@ module _ (config : Config) (c lid xid most io_timeout lock_timeout flags term_ch
   abbrev pub My : Status → List Act → Type 0
   My s log = Mine c limit call replies s (of c log) (wait_acts (device_acts log))
 
-  -- The instrument's log before the write is a part of this log. For a unit that answers with
-  -- readings, a measurement was initiated after it.
+  -- The log continues `base`, the instrument's log before the write. If the unit answers with
+  -- readings, a measurement was initiated since then.
   abbrev pub Since : List InstrumentAct → Type 0
   Since acts = (newer : List InstrumentAct) × (acts ≡ newer ++ base) × Initiated what newer
 
-  -- `Holds`: the unit is held. `Gave`: it gave its answer. `Shows`: its message is finished, and
-  -- the response can be read. `Gone`: the response was read.
+  -- `Holds`: the unit is held. `Gave`: the unit has ended, and its answer was added to the message.
+  -- `Shows`: the message is finished, and its response can be read. `Gone`: the response was read.
   pub data State (taken : Bool) (log : List Act) : Type 0 where
     Holds : Left parts (exchange_acts (inside log)) → held_unit (inside log) ≡ Some what → response (exchange_acts (inside log)) ≡ []
         → Since (inside log) → My (At taken) log → State taken log
@@ -141,15 +140,15 @@ module _ (config : Config) (c lid xid most io_timeout lock_timeout flags term_ch
         → Left ([] ∷ replicate k []) (exchange_acts (inside log)) → response (exchange_acts (inside log)) ≡ []
         → held_unit (inside log) ≡ None → My (Told (reply_of (answer_of (inside log) e))) log → State taken log
 
-  -- The query is in one of these states. Since the write, nothing happened to the links, no error
-  -- was reported, and no suspended call of another connection can resume.
+  -- The query is in one of these states. Since the write no act concerned a link, no error was
+  -- reported, and no suspended call of another connection can resume.
   pub record Live (taken : Bool) (log : List Act) : Type 0 where
     pub state : State taken log
     pub linked : link_acts (device_acts log) ≡ links
     pub others : Others c links (wait_acts (device_acts log))
     pub codes : reported (inside log) ≡ errors
 
-  -- The law says nothing of this case: the read's deadline came, or the answer is too long for one
+  -- The law doesn't apply: the deadline of the read has come, or the answer is too long for one
   -- read.
   abbrev pub Escaped : List Act → Type 0
   Escaped log = (limit ≤ config.clock + ticks (device_acts log))
@@ -163,7 +162,7 @@ module _ (config : Config) (c lid xid most io_timeout lock_timeout flags term_ch
   escaped_more adds log (inr (e, long)) =
       inr (ending_more what base (inside adds) (inside log) (inside (adds ++ log)) (inside_more adds log) e, long)
 
-  -- ---- alike logs
+  -- ---- logs that don't differ for the query
 
   abbrev pub Similar : List Act → List Act → Type 0
   Similar log new = Alike c limit call replies links log new
@@ -467,14 +466,15 @@ module _ (config : Config) (c lid xid most io_timeout lock_timeout flags term_ch
       each_settled config (Phase taken) (step_phase taken) settles.0 (own_acts config polled event before ++ before) log
       (event_phase taken polled event before quiet.0 (quiet_phase taken past events was before is_was phase quiet.1 is_before)) settles.1
 
-  -- ---- when no step is possible any more
+  -- ---- when no step is due any more
 
-  -- If no step is possible any more, no message is to be finished.
+  -- If no step is due any more, no message waits to be finished.
   pub unfinished : (log : List Act) → Rested config log → held_unit (inside log) ≡ None → due (exchange_acts (inside log)) ≡ FinishDue → ⊥
   unfinished log rest held finish = rest.steps (OnDevice (Applied (Exchanged Finished)) ∷ log)
       (Exchanged Finished ∷ [], finish_step (inside log) held finish, refl)
 
-  -- If no step is possible any more, the unit is held, or the response can be read, or it was read.
+  -- If no step is due any more, the unit is held, or the response can be read, or the response was
+  -- read.
   pub data Settled (taken : Bool) (log : List Act) : Type 0 where
     StillHolds : Left parts (exchange_acts (inside log)) → held_unit (inside log) ≡ Some what → response (exchange_acts (inside log)) ≡ []
         → Since (inside log) → My (At taken) log → Settled taken log

@@ -1,5 +1,5 @@
--- A query that waits for the end of the measurement: what is known of its connection and of the
--- other ones, and which events leave it.
+-- The read of a query that waits for the end of the measurement: its status on the connection, and
+-- the acts that don't affect the query.
 use Rattle.std.proofs.Common.{◌≡◌, ◌≢◌, ℕ, Bool, true, false, List, [], ◌∷◌, ◌++◌, length, Option, Some, None, refl, sym, ap, subst, ◌∙◌, inl, inr, ◌⊎◌, append_assoc, arith}
 use Rattle.std.specs.Prelude.{◌==◌}
 use Rattle.std.specs.List.{AllByRecursion}
@@ -29,13 +29,13 @@ use Rattle.sv_laws.proofs.Alone.Quiet.{left_able}
 
 -- ---- the connection
 
--- the status of the read: whether it was taken; or, once it was answered, the reply
+-- The status of the read: whether it was taken, or the reply to it.
 pub data Status : Type 0 where
   At : (taken : Bool) → Status
   Told : (reply : List ℕ) → Status
 
--- Before the read is taken, no call of the connection is suspended. After that, the read waits for
--- the response. After the reply, again no call is suspended.
+-- No call of the connection is suspended before the read is taken. Then the read is suspended until
+-- there is a response, with the deadline `limit`. After the reply no call is suspended.
 abbrev pub Mine : (c limit : ℕ) → CoreCall → List ℕ → Status → List ConnAct → List WaitAct → Type 0
 Mine c limit call replies (At false) own calls = (waits c calls ≡ None) × (all_replies own ≡ replies)
 Mine c limit call replies (At true) own calls = (waits c calls ≡ Some ForResponse) × (deadline c calls ≡ Some limit)
@@ -47,17 +47,17 @@ Mine c limit call replies (Told reply) own calls = (waits c calls ≡ None) × (
 abbrev pub Others : ℕ → List LinkAct → List WaitAct → Type 0
 Others c links calls = (d : ℕ) → d ≢ c → (writes reads : Bool) → IsAble (holder links) writes reads calls d → ⊥
 
--- For a unit that answers with readings, a measurement was initiated among these acts.
+-- If the unit answers with readings, one of these acts initiated a measurement.
 abbrev pub Initiated : Awaited → List InstrumentAct → Type 0
 Initiated what newer = what ≡ Readings → (later earlier : List InstrumentAct) × (newer ≡ later ++ Scanned Init ∷ earlier)
 
--- This stays so with more acts.
+-- A measurement that was initiated still was after further acts.
 pub initiated_more : (what : Awaited) (adds newer : List InstrumentAct) → Initiated what newer → Initiated what (adds ++ newer)
 initiated_more what adds newer initiated reads =
     let (later, earlier, is) = initiated reads in
     (adds ++ later, earlier, ap (λ (l : List InstrumentAct). adds ++ l) is ∙ sym (append_assoc adds later (Scanned Init ∷ earlier)))
 
--- The end of the unit in one log is its end in each later log too.
+-- If a unit ended in a log, it ended at the same moment in the log with more acts.
 abbrev pub ending_more : (what : Awaited) (base adds acts new : List InstrumentAct) → new ≡ adds ++ acts → UnitEnd what base acts
     → UnitEnd what base new
 ending_more what base adds acts new is e = record {
@@ -85,7 +85,7 @@ ends_or (Some term) answer = elim (cases_eq term 10) [
   | inr other ↦ inr (λ ends. other ends.0)
 ]
 
--- One read can return the answer, or it can't.
+-- Either one read can return the answer, or one read can't.
 pub one_read_or : (term : Option ℕ) (most : ℕ) (answer : List ℕ) → OneRead term most answer ⊎ (OneRead term most answer → ⊥)
 one_read_or term most answer = elim (cases_lt (length answer) most) [
   | inl one ↦ elim (cases_lt (length answer) max_read) [
@@ -95,14 +95,13 @@ one_read_or term most answer = elim (cases_lt (length answer) most) [
   | inr past ↦ inr (λ fits. let far = fits.0 in omega (arith, far, past))
 ]
 
--- ---- logs that differ only in what doesn't concern the query
+-- ---- logs that differ only in acts that don't affect the query
 
 abbrev pub inside : List Act → List InstrumentAct
 inside log = instrument_acts (device_acts log)
 
--- The new log differs from the log before only in acts that don't concern the query: it gives the
--- same message exchange, held unit, errors and links, and what was known of the suspended calls
--- still holds.
+-- The new log adds only acts that don't affect the query. Message exchange, the held unit, the
+-- reported errors and the links are the same, and `Others` and `Mine` still hold.
 pub record Alike (c limit : ℕ) (call : CoreCall) (replies : List ℕ) (links : List LinkAct) (log new : List Act) : Type 0 where
   pub adds : List InstrumentAct
   pub is : inside new ≡ adds ++ inside log
@@ -127,7 +126,8 @@ module _ (c limit : ℕ) (call : CoreCall) (replies : List ℕ) (links : List Li
     mine = λ s m. m;
   }
 
-  -- So it is if the new acts are neither the instrument's nor of a link.
+  -- New acts that are neither acts of the instrument nor acts on a link don't affect the query, if
+  -- they keep `Others` and `Mine`.
   alike_by : (log new : List Act) → inside new ≡ inside log → link_acts (device_acts new) ≡ link_acts (device_acts log)
       → (Others c links (wait_acts (device_acts log)) → Others c links (wait_acts (device_acts new)))
       → ((s : Status) → Mine c limit call replies s (of c log) (wait_acts (device_acts log))
@@ -185,7 +185,8 @@ module _ (c limit : ℕ) (call : CoreCall) (replies : List ℕ) (links : List Li
   pub alike_other : (d : ℕ) (act : ConnAct) (log : List Act) → d ≢ c → Alike c limit call replies links log (On d act ∷ log)
   alike_other d act log ne = alike_on d act log (λ e. absurd (ne e))
 
-  -- After a suspended call ends, still none of another connection can resume.
+  -- After a suspended call leaves the queue, still no suspended call of another connection can
+  -- resume.
   pub others_left : (d : ℕ) (calls : List WaitAct) → Others c links calls → Others c links (LeftCall d ∷ calls)
   others_left d calls others e ne writes reads able = others e ne writes reads (left_able (holder links) writes reads d e calls able)
 
@@ -195,7 +196,7 @@ module _ (c limit : ℕ) (call : CoreCall) (replies : List ℕ) (links : List Li
   mine_left d (At false) own calls ne m = (rw (ne_eqb d c ne) m.0, m.1)
   mine_left d (Told reply) own calls ne m = (rw (ne_eqb d c ne) m.0, m.1)
 
-  -- The call of another connection times out.
+  -- A suspended call of another connection that times out doesn't affect the query.
   pub alike_failed : (error : ErrorCode) (d : ℕ) (core : Option CoreCall) (log : List Act) → d ≢ c
       → Alike c limit call replies links log (acts_of d (failure_effect error d core) ++ log)
   alike_failed error d core log ne = by core (others_effect d c (failure_effect error d core) log (λ e. ne (sym e)))

@@ -1,5 +1,5 @@
--- While nothing is due, quiet events change neither message exchange nor the links. If message
--- exchange is at rest, no read or write waits for the device.
+-- While no step of message exchange is due, quiet events change neither message exchange nor the
+-- links. While message exchange is at rest, no read or write waits for the device.
 use Rattle.std.proofs.Common.{◌≡◌, ℕ, Bool, true, false, List, [], ◌∷◌, ◌++◌, Option, Some, None, refl, sym, ap, subst, ◌∙◌, inl, inr}
 use Rattle.std.specs.Prelude.{map, not, ◌==◌, ◌||◌, ◌&&◌}
 use Rattle.std.specs.List.{AllByRecursion}
@@ -41,9 +41,9 @@ use Rattle.sv_laws.proofs.EveryLog.Steps.{log_settled, rested}
 use Rattle.sv_laws.proofs.EveryLog.EachEvent.{each_settled}
 use Rattle.sv_laws.proofs.Cuts.FirstPart.{Resting}
 
--- ---- where nothing is due
+-- ---- while no step of message exchange is due
 
--- After a suspended call ends, no call can resume that couldn't before.
+-- A call that can resume after another call left the queue could also resume before.
 pub left_able : (holds : Option ℕ) (writes reads : Bool) (c d : ℕ) (acts : List WaitAct) → IsAble holds writes reads (Left c ∷ acts) d
     → IsAble holds writes reads acts d
 left_able holds writes reads c d acts h = elim (cases_Bool (c == d)) [
@@ -51,12 +51,12 @@ left_able holds writes reads c d acts h = elim (cases_Bool (c == d)) [
   | inr e ↦ rw e at h
 ]
 
--- whether a read can be answered while no unit is held
+-- Whether a read can be answered, if no unit is held.
 abbrev pub can_read : List ExchangeAct → Bool
 can_read acts = is_something (response acts) || (not (is_held None) && not (has_ended acts))
 
--- These are the acts of message exchange, the acts on links and the reported errors. No unit is
--- held, and no suspended call can resume.
+-- The log has these acts of message exchange, these acts on links and these reported errors. No
+-- unit is held, and no suspended call can resume.
 pub record Same (acts : List ExchangeAct) (links : List LinkAct) (errors : List Code) (log : List Act) : Type 0 where
   pub exchange : exchange_acts (device_acts log) ≡ acts
   pub linked : link_acts (device_acts log) ≡ links
@@ -188,7 +188,7 @@ module _ (config : Config) (acts : List ExchangeAct) (links : List LinkAct) (err
         each_settled config (Same acts links errors) step_same settles.0 (own_acts config polled event before ++ before) log
         (event_same polled event before quiet.0 (quiet_same past events was before is_was s quiet.1 is_before)) settles.1
 
--- If a history has a log, each earlier part of it has one too.
+-- If a history has a log, then each earlier part of the history has a log too.
 pub earlier_log : (config : Config) (events past : List PlainEvent) (log : List Act) → IsLogOf config (events ++ past) log
     → (was : List Act) × IsLogOf config past was
 earlier_log config [] past log is_log = (log, is_log)

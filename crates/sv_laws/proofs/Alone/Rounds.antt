@@ -1,4 +1,5 @@
--- Rounds of commands, and of queries whose response is read, report no query error.
+-- Rounds of commands, and of queries whose response is read, report no query error: the law
+-- `NoQueryError`.
 use Rattle.std.proofs.Common.{◌≡◌, ℕ, List, [], ◌∷◌, ◌++◌, refl, sym, ap, subst, ◌∙◌}
 use Rattle.std.specs.Prelude.{filter}
 use Rattle.sv_errors.specs.declared.code.Code.{Code}
@@ -15,7 +16,7 @@ use Rattle.sv_laws.proofs.Alone.Asked.{query_alone, no_error}
 use Rattle.sv_laws.proofs.Alone.Held.{held_alone}
 use Rattle.sv_laws.proofs.Alone.Commands.{command_alone}
 
--- Message exchange is at rest, and these query errors were reported.
+-- Message exchange is at rest, and exactly these query errors were reported.
 abbrev Rests : List Code → List Act → Type 0
 Rests errors log = IsAtRest (exchange_acts (device_acts log)) × (query_errors (instrument_acts (device_acts log)) ≡ errors)
 

@@ -1,5 +1,5 @@
--- Before a message has ended, no unit of it is executed. Each act of a call or an event keeps this,
--- and so does each step of the instrument.
+-- No unit of a message is executed before the message has ended. Every act of a call or an event
+-- keeps this invariant, and so does every step of the instrument.
 use Rattle.std.proofs.Common.{◌≡◌, ℕ, ◌+◌, ◌<◌, ◌≤◌, Bool, true, false, cond, List, [], ◌∷◌, ◌++◌, length, map, Option, Some, None, Result, Ok, Err, refl, sym, subst, ◌∙◌, inl, inr, ◌⊎◌, arith, lt-ltb}
 use Rattle.std.specs.Prelude.{not, codes, ⊤, ◌&&◌, ◌==◌}
 use Rattle.std.specs.List.{onto_first as onto}
@@ -57,12 +57,12 @@ still_long bytes ended acts e =
     lt-ltb max_message (size_at (messages (text acts ++ (map Byte bytes ++ end_mark ended))) (messages_finished acts))
     (omega (arith, was, least))
 
--- ---- what is kept
+-- ---- the invariant
 
 abbrev pub IsEnded : List InstrumentAct → Type 0
 IsEnded acts = has_ended (exchange_acts acts) ≡ true
 
--- No unit of the current message was done, and it has no answers.
+-- No unit of the current message was executed, and the message has no answers.
 abbrev pub Fresh : List ExchangeAct → Type 0
 Fresh acts = (units_done acts ≡ 0) × (has_dropped acts ≡ false) × (all_answers acts ≡ [])
 
@@ -70,19 +70,19 @@ Fresh acts = (units_done acts ≡ 0) × (has_dropped acts ≡ false) × (all_ans
 abbrev pub IsLong : List InstrumentAct → Type 0
 IsLong acts = has_overrun (current (exchange_acts acts)) ≡ true → is_long (exchange_acts acts) ≡ true
 
--- The current message ended; or nothing of it was executed, and no unit is held.
+-- The invariant: the current message has ended; or no unit of it was executed, and no unit is held.
 abbrev pub Sound : List InstrumentAct → Type 0
 Sound acts = (IsEnded acts ⊎ ((held_unit acts ≡ None) × Fresh (current (exchange_acts acts)))) × IsLong acts
 
--- The current message ended.
+-- The current message has ended.
 abbrev Going : List InstrumentAct → Type 0
 Going acts = IsEnded acts × IsLong acts
 
 sound_going : (acts : List InstrumentAct) → Going acts → Sound acts
 sound_going acts g = (inl g.0, g.1)
 
--- An act that can't begin, answer or finish a unit or a message: one of a call or an event, and not
--- of a step of message exchange.
+-- An act that a call or an event can add. It doesn't execute or hold a unit, add or drop answers,
+-- finish a message, or report a message as too long.
 abbrev pub IsTame : InstrumentAct → Type 0
 IsTame (Exchanged Overran) = ⊥
 IsTame (Exchanged UnitDone) = ⊥

@@ -1,4 +1,5 @@
--- The steps after a write of one query: its unit is done and answered, and its message is finished.
+-- The steps after a write of one query: the query's unit is executed and answered, and its message
+-- is finished.
 use Rattle.std.proofs.Common.{◌≡◌, ℕ, zero, suc, true, false, List, [], ◌∷◌, ◌++◌, None, refl, sym, ap, subst, ◌∙◌, inl, inr, arith}
 use Rattle.std.specs.Prelude.{map, ◌↔◌, ⊤}
 use Rattle.sv_logs.proofs.Since.{since_empty, since_over, then_same}
@@ -21,7 +22,7 @@ use Rattle.sv_laws.proofs.Alone.Texts.{Over, empty_due, finished_empty, over_res
 
 -- ---- standard events
 
--- The act reports no error, and neither sets nor clears a standard event.
+-- The act reports no error, and neither sets nor clears a bit of the standard event register.
 abbrev pub IsPlain : InstrumentAct → Type 0
 IsPlain (Exchanged act) = ⊤
 IsPlain EntryTaken = ⊤
@@ -61,7 +62,7 @@ kept_over EntryTaken log plain = tt
 kept_over (StatusChanged (Register name ReadEvents)) log plain = tt
 kept_over _ log plain = absurd plain
 
--- Such an act leaves the standard events.
+-- Such an act leaves the standard event register as it is.
 pub stands_over : (k : ℕ) (act : InstrumentAct) (log : List InstrumentAct) → IsPlain act
     → standard.Stands k (act ∷ log) ↔ standard.Stands k log
 stands_over k act log plain = since_over (standard.Occurs k) standard.NotCleared act log (never_occurs k act log plain)
@@ -69,8 +70,8 @@ stands_over k act log plain = since_over (standard.Occurs k) standard.NotCleared
 
 -- ---- a step
 
--- These are all acts of the instrument. Since the log `base`, the links, the suspended calls, the
--- clock and the scanner are the same.
+-- `acts` are the acts of the instrument in `log`. Links, suspended calls, clock and scanner are the
+-- same as in the log `base`.
 pub record Stage (base log : List Act) (acts : List InstrumentAct) : Type 0 where
   pub calm : Calm (device_acts log) (device_acts base)
   pub is : instrument_acts (device_acts log) ≡ acts
@@ -110,10 +111,10 @@ pub finish_step : (acts : List InstrumentAct) → held_unit acts ≡ None → du
     → IsStep acts (Exchanged Finished ∷ acts)
 finish_step acts held finish = step_of acts (Exchanged Finished ∷ acts) None FinishDue (sym held) (sym finish) refl
 
--- ---- all that is left is finished
+-- ---- all messages are finished
 
--- The steps that are due lead to a log with this response, and with no more text. The standard
--- events and the error queue are the same.
+-- The steps that are due lead to a log in which `bytes` is the response and all text was executed.
+-- They change neither the standard event register nor the error queue.
 pub record Ends (c : ℕ) (config : Config) (base log : List Act) (acts : List InstrumentAct) (bytes : List ℕ) : Type 0 where
   pub end : List Act
   pub last : List InstrumentAct

@@ -58,10 +58,10 @@ first_short (b ∷ sent) part more e = at (b == 10) e (first_short sent)
         let size : suc (length some.0) ≡ length part = ap (λ (l : List ℕ). length l) is in
         omega (arith, size, least)
 
--- ---- the messages that are left
+-- ---- the messages that aren't finished
 
--- After these acts, these messages aren't finished yet. No unit of the first one was done, and it
--- has no answers.
+-- `parts` are the messages that aren't finished yet, the last of which hasn't ended. No unit of the
+-- first one was executed, and it has no answers.
 pub record Left (parts : List (List ℕ)) (acts : List ExchangeAct) : Type 0 where
   pub left : drop (messages_finished acts) (messages (text acts)) ≡ parts
   pub done : units_done (current acts) ≡ 0
@@ -107,7 +107,7 @@ text_comes bytes parts part acts l cut = record {
   given = l.given;
 }
 
--- What is due of a message that ended and isn't too long, while no answers were dropped.
+-- The step that is due for a message that has ended and isn't too long, if no answers were dropped.
 due_is : (part other : List ℕ) (more : List (List ℕ)) (acts : List ExchangeAct)
     → drop (messages_finished acts) (messages (text acts)) ≡ part ∷ other ∷ more → length part ≤ max_message
     → has_dropped (current acts) ≡ false
@@ -140,8 +140,8 @@ finish_due part other unit answer more acts l short one =
 
 -- ---- once the message is finished
 
--- So many empty messages that have ended are left. No unit of the first one was done, and the
--- response is this.
+-- The text that isn't finished is `lines` empty messages that have ended. No unit of the current
+-- message was executed, and `bytes` is the response.
 pub record Over (lines : ℕ) (bytes : List ℕ) (acts : List ExchangeAct) : Type 0 where
   pub left : drop (messages_finished acts) (messages (text acts)) ≡ [] ∷ replicate lines []
   pub fresh : current acts ≡ []

@@ -28,7 +28,7 @@ use Rattle.sv_laws.specs.QueryAlone.{NextIs, EndsAt, OneRead}
 use Rattle.sv_laws.proofs.Cuts.Written.{wrote}
 use Rattle.sv_laws.proofs.Cuts.WriteOutcome.{accepts_write}
 
--- The connection owns the link, and no other link holds the lock.
+-- Connection `c` owns the link, and no other link holds the lock.
 pub record IsFree (c lid : ℕ) (acts : List DeviceAct) : Type 0 where
   pub owns : owner lid (link_acts acts) ≡ Some c
   pub unlocked : is_locked_out (holder (link_acts acts)) (Some lid) ≡ false
@@ -73,7 +73,7 @@ turn_writes config polled c lid io_timeout lock_timeout flags sent log n f short
 
 -- ---- the read
 
--- the result of a read of the whole response
+-- The result of a read that returns the whole response.
 abbrev pub whole : ℕ → Option ℕ → List ℕ → Outcome
 whole most term answer = Read NoError (record {
   request_count = length answer + 1 == most;
@@ -85,7 +85,7 @@ abbrev pub is_read : ℕ → List ℕ → List ℕ → ℕ → List Act → List
 is_read c call reply count log =
     On c (Replied reply) ∷ OnDevice (Applied (Exchanged (ResponseRead count))) ∷ On c (CallTaken call) ∷ log
 
--- If the answer has no new line, the new line after it is the first one in the response.
+-- If the answer has no new line, the first new line of the response is the one after the answer.
 first_line : (answer : List ℕ) → AllByRecursion (λ b. b ≢ 10) answer → position_or_len (λ b. b == 10) (answer ++ 10 ∷ []) ≡ length answer
 first_line [] none = refl
 first_line (b ∷ answer) none = rw (ne_eqb b 10 none.0) (ap (λ (n : ℕ). 1 + n) (first_line answer none.1) ∙ omega arith)

@@ -1,4 +1,4 @@
--- In every log, no unit of a message is executed before the message has ended.
+-- In each log of a history, no unit of a message is executed before the message has ended.
 use Rattle.std.proofs.Common.{◌≡◌, ℕ, Bool, true, false, List, [], ◌∷◌, ◌++◌, length, drop, nat_lt, Option, Some, None, refl, sym, ap, subst, ◌∙◌, inl, inr, append_assoc}
 use Rattle.std.specs.Prelude.{map, pos, ⊤}
 use Rattle.std.specs.List.{AllByRecursion}
@@ -234,14 +234,14 @@ still_fresh : (acts : List InstrumentAct) → Sound acts → has_ended (exchange
 still_fresh acts (inl e, long) unended = absurd (let z : true ≡ false = sym e ∙ unended in cc)
 still_fresh acts (inr fresh, long) unended = fresh
 
--- If the current message isn't too long, it wasn't reported as too long.
+-- A message that isn't too long wasn't reported as too long.
 none_told : (acts : List InstrumentAct) → Sound acts → is_long (exchanged acts) ≡ false → has_overrun (current (exchanged acts)) ≡ false
 none_told acts s short = elim (cases_Bool (has_overrun (current (exchanged acts)))) [
   | inl e ↦ absurd (let z : true ≡ false = sym (s.1 e) ∙ short in cc)
   | inr e ↦ e
 ]
 
--- If all text was executed, no unit of the current message was done, and no unit is held.
+-- If all text was executed, no unit of the current message was executed, and no unit is held.
 pub rests : (config : Config) (history : List PlainEvent) (log : List Act) → IsLogOf config history log
     → drop (messages_finished (exchange_acts (device_acts log))) (messages (text (exchange_acts (device_acts log)))) ≡ [] ∷ []
     → Nothing ([] ∷ []) (exchange_acts (device_acts log)) × (held_unit (instrument_acts (device_acts log)) ≡ None)

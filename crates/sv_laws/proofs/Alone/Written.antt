@@ -1,4 +1,4 @@
--- After a write with END of one query, the query's answer is the response.
+-- After a write with END of one query, the query's answer becomes the response.
 use Rattle.std.proofs.Common.{◌≡◌, ◌≢◌, ℕ, suc, ◌<◌, ◌≤◌, true, List, [], ◌∷◌, ◌++◌, length, Option, None, Ok, refl, sym, ap, subst, ◌∙◌, arith}
 use Rattle.std.specs.Prelude.{map, replicate, take, reverse, ◌↔◌}
 use Rattle.sv_errors.specs.declared.code.Code.{Code}
@@ -29,7 +29,7 @@ use Rattle.sv_laws.proofs.Cuts.FirstPart.{Resting}
 use Rattle.sv_laws.proofs.Alone.Texts.{Left, Over, answered, text_comes, unit_due, fits_alone, finish_due, finished_one, first_short}
 use Rattle.sv_laws.proofs.Alone.Steps.{stands_over, Stage, happened, stage_next, step_next, finish_step, finish_all}
 
--- ---- what a query takes
+-- ---- what a query removes or clears
 
 taken_exchange : (asked : Question) (log : List InstrumentAct) → exchange_acts (taken_acts asked ++ log) ≡ exchange_acts log
 taken_exchange question.StandardEvents log = refl
@@ -71,8 +71,8 @@ accepted sent acts = Exchanged (Accepted sent true) ∷ acts
 abbrev pub answer_acts : Question → List ℕ → List InstrumentAct
 answer_acts asked answer = Exchanged (Answered answer) ∷ Exchanged UnitDone ∷ taken_acts asked
 
--- Message exchange is at rest. The query fits in one write, can be answered, and has this answer,
--- which fits in a response.
+-- Message exchange is at rest. The query fits in one write and can be answered, and `answer` is its
+-- answer, which fits in a response.
 pub record Ready (asked : Question) (sent answer : List ℕ) (acts : List InstrumentAct) : Type 0 where
   pub left : Left ([] ∷ []) (exchange_acts acts)
   pub held : held_unit acts ≡ None
@@ -100,7 +100,7 @@ replies_to asked answer acts fault none says fits =
     let is : answer_acts asked answer ++ acts ≡ after_answering answer (done (taken_acts asked ++ acts)) = rw room refl in
     subst (λ (f : Option Code). Replies f asked acts (answer_acts asked answer ++ acts)) (sym none) (answer, says, is ∙ sym left)
 
--- After the write, the query's message is the first one that isn't finished.
+-- After the write, the message of the query is the first one that isn't finished.
 text_left : (asked : Question) (sent answer : List ℕ) (acts : List InstrumentAct) (r : Ready asked sent answer acts)
     → Left (r.query.message ∷ [] ∷ replicate r.query.lines []) (exchange_acts (accepted sent acts))
 text_left asked sent answer acts r = text_comes sent ([] ∷ replicate r.query.lines []) r.query.message (exchange_acts acts) r.left

@@ -1,5 +1,5 @@
--- Behind a call that was answered no whole record is left, and so as many records came to their end
--- as there are: whatever comes next is read on from the tail alone.
+-- If no record is left after an answered call, all records of the stream are finished. Then the
+-- unfinished record at the end of the stream alone determines how further bytes are read.
 use Rattle.std.proofs.Common.{◌≡◌, ℕ, suc, ◌<◌, Bool, true, false, cond, List, [], ◌∷◌, ◌++◌, length, drop, Some, None, slice_get, sym, ap, ◌∙◌, append_assoc, append-nil, arith}
 use Rattle.std.specs.Prelude.{◌||◌, is_some}
 use Rattle.std.proofs.lemmas.List.{length-append, length-drop, append_cancel_right}
@@ -15,9 +15,9 @@ use Rattle.sv_laws.proofs.Cuts.ReadsOn.{resumed_at, records_more}
 use Rattle.sv_laws.proofs.Cuts.BytesBehind.{GoesOn, behind_bare, behind_stream}
 use Rattle.sv_laws.proofs.Cuts.Fed.{Fed, shows, shown_bare}
 
--- ---- without pieces
+-- ---- acts without pieces of bytes
 
--- they show the same
+-- Pieces of bytes change nothing of what a connection's acts show but the stream.
 pub same_bare : (acts : List ConnAct) → SameShown acts (without_pieces acts)
 same_bare [] = assumption
 same_bare (Piece bytes ∷ acts) = let so = same_bare acts in assumption
@@ -25,7 +25,7 @@ same_bare (Replied bytes ∷ acts) =
     let so = same_bare acts in assumption (ap suc so.count, ap (λ (l : List ℕ). l ++ bytes) so.replies)
 same_bare (_ ∷ acts) = let so = same_bare acts in assumption (ap suc so.count)
 
--- ---- the stream goes on
+-- ---- streams that continue
 
 abbrev Longer : List ConnAct → List ConnAct → Type 0
 Longer acts rest = (more : List ℕ) × (stream (acts ++ rest) ≡ stream rest ++ more)
@@ -75,7 +75,8 @@ module _ (c : ℕ) (config : Config) (past : List PlainEvent) (log : List Act) (
       by_test true is = absurd cc
       by_test false is = is
 
-  -- where none is left, each of its records came to its end
+  -- If no record is left to take, the number of finished records is the number of records in the
+  -- stream.
   pub fed_all : drop (records_ended (of c log)) (records_of (stream (of c log))) ≡ []
       → length (records_of (stream (of c log))) ≡ records_ended (of c log)
   fed_all none =

@@ -1,5 +1,5 @@
--- Two logs, in one of which a write was accepted whole, and in the other in two parts: they are the
--- same but for that, and stay so over the same steps.
+-- Two logs: in one a write was accepted whole, in the other it was accepted in two parts. Apart
+-- from that they are the same, and the same steps keep them so.
 use Rattle.std.proofs.Common.{◌≡◌, ◌≢◌, ℕ, Bool, false, List, ◌∷◌, ◌++◌, None, sym, ap, subst, ◌∙◌, inl, inr}
 use Rattle.std.proofs.lemmas.Bool.{cases_eq}
 use Rattle.sv_errors.specs.declared.code.Code.TheVariants.{InputBufferOverrun}
@@ -19,9 +19,9 @@ use Rattle.sv_laws.proofs.Cuts.NoCallTaken.{of_append}
 use Rattle.sv_laws.proofs.Cuts.BytesBehind.{CameBehind, behind_device, behind_others, behind_call}
 use Rattle.sv_laws.proofs.Cuts.Written.{wrote}
 
--- ---- what all connections share
+-- ---- the acts of the device
 
--- the status, and what is told
+-- Both logs give the same status, and lead to the same logs of the interrupt channels.
 record SameTold (acts other : List DeviceAct) : Type 0 where
   status : SameStatus (instrument_acts acts) (instrument_acts other)
   tells : Tells acts other
@@ -49,7 +49,7 @@ told_happened act acts other v = record {
   back = tells_happened act other acts (status_back (instrument_acts acts) (instrument_acts other) v.status) v.back;
 }
 
--- a write that is accepted whole, and in two parts
+-- Accepting a write whole and accepting it in two parts lead to the same state of the device.
 pub parts_shared : (x y : List ℕ) (ended : Bool) (acts : List DeviceAct)
     → SameShared (accepts (x ++ y) ended ∷ acts) (accepts y ended ∷ accepts x false ∷ acts)
 parts_shared x y ended acts =
@@ -58,8 +58,8 @@ parts_shared x y ended acts =
     (told_back (accepts y ended ∷ accepts x false ∷ acts) acts parts) in
     assumption (sym (text_cut x y ended (exchanged (instrument_acts acts))))
 
--- and where it is reported behind the first part, and behind the whole, that the message is too
--- long
+-- The acts after it was reported that the message is too long: after the first part of a write in
+-- one log, after the whole write in the other.
 abbrev pub reports : List DeviceAct → List DeviceAct
 reports acts = Applied (Reported InputBufferOverrun) ∷ Applied (Exchanged Overran) ∷ acts
 
@@ -80,7 +80,8 @@ long_shared x y ended acts =
 
 -- ---- two logs
 
--- beside the one connection, whose calls were others
+-- The device's state and each connection's pending call are the same in both logs. All acts of
+-- connections other than `c` are the same.
 pub record Beside (c : ℕ) (log other : List Act) : Type 0 where
   pub shared : SameShared (device_acts log) (device_acts other)
   pub calls : (d : ℕ) → pending_call (of d log) ≡ pending_call (of d other)
@@ -116,7 +117,7 @@ beside_came c one two log other came also v = record {
   others = λ d ne. behind_others c d one log came ne ∙ v.others d ne ∙ sym (behind_others c d two other also ne);
 }
 
--- ---- where the writes are accepted
+-- ---- after the writes were accepted
 
 pub of_wrote : (c d : ℕ) (call reply bytes : List ℕ) (ended : Bool) (base : List Act) → d ≢ c
     → of d (wrote c call reply bytes ended base) ≡ of d base
@@ -130,7 +131,8 @@ wrote_calls c d call reply bytes ended base same =
     subst (λ (n : ℕ). pending_call (of n (wrote c call reply bytes ended base)) ≡ None) (sym same)
     (ap pending_call (of_mine c (Replied reply) (OnDevice (accepts bytes ended) ∷ On c (CallTaken call) ∷ base)))
 
--- the two logs' writes, over one log
+-- Two logs end with an answered write on connection `c` each. They are `Beside` if their device's
+-- states are the same, and the other connections had the same acts before the writes.
 pub beside_wrote : (c : ℕ) (log other : List Act) (call reply x : List ℕ) (first : Bool) (one : List Act) (also answer y : List ℕ)
     (last : Bool) (two : List Act) (acts both : List DeviceAct)
     → ((d : ℕ) → of d log ≡ of d (wrote c call reply x first one)) → ((d : ℕ) → of d other ≡ of d (wrote c also answer y last two))

@@ -1,4 +1,4 @@
--- A log with bytes of one connection in front of it: nothing else is different.
+-- Logs that only pieces of bytes of one connection are added to: nothing else changes.
 use Rattle.std.proofs.Common.{◌≡◌, ◌≢◌, ℕ, List, [], ◌∷◌, ◌++◌, refl, sym, ap, subst, ◌∙◌}
 use Rattle.std.specs.Prelude.{map}
 use Rattle.sv_history.specs.Act.{Act, ConnAct, Piece, On, of, device_acts}
@@ -46,7 +46,7 @@ behind_bare c base log (pieces, is) = ap without_pieces (behind_own c base log p
 pub behind_call : (c : ℕ) (base log : List Act) → CameBehind c base log → pending_call (of c log) ≡ pending_call (of c base)
 behind_call c base log (pieces, is) = ap pending_call (behind_own c base log pieces is) ∙ (came pieces (of c base)).0.call
 
--- The stream goes on.
+-- The stream of connection `c` in `log` continues its stream in `base`.
 abbrev pub GoesOn : ℕ → List Act → List Act → Type 0
 GoesOn c base log = (more : List ℕ) × (stream (of c log) ≡ stream (of c base) ++ more)
 

@@ -1,5 +1,5 @@
--- Events that feed a connection: bytes come, or its next call is taken, and each call that is taken
--- shows in its acts.
+-- Events that feed a connection: each brings bytes or takes the connection's next call. A call that
+-- was taken is found among the connection's acts.
 use Rattle.std.proofs.Common.{◌≡◌, ℕ, ◌+◌, ◌≤◌, List, [], ◌∷◌, ◌++◌, length, Option, Some, refl, sym, ap, subst, ◌∙◌, inl, inr, ◌⊎◌, arith}
 use Rattle.std.specs.List.{AllByRecursion}
 use Rattle.std.proofs.lemmas.List.{length-append}
@@ -21,7 +21,7 @@ use Rattle.sv_laws.proofs.Cuts.BytesBehind.{CameBehind, behind_none, behind_piec
 
 -- ---- one event
 
--- The connection's next call is taken in the first log, and that leads to the second.
+-- In the log `base` the connection's next call is taken. Then the steps that are due lead to `log`.
 pub record Taking (c : ℕ) (config : Config) (call : List ℕ) (base log : List Act) : Type 0 where
   pub request : Request
   pub polled : ℕ
@@ -58,7 +58,8 @@ fed_event c config (Turn d) past log same (base, polled, channel_log, is_event, 
     (subst (λ (e : ℕ). SettlesIn settles.0 config (own_acts config polled (Turn e) base ++ base) log) same settles.1)
 fed_event c config _ past log same is_log = absurd same
 
--- what shows of a call
+-- The connection's acts are those before the call, the taking of the call, and then acts that take
+-- no call.
 pub shows : (c : ℕ) (config : Config) (call : List ℕ) (base log : List Act) → Taking c config call base log → Follows c call base log
 shows c config call base log taking = follows c call base log (adds_then (On c (CallTaken call) ∷ base) _ log
     (taking_none config taking.polled c call taking.request _ base) (settles_none taking.steps config _ log taking.settles))
@@ -69,7 +70,7 @@ shown_bare c call base log shown = ap without_pieces shown.2 ∙ bare_append sho
 
 -- ---- events without a call
 
--- how many acts there are without pieces
+-- The number of acts of connection `c` that aren't pieces of bytes.
 abbrev count : ℕ → List Act → ℕ
 count c log = length (without_pieces (of c log))
 
@@ -93,7 +94,8 @@ no_fewer c config past (event ∷ events) before log feeding was is_log =
           let more = counted c taken.0 is_log.0 log (shows c config taken.0 is_log.0 log taken.1) in omega (arith, least, more)
     ]
 
--- where no act but pieces was added, only bytes came
+-- If the events added only pieces to the connection's acts, they added only these pieces to the
+-- log.
 pub only_bytes : (c : ℕ) (config : Config) (past events : List PlainEvent) (before log : List Act) → AllByRecursion (IsFeeding c) events
     → IsLogOf config past before → IsLogOf config (events ++ past) log → without_pieces (of c log) ≡ without_pieces (of c before)
     → CameBehind c before log
@@ -111,7 +113,8 @@ only_bytes c config past (event ∷ events) before log feeding was is_log same =
 
 -- ---- events with a call
 
--- Of the events some come first; then this call is taken, and answered so; and then bytes come.
+-- First come the events `earlier`, which lead to `base`. Then the call is taken, and answered with
+-- this reply, which leads to `last`. Then only bytes come, which leads to `log`.
 pub record Fed (c : ℕ) (config : Config) (past : List PlainEvent) (log : List Act) (reply call : List ℕ)
     (rest : List ConnAct) : Type 0 where
   pub earlier : List PlainEvent
@@ -138,7 +141,7 @@ fed_more c config past mid log reply call rest came fed = record {
   came = behind_then c fed.last mid log fed.came came;
 }
 
--- the newest event takes the call
+-- The case that the newest event takes the call.
 fed_last : (c : ℕ) (config : Config) (past earlier : List PlainEvent) (base log : List Act) (reply call bytes : List ℕ)
     (rest : List ConnAct) → AllByRecursion (IsFeeding c) earlier → IsLogOf config (earlier ++ past) base
     → without_pieces (of c log) ≡ Replied reply ∷ CallTaken call ∷ rest → Taking c config bytes base log

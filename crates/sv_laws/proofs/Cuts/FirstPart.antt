@@ -1,5 +1,5 @@
--- Behind a log at which nothing is due a write is accepted that ends no message: then nothing is
--- due, but that a message which has become too long is reported.
+-- A write is accepted when no step is due, and it ends no message. Then the only step that can
+-- become due is to report a message that has become too long.
 use Rattle.std.proofs.Common.{◌≡◌, ◌≢◌, ℕ, zero, suc, ◌+◌, ◌≤◌, Bool, true, false, List, [], ◌∷◌, ◌++◌, Option, Some, None, refl, sym, ap, subst, ◌∙◌, inl, inr, ◌⊎◌, append_assoc}
 use Rattle.std.specs.Prelude.{map, not, ◌&&◌}
 use Rattle.std.specs.List.{AllByRecursion}
@@ -34,7 +34,7 @@ use Rattle.sv_laws.proofs.EveryLog.Steps.{Rested}
 use Rattle.sv_laws.proofs.Cuts.Written.{wrote}
 use Rattle.sv_logs.proofs.Since.{both_true}
 
--- ---- where only the instrument's exchange, its queue and its status changed
+-- ---- logs that differ only in message exchange, the error queue and the status
 
 pub record Calm (acts base : List DeviceAct) : Type 0 where
   pub links : link_acts acts ≡ link_acts base
@@ -42,7 +42,8 @@ pub record Calm (acts base : List DeviceAct) : Type 0 where
   pub clock : ticks acts ≡ ticks base
   pub scans : scan_acts (instrument_acts acts) ≡ scan_acts (instrument_acts base)
 
--- What was settled: nothing is due, no read or write waits, and a poll would give this.
+-- No step is due, no read or write waits for the device, and a poll of the status byte would return
+-- `polled`.
 pub record Resting (config : Config) (log : List Act) : Type 0 where
   pub rests : Rested config log
   pub none : NoneWaits (wait_acts (device_acts log))
@@ -103,7 +104,7 @@ no_time config log base new rest v (c, wait, oldest, for, is) = rest.times (gave
   refl,
 )
 
--- then only a step of the instrument is due, if any
+-- If a step is due, it is a step of message exchange.
 pub calm_step : (config : Config) (log base new : List Act) → Resting config base → Calm (device_acts log) (device_acts base)
     → IsNext config log new → InstrumentDoes IsStep log new
 calm_step config log base new rest v (inl fires) = absurd (no_fire config log base new rest.rests v fires)
@@ -136,7 +137,7 @@ released_adds awaited.Nothing log = (Exchanged UnitDone ∷ [], refl)
 released_adds awaited.One log = answered_more (Exchanged UnitDone) _ log
 released_adds awaited.Readings log = answered_more (Exchanged UnitDone) _ log
 
--- would be released if the instrument were idle
+-- If no step is due while a unit is held, a measurement is under way.
 pub held_waits : (config : Config) (base : List Act) (what : Awaited) → Rested config base
     → held_unit (instrument_acts (device_acts base)) ≡ Some what
     → is_idle (instrument_acts (device_acts base)) ≡ true → ⊥
@@ -149,9 +150,9 @@ held_waits config base what rest holds idle =
       refl,
     )
 
--- ---- where no message has ended, and no unit is held
+-- ---- no message has ended, and no unit is held
 
--- The current message is too long, and that wasn't reported.
+-- The current message is too long, and this wasn't reported yet.
 abbrev pub is_overlong : List ExchangeAct → Bool
 is_overlong acts = is_long acts && not (has_overrun (current acts))
 
@@ -171,13 +172,13 @@ step_long log new unended none step =
       | inr short ↦ absurd (subst (λ (d : Due). StepOf None d log new) (due_none (exchanged log) unended short) free)
     ]
 
--- ---- behind a write
+-- ---- after a write
 
--- a message that is too long is reported
+-- The log after it was reported that the message is too long.
 abbrev pub reported : List Act → List Act
 reported log = OnDevice (Applied (Reported InputBufferOverrun)) ∷ OnDevice (Applied (Exchanged Overran)) ∷ log
 
--- No unit is held, and with these bytes the message becomes too long.
+-- No unit is held, and these bytes make the message too long.
 abbrev pub BecomesLong : List ℕ → List DeviceAct → Type 0
 BecomesLong bytes acts = (held_unit (instrument_acts acts) ≡ None) × (is_overlong (Accepted bytes false ∷ exchange_acts acts) ≡ true)
 
@@ -185,7 +186,7 @@ never_both : (b : Bool) → (b && false) ≡ true → ⊥
 never_both true e = cc
 never_both false e = cc
 
--- that is due once
+-- The report is made only once: after it no step is due.
 reported_once : (config : Config) (c : ℕ) (call reply bytes : List ℕ) (base log : List Act) (steps : ℕ) → Resting config base
     → AllByRecursion (λ b. b ≢ 10) bytes → has_ended (exchange_acts (device_acts base)) ≡ false
     → held_unit (instrument_acts (device_acts base)) ≡ None
@@ -198,7 +199,8 @@ reported_once config c call reply bytes base log (suc steps) rest line unended n
     let long = step_long acts (step.0 ++ acts) (ends_none bytes (exchange_acts (device_acts base)) line ∙ unended) none step.1 in
     absurd (never_both (is_long (exchanged acts)) long.0)
 
--- what is due behind it
+-- The log after the first part of a write: nothing was due; or the part made the message too long,
+-- and this was reported.
 abbrev pub FirstPart : ℕ → List ℕ → List ℕ → List ℕ → List Act → List Act → Type 0
 FirstPart c call reply bytes base log = (log ≡ wrote c call reply bytes false base)
     ⊎ ((log ≡ reported (wrote c call reply bytes false base)) × BecomesLong bytes (device_acts base))
@@ -233,7 +235,7 @@ first_part config c call reply bytes base log (suc steps) rest line unended (mid
     (calm_step config (wrote c call reply bytes false base) base mid rest
     (record { links = refl; calls = refl; clock = refl; scans = refl }) next) more
 
--- ---- with more bytes
+-- ---- the first part and the whole write
 
 long_both : (x y : List ℕ) (ended : Bool) (acts : List ExchangeAct) → is_overlong (Accepted x false ∷ acts) ≡ true
     → is_overlong (Accepted (x ++ y) ended ∷ acts) ≡ true
@@ -241,7 +243,7 @@ long_both x y ended acts long =
     let parts = (both_true (is_long (Accepted x false ∷ acts)) (not (has_overrun (current acts)))).0 long in
     rw (long_too x y ended acts parts.0) parts.1
 
--- the first step is the same
+-- If the first part makes the message too long, the first step after the whole write reports it.
 pub whole_long : (config : Config) (c : ℕ) (call reply x y : List ℕ) (ended : Bool) (base : List Act) → Resting config base
     → BecomesLong x (device_acts base)
     → IsNext config (wrote c call reply (x ++ y) ended base) (reported (wrote c call reply (x ++ y) ended base))

@@ -1,4 +1,4 @@
--- What is so of two logs, and stays so behind the same acts, stays so over the same events.
+-- A relation of two logs that the same further acts keep is kept by the same further events.
 use Rattle.std.proofs.Common.{◌≡◌, ℕ, zero, suc, List, ◌∷◌, ◌++◌, sym, ap, subst, ◌∙◌}
 use Rattle.sv_layers.specs.StatusByte.{PolledBit}
 use Rattle.sv_layers.proofs.PolledByte.{one_word}
@@ -15,7 +15,8 @@ use Rattle.sv_laws.proofs.Cuts.SharedEvents.{SameNext, own_shared}
 
 -- ---- the steps that are due
 
--- Logs that are so have the same calls without an answer, and are so behind the same acts.
+-- Related logs have the same pending calls and the same state of the device, and stay related when
+-- the same acts are added to both.
 pub record IsKept (AreSo : List Act → List Act → Type 0) : Type 0 where
   pub calls : (log other : List Act) → AreSo log other → SameCalls log other
   pub more : (adds log other : List Act) → AreSo log other → AreSo (adds ++ log) (adds ++ other)

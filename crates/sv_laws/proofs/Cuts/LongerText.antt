@@ -1,4 +1,4 @@
--- More program text makes no message shorter, and bytes without a new line end none.
+-- More program text makes no message shorter. Bytes without a new line end no message.
 use Rattle.std.proofs.Common.{◌≡◌, ◌≢◌, ℕ, zero, suc, ◌+◌, ◌<◌, ◌≤◌, Bool, true, false, cond, List, [], ◌∷◌, ◌++◌, length, map, refl, sym, ap, subst, ◌∙◌, append-nil, arith, lt-ltb}
 use Rattle.std.specs.Prelude.{slice_index_or, nat_lt, ◌==◌}
 use Rattle.std.specs.List.{AllByRecursion}
@@ -10,11 +10,11 @@ use Rattle.sv_laws.proofs.Cuts.SameExchange.{text_cut}
 
 -- ---- messages
 
--- how long a part is
+-- The length of the part at place `k`; 0 if there is no such part.
 abbrev pub size_at : List (List ℕ) → ℕ → ℕ
 size_at parts k = length (slice_index_or parts k [])
 
--- No part is longer than that at the same place.
+-- No part is longer than the part at the same place in the other list.
 abbrev pub Within : List (List ℕ) → List (List ℕ) → Type 0
 Within parts others = (k : ℕ) → size_at parts k ≤ size_at others k
 
@@ -81,7 +81,7 @@ as_many bytes (Byte b ∷ old) none = at (b == 10) (as_many bytes old none)
     at false same = onto_many b (messages (old ++ map Byte bytes)) (messages_some (old ++ map Byte bytes)) ∙ same
         ∙ sym (onto_many b (messages old) (messages_some old))
 
--- ---- what is accepted
+-- ---- after bytes were accepted
 
 pub ends_none : (bytes : List ℕ) (acts : List ExchangeAct) → NoLine bytes → has_ended (Accepted bytes false ∷ acts) ≡ has_ended acts
 ends_none bytes acts none =
@@ -95,7 +95,7 @@ longer x y ended acts =
     (text_cut x y ended acts)
     (none_longer (text (Accepted x false ∷ acts)) (map Byte y ++ end_mark ended) (messages_finished acts))
 
--- where the first part is too long, the whole is
+-- If the first part of a write makes the message too long, the whole write does too.
 pub long_too : (x y : List ℕ) (ended : Bool) (acts : List ExchangeAct) → is_long (Accepted x false ∷ acts) ≡ true
     → is_long (Accepted (x ++ y) ended ∷ acts) ≡ true
 long_too x y ended acts long =

@@ -1,5 +1,5 @@
--- What follows a call in its event takes no call: neither what the call does, nor the steps that
--- are due then.
+-- After an event took a call, neither the effect of this call nor the steps that are then due take
+-- another call.
 use Rattle.std.proofs.Common.{◌≡◌, ℕ, true, false, List, [], ◌∷◌, ◌++◌, Option, Some, None, refl, sym, ap, subst, ◌∙◌, inl, inr, append_assoc}
 use Rattle.std.specs.Prelude.{map, ⊤, ◌==◌}
 use Rattle.std.specs.List.{AllByRecursion}
@@ -56,7 +56,7 @@ none_ended c does None = tt
 
 -- ---- steps
 
--- Acts that take no call make one log of another.
+-- The log `new` continues `log` with acts that take no call.
 abbrev pub AddsNoCall : List Act → List Act → Type 0
 AddsNoCall log new = (adds : List Act) × (new ≡ adds ++ log) × AllByRecursion IsNoCall adds
 
@@ -67,7 +67,7 @@ adds_then log mid new one other = (
   all_join IsNoCall other.0 one.0 other.2 one.2,
 )
 
--- behind such acts come such
+-- If acts that take no call are added to such a log, it still is such a log.
 adds_more : (base adds log : List Act) → AllByRecursion IsNoCall adds → AddsNoCall base log → AddsNoCall base (adds ++ log)
 adds_more base adds log none so = adds_then base log (adds ++ log) so (adds, refl, none)
 
@@ -81,7 +81,7 @@ pub settles_none : (n : ℕ) (config : Config) (log new : List Act) → SettlesI
 settles_none n config log new =
     each_settled config (AddsNoCall log) (step_keeps config _ (steps_keep config log)) n log new ([], refl, tt)
 
--- ---- what a call does
+-- ---- the effect of a call
 
 none_request : (config : Config) (polled c : ℕ) (request : Request) (acts : List DeviceAct)
     → AllByRecursion IsOther (request_effect config polled c request acts).own
@@ -125,7 +125,8 @@ none_bare (_ ∷ acts) h = (tt, none_bare acts h.1)
 pub bare_append : (a b : List ConnAct) → without_pieces (a ++ b) ≡ without_pieces a ++ without_pieces b
 bare_append a b = filter-append (elim [ Piece bytes ↦ false | _ ↦ true ]) a b
 
--- Behind a call that is taken, a connection's acts without pieces.
+-- The connection's acts in `log` are those in `base`, then the taking of this call, and then acts
+-- that take no call.
 abbrev pub Follows : ℕ → List ℕ → List Act → List Act → Type 0
 Follows c bytes base log = (acts : List ConnAct) × AllByRecursion IsOther (without_pieces acts)
     × (of c log ≡ acts ++ CallTaken bytes ∷ of c base)
@@ -138,7 +139,8 @@ follows c bytes base log (adds, is, none) = (
       ∙ ap (λ (l : List ConnAct). of c adds ++ l) (of_mine c (CallTaken bytes) base),
 )
 
--- such acts, and the newest two of a connection, of which one takes a call
+-- If no call was taken after the call `bytes`, and the newest two acts are the taking of a call and
+-- then a reply, that call is `bytes`, and the reply is the only act since.
 pub taken_once : (acts : List ConnAct) (bytes reply call : List ℕ) (base rest : List ConnAct) → AllByRecursion IsOther acts
     → acts ++ CallTaken bytes ∷ base ≡ Replied reply ∷ CallTaken call ∷ rest
     → (acts ≡ Replied reply ∷ []) × (bytes ≡ call) × (base ≡ rest)
@@ -149,7 +151,6 @@ taken_once (act ∷ []) bytes reply call base rest none same =
 taken_once (act ∷ CallTaken other ∷ acts) bytes reply call base rest none same = absurd none.1.0
 taken_once (act ∷ _ ∷ acts) bytes reply call base rest none same = absurd cc
 
--- a connection's acts without pieces, behind others
 pub bare_of : (c : ℕ) (adds log : List Act)
     → without_pieces (of c (adds ++ log)) ≡ without_pieces (of c adds) ++ without_pieces (of c log)
 bare_of c adds log = ap without_pieces (of_append c adds log) ∙ bare_append (of c adds) (of c log)

@@ -1,5 +1,5 @@
--- What is read of a stream with more bytes behind it: its own records, and what is read on from
--- where it ends.
+-- What is read of a stream to which bytes are appended: the records of the stream, and then what is
+-- read from its tail on.
 use Rattle.std.proofs.Common.{◌≡◌, ℕ, zero, suc, ◌+◌, ◌-◌, ◌%◌, ◌<◌, ◌^◌, Bool, true, false, leb, List, [], ◌∷◌, ◌++◌, length, take, drop, refl, sym, ap, ◌∙◌, inl, inr, append_assoc, arith, lt-ltb, le-ltb}
 use Rattle.std.specs.Prelude.{nat_lt, if◌then◌else◌}
 use Rattle.std.specs.Int.{w32, from_be_bytes}
@@ -10,7 +10,7 @@ use Rattle.sv_rpc.specs.Record.{Tail, Header, Data, TooLong}
 use Rattle.sv_rpc.specs.Stream.{Reading, read_on, read_data, read, reading, records_of, tail_of}
 use Rattle.sv_rpc.specs.Limits.{max_record}
 
--- ---- how many fragments may be read changes nothing, where they are enough
+-- ---- the limit on fragments makes no difference if it is large enough
 
 abbrev SameRead : ℕ → ℕ → Type 0
 SameRead n m = (payload bytes : List ℕ) → length bytes < n → length bytes < m → read n payload bytes ≡ read m payload bytes
@@ -44,7 +44,7 @@ read_any (suc n) (suc m) payload bytes less also = elim (cases_lt (length bytes)
 
 -- ---- more bytes
 
--- what is read behind a tail
+-- The records and the tail that are read from a tail and the bytes after it.
 abbrev pub resumed_at : Tail → List ℕ → Reading
 resumed_at (Header payload header) more = read (length (header ++ more) + 1) payload (header ++ more)
 resumed_at (Data payload missing last) more =
@@ -52,7 +52,7 @@ resumed_at (Data payload missing last) more =
     else read_on (read (length more + 1)) (payload ++ take missing more) last (drop missing more)
 resumed_at TooLong more = ([], TooLong)
 
--- both together
+-- The records and the tail that are read from a reading and the bytes after it.
 abbrev pub resumed : Reading → List ℕ → Reading
 resumed part more = (part.0 ++ (resumed_at part.1 more).0, (resumed_at part.1 more).1)
 
@@ -65,7 +65,7 @@ on_more : (n : ℕ) (payload : List ℕ) (last : Bool) (rest more : List ℕ) �
 on_more n payload true rest more again less = rw (again [] rest less) refl
 on_more n payload false rest more again less = again payload rest less
 
--- the bytes behind a header don't reach its length
+-- The case that the bytes after a header are fewer than the fragment's data.
 part_more : (n : ℕ) (payload : List ℕ) (last : Bool) (size : ℕ) (rest more : List ℕ) → length (rest ++ more) < n → length rest < size
     → (if nat_lt (length (rest ++ more)) size then ([], Data (payload ++ (rest ++ more)) (size - length (rest ++ more)) last)
     else read_on (read n) (payload ++ take size (rest ++ more)) last (drop size (rest ++ more)))
@@ -141,11 +141,12 @@ reading_more stream more =
 pub records_more : (stream more : List ℕ) → records_of (stream ++ more) ≡ records_of stream ++ (resumed_at (tail_of stream) more).0
 records_more stream more = ap (λ (r : Reading). r.0) (reading_more stream more)
 
--- Two streams of which the same is read: the same is read with more bytes too.
+-- If the same is read of two streams, the same is read of both after the same bytes are appended.
 pub read_alike : (one two more : List ℕ) → reading one ≡ reading two → reading (one ++ more) ≡ reading (two ++ more)
 read_alike one two more same = reading_more one more ∙ ap (λ (r : Reading). resumed r more) same ∙ sym (reading_more two more)
 
--- Two streams with the same tail: behind their records the same are read, whatever comes.
+-- If two streams have the same tail, the same further records are read of both after the same bytes
+-- are appended.
 pub same_behind : (one two : List ℕ) (n m : ℕ) → length (records_of one) ≡ n → length (records_of two) ≡ m → tail_of one ≡ tail_of two
     → (more : List ℕ) → drop n (records_of (one ++ more)) ≡ drop m (records_of (two ++ more))
 same_behind one two n m first second same more =

@@ -1,4 +1,5 @@
--- Two histories that differ only in how bytes that come, or the records in them, are cut.
+-- Two histories that differ only in how bytes are split into pieces, and records into fragments,
+-- send the same bytes: the law `RecordsCut`.
 use Rattle.std.proofs.Common.{◌≡◌, ℕ, List, [], ◌∷◌, ◌++◌, map, refl, ap, subst, ◌∙◌}
 use Rattle.sv_rpc.specs.Stream.{reading}
 use Rattle.sv_links.specs.Channels.{ChannelAct}
@@ -23,7 +24,7 @@ use Rattle.sv_laws.proofs.Cuts.KeptLogs.{IsKept, event_so}
 use Rattle.sv_laws.proofs.Facts.{moved}
 use Rattle.sv_laws.proofs.Cuts.SameView.{Alike, next_call_same, next_request_same, alike_none, alike_back, alike_more, came_on, alike_came}
 
--- ---- bytes that come make no step due
+-- ---- when only bytes come, no step becomes due
 
 came_of : (c : ℕ) (config : Config) (pieces : List (List ℕ)) (past : List PlainEvent) (log : List Act)
     → IsLogOf config (map (Bytes c) pieces ++ past) log → (base : List Act) × IsLogOf config past base × (log ≡ came_on c pieces ++ base)
@@ -71,7 +72,7 @@ logs_alike config (Pieces {past} {other} c pieces others base is_log same recut)
     (alike_came c pieces others one.0 two.0
     (reads ∙ read_alike (stream (of c one.0)) (stream (of c two.0)) (join_pieces others) (alike.each c).streams) alike)
 
--- ---- what they send
+-- ---- the bytes that are sent
 
 sent_alike : (port : Port) (channel_log : List ChannelAct) (log other : List Act) → Alike log other
     → all_sent port channel_log log ≡ all_sent port channel_log other

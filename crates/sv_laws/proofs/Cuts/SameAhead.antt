@@ -1,5 +1,5 @@
--- Two connections that took a different number of calls, and are the same ahead of these: the same
--- calls come next, whatever comes.
+-- Two connections of which different numbers of records are finished, but the records that follow
+-- are the same: so the next calls are the same, whatever bytes come.
 use Rattle.std.proofs.Common.{inl, inr, ◌≡◌, ℕ, zero, suc, ◌+◌, List, [], ◌∷◌, ◌++◌, drop, slice_get, refl, sym, ap, ◌∙◌, append_assoc, append-nil, drop-drop, arith}
 use Rattle.std.specs.Prelude.{◌==◌}
 use Rattle.std.proofs.lemmas.Bool.{cases_Bool}
@@ -9,16 +9,18 @@ use Rattle.sv_history.specs.Connection.{next_call, open_role, pending_call, reco
 use Rattle.sv_history.specs.Request.{next_request}
 use Rattle.sv_laws.specs.Adding.{all_replies}
 
--- Whatever comes, the same records are not ended.
+-- The records that aren't finished are the same, whatever bytes come next.
 abbrev pub Ahead : List ConnAct → List ConnAct → Type 0
 Ahead acts others = (more : List ℕ)
     → drop (records_ended acts) (records_of (stream acts ++ more)) ≡ drop (records_ended others) (records_of (stream others ++ more))
 
--- Behind these bytes of replies both sent the same.
+-- One connection has sent `first`, the other `second`, and after that both have sent the same
+-- bytes.
 abbrev pub Sends : List ℕ → List ℕ → List ℕ → List ℕ → Type 0
 Sends first second one two = (sent : List ℕ) × (one ≡ first ++ sent) × (two ≡ second ++ sent)
 
--- Ahead of what they took, and but for what they sent first, both are the same.
+-- The connections are the same but for the records that are finished, and for the replies `first`
+-- and `second` at their beginning.
 pub record SameAhead (first second : List ℕ) (acts others : List ConnAct) : Type 0 where
   pub role : open_role acts ≡ open_role others
   pub call : pending_call acts ≡ pending_call others
@@ -29,12 +31,11 @@ pub record SameAhead (first second : List ℕ) (acts others : List ConnAct) : Ty
 one_more : (n : ℕ) (a : List (List ℕ)) → drop 1 (drop n a) ≡ drop (suc n) a
 one_more n a = drop-drop 1 n a ∙ ap (λ (k : ℕ). drop k a) (let next : n + 1 ≡ suc n = omega arith in next)
 
--- a record more has ended
+-- One more record is finished.
 one_fewer : (acts others : List ConnAct) → Ahead acts others → Ahead (Faulted ∷ acts) (Faulted ∷ others)
 one_fewer acts others same more = sym (one_more (records_ended acts) (records_of (stream acts ++ more)))
     ∙ ap (λ (l : List (List ℕ)). drop 1 l) (same more) ∙ one_more (records_ended others) (records_of (stream others ++ more))
 
--- the same act
 pub ahead_act : (first second : List ℕ) (act : ConnAct) (acts others : List ConnAct) → SameAhead first second acts others
     → SameAhead first second (act ∷ acts) (act ∷ others)
 ahead_act first second (Piece bytes) acts others v = assumption (λ (more : List ℕ).
@@ -76,7 +77,7 @@ pub next_request_ahead : (first second : List ℕ) (acts others : List ConnAct) 
     → next_request acts ≡ next_request others
 next_request_ahead first second acts others v = rw (next_call_ahead first second acts others v, v.role) refl
 
--- ---- the same acts in front of two logs
+-- ---- the same acts added to both logs
 
 pub ahead_more : (first second : List ℕ) (d : ℕ) (adds log other : List Act) → SameAhead first second (of d log) (of d other)
     → SameAhead first second (of d (adds ++ log)) (of d (adds ++ other))

@@ -1,5 +1,5 @@
--- What all connections share is the same in two logs but for where program text was accepted: a
--- call comes to the same in both.
+-- Two logs in which the state of the device is the same, though program text was accepted in other
+-- writes: the same call has the same effect after both.
 use Rattle.std.proofs.Common.{◌≡◌, ℕ, ◌+◌, Bool, true, false, List, [], ◌∷◌, ◌++◌, refl, sym, ap, subst, ◌∙◌}
 use Rattle.std.specs.Prelude.{◌↔◌}
 use Rattle.sv_links.specs.Links.{LinkAct}
@@ -25,7 +25,6 @@ pub record SameDevice (acts other : List DeviceAct) : Type 0 where
   pub instrument : SameInstrument (instrument_acts acts) (instrument_acts other)
   pub clock : ticks acts ≡ ticks other
 
--- one log
 pub device_same : (acts : List DeviceAct) → SameDevice acts acts
 device_same acts = record {
   links = refl;
@@ -35,7 +34,6 @@ device_same acts = record {
   clock = refl;
 }
 
--- the same act
 pub device_act : (act : DeviceAct) (acts other : List DeviceAct) → SameDevice acts other → SameDevice (act ∷ acts) (act ∷ other)
 device_act (Linked act) acts other v = assumption (ap (λ (l : List LinkAct). act ∷ l) v.links)
 device_act (Waited act) acts other v = assumption (ap (λ (l : List WaitAct). act ∷ l) v.waits)
@@ -53,9 +51,9 @@ pub device_more : (adds acts other : List DeviceAct) → SameDevice acts other �
 device_more [] acts other v = v
 device_more (act ∷ adds) acts other v = device_act act (adds ++ acts) (adds ++ other) (device_more adds acts other v)
 
--- ---- what is told to interrupt channels
+-- ---- the log of the interrupt channels
 
--- What the one tells, the other does.
+-- Each log of the interrupt channels that the acts of the one lead to is one for the other too.
 abbrev pub Tells : List DeviceAct → List DeviceAct → Type 0
 Tells acts other = (channel_log : List ChannelAct) → HearsOf acts channel_log → HearsOf other channel_log
 
@@ -74,7 +72,7 @@ tells_act (Applied act) acts other v tells channel_log hears =
     tells_happened act acts other v.instrument.status tells channel_log hears
 tells_act Ticked acts other v tells channel_log hears = tells channel_log hears
 
--- what is accepted tells nothing
+-- The act that accepts the bytes of a write. It leaves the log of the interrupt channels as it is.
 abbrev pub accepts : List ℕ → Bool → DeviceAct
 accepts bytes ended = Applied (Exchanged (Accepted bytes ended))
 
@@ -118,7 +116,7 @@ polled_alike polled acts other v said = λ k.
     let same = polled_same k (instrument_acts acts) (instrument_acts other) v.instrument.status in
     ((λ b. same.0 ((said k).0 b)), (λ p. (said k).1 (same.1 p)))
 
--- what a call rests on
+-- All that determines the effect of a call of connection `c` is the same.
 pub alike_ground : (c : ℕ) (acts other : List DeviceAct) → SameDevice acts other → SameGround c acts other
 alike_ground c acts other v = record {
   ended = ended_alike acts other v;

@@ -1,18 +1,18 @@
--- Two lists of what happened to messages that are the same but for where program text was accepted.
+-- Two lists of acts of message exchange that are the same but for how program text was accepted.
 use Rattle.std.proofs.Common.{◌≡◌, ℕ, suc, ◌+◌, Bool, false, cond, List, [], ◌∷◌, ◌++◌, map, refl, sym, ap, ◌∙◌, inl, inr, append_assoc, append-nil}
 use Rattle.std.proofs.lemmas.Bool.{cases_Bool}
 use Rattle.std.proofs.lemmas.List.{map-append}
 use Rattle.sv_exchange.specs.Exchange.{ExchangeAct, Accepted, TextDropped, UnitDone, Answered, Finished, ResponseRead, Symbol, Byte, end_mark, text, messages_finished, current, units_done, has_overrun, has_dropped, all_answers, answers, message, has_ended, joined_answers, renews, new_response, bytes_read, response, is_something, next_unit, due}
 use Rattle.sv_logs.specs.Since.{since, newest}
 
--- the response as it was when it began, and how many bytes were read since
+-- The response as it was before any byte of it was read, and how many bytes of it were read.
 abbrev whole_response : List ExchangeAct → List ℕ
 whole_response acts = new_response (newest renews acts)
 
 abbrev read_since : List ExchangeAct → ℕ
 read_since acts = bytes_read (since renews acts)
 
--- what is found without a look at the text
+-- All that is determined without the program text is the same.
 pub record SameExchange (acts other : List ExchangeAct) : Type 0 where
   pub count : messages_finished acts ≡ messages_finished other
   pub done : units_done (current acts) ≡ units_done (current other)
@@ -25,7 +25,7 @@ pub record SameExchange (acts other : List ExchangeAct) : Type 0 where
 pub exchange_same : (acts : List ExchangeAct) → SameExchange acts acts
 exchange_same acts = assumption
 
--- text is accepted on one side
+-- Accepting program text in one of the lists keeps this.
 pub exchange_accepted : (bytes : List ℕ) (ended : Bool) (acts other : List ExchangeAct) → SameExchange acts other
     → SameExchange (Accepted bytes ended ∷ acts) other
 exchange_accepted bytes ended acts other v = assumption
@@ -33,7 +33,7 @@ exchange_accepted bytes ended acts other v = assumption
 pub answers_same : (acts other : List ExchangeAct) → SameExchange acts other → answers acts ≡ answers other
 answers_same acts other v = rw (v.dropped, v.given) refl
 
--- a message is finished: its answers become the response, if it had any
+-- When a message is finished, its answers become the response, if it has any.
 whole_finished : (acts : List ExchangeAct)
     → whole_response (Finished ∷ acts) ≡ cond (is_something (answers acts)) (joined_answers (answers acts) ++ 10 ∷ []) (whole_response acts)
 whole_finished acts = elim (cases_Bool (is_something (answers acts))) [ inl e ↦ rw e refl | inr e ↦ rw e refl ]
@@ -48,7 +48,6 @@ exchange_finished acts other v = assumption (
   read_finished acts ∙ rw (answers_same acts other v, v.read) refl ∙ sym (read_finished other),
 )
 
--- the same act
 pub exchange_act : (act : ExchangeAct) (acts other : List ExchangeAct) → SameExchange acts other → SameExchange (act ∷ acts) (act ∷ other)
 exchange_act UnitDone acts other v = assumption (ap (λ (n : ℕ). suc n) v.done)
 exchange_act (Answered answer) acts other v = assumption (ap (λ (l : List (List ℕ)). l ++ answer ∷ []) v.given)
@@ -61,13 +60,13 @@ response_same acts other v = rw (v.read, v.whole) refl
 
 -- ---- the text
 
--- the same act, behind the same text
+-- The text stays the same after the same act in both lists.
 pub text_act : (act : ExchangeAct) (acts other : List ExchangeAct) → text acts ≡ text other → text (act ∷ acts) ≡ text (act ∷ other)
 text_act (Accepted bytes ended) acts other same = ap (λ (l : List Symbol). l ++ (map Byte bytes ++ end_mark ended)) same
 text_act TextDropped acts other same = refl
 text_act _ acts other same = same
 
--- text that is accepted in two writes
+-- The text of a write that is accepted in two parts is the text of the whole write.
 cut_symbols : (t : List Symbol) (x y : List ℕ) (e : List Symbol)
     → (t ++ (map Byte x ++ [])) ++ (map Byte y ++ e) ≡ t ++ (map Byte (x ++ y) ++ e)
 cut_symbols t x y e = ap (λ (l : List Symbol). (t ++ l) ++ (map Byte y ++ e)) (append-nil (map Byte x))

@@ -1,4 +1,4 @@
--- A step of the instrument adds the same acts to two logs that are the same but for where program
+-- A step of the instrument adds the same acts to two logs that are the same but for how program
 -- text was accepted.
 use Rattle.std.proofs.Common.{◌≡◌, ℕ, Bool, true, false, List, [], ◌∷◌, ◌++◌, Option, Some, None, Result, Ok, Err, refl, sym, ap, subst, ◌∙◌, append_assoc}
 use Rattle.std.specs.Prelude.{◌↔◌, codes, pos, length, decimal, if◌then◌else◌}
@@ -55,7 +55,6 @@ holds_act (Exchanged TextDropped) log other same = refl
 holds_act Purged log other same = refl
 holds_act _ log other same = same
 
--- one log
 pub instrument_same : (log : List Act) → SameInstrument log log
 instrument_same log = record { status = status_same log; texts = refl; holds = refl }
 
@@ -70,7 +69,8 @@ pub instrument_more : (adds log other : List Act) → SameInstrument log other �
 instrument_more [] log other v = v
 instrument_more (act ∷ adds) log other v = instrument_act act (adds ++ log) (adds ++ other) (instrument_more adds log other v)
 
--- The acts that lead from the one log to a new one lead from the other to what is such there.
+-- The acts that lead from `log` to `new` can be added to `other` too, and `IsSuch` holds of the
+-- result.
 abbrev AddsAlike : List Act → List Act → List Act → (List Act → Type 0) → Type 0
 AddsAlike log other new IsSuch = (adds : List Act) × (new ≡ adds ++ log) × IsSuch (adds ++ other)
 

@@ -1,5 +1,5 @@
--- Two logs of the instrument that are the same but for where program text was accepted: no search
--- of its status tells them apart.
+-- Two logs of the instrument that are the same but for how program text was accepted have the same
+-- status byte and the same registers.
 use Rattle.std.proofs.Common.{◌≡◌, ℕ, Bool, true, false, List, [], ◌∷◌, refl, sym, ap, ◌∙◌, inl, inr, arith}
 use Rattle.std.specs.Prelude.{◌↔◌, ◌&&◌, ◌||◌}
 use Rattle.std.specs.Int.{bit_at}
@@ -29,11 +29,12 @@ use Rattle.sv_laws.proofs.Cuts.SameExchange.{SameExchange, exchange_same, exchan
 
 -- ---- two logs
 
--- whether a bit passed its filter after the last clearing, by what the measurement tells a register
+-- Whether an event bit is set in a register, if only the condition bits of the scanner count: a
+-- transition passed its filter since the register was last cleared.
 abbrev stood : RegisterName → ℕ → List Act → Bool
 stood name k log = is_since (passes (word name) name k) (leaves name) log
 
--- All searches but that for a request for service find the same.
+-- The two logs agree on everything but the pending request for service.
 pub record SameParts (log other : List Act) : Type 0 where
   pub scanned : scan_acts log ≡ scan_acts other
   pub queued : queue_acts log ≡ queue_acts other
@@ -48,7 +49,7 @@ pub record SameParts (log other : List Act) : Type 0 where
   pub stands : (k : ℕ) → standard.Stands k log ↔ standard.Stands k other
   pub exchange : SameExchange (exchange_acts log) (exchange_acts other)
 
--- So does that one.
+-- They agree on the pending request for service too.
 pub record SameStatus (log other : List Act) : Type 0 where
   pub parts : SameParts log other
   pub open parts use *
@@ -68,7 +69,8 @@ idle_same log other same = rw same refl
 
 -- ---- the status byte
 
--- Some event stands that is enabled.
+-- A summary bit is set if some event bit is set and enabled. The bit is the same if the events and
+-- the enables are the same.
 summary_same : (P Q : ℕ → Type 0) (mask also : ℕ) → mask ≡ also → ((k : ℕ) → P k ↔ Q k)
     → ((k : ℕ) × P k × (bit_at mask k ≡ 1)) ↔ ((k : ℕ) × Q k × (bit_at also k ≡ 1))
 summary_same P Q mask also same events = (
@@ -158,7 +160,7 @@ kept_act : (act : Act) (log other : List Act) → standard.NotCleared (act ∷ l
 kept_act (StatusChanged ReadStandard) log other = unchanged
 kept_act _ log other = unchanged
 
--- ---- all searches behind the same act
+-- ---- the same act in both logs
 
 parts_act : (act : Act) (log other : List Act) → SameParts log other → SameParts (act ∷ log) (act ∷ other)
 parts_act act log other v =
@@ -190,7 +192,7 @@ status_act act log other v =
     let parts = parts_act act log other v.parts in
     record { parts = parts; request = request_act act log other parts v.parts v.request }
 
--- ---- text is accepted in the one log
+-- ---- text that is accepted in one of the logs
 
 abbrev accepted : List ℕ → Bool → Act
 accepted bytes ended = Exchanged (Accepted bytes ended)
@@ -245,7 +247,7 @@ request_over bytes ended log =
     since_over Reason Lasts (accepted bytes ended) log (λ h. h.2 ((asks_same h.0 _ _ now).0 h.1))
     (λ s. (masters_same _ _ now).1 (lasts_master log (s.kept 0 (omega arith))))
 
--- all searches behind it
+-- Accepting text in one of the logs keeps the status the same.
 pub status_accepted : (bytes : List ℕ) (ended : Bool) (log other : List Act) → SameStatus log other
     → SameStatus (accepted bytes ended ∷ log) other
 status_accepted bytes ended log other v = record {
@@ -253,14 +255,14 @@ status_accepted bytes ended log other v = record {
   request = then_same (request_over bytes ended log) v.request;
 }
 
--- ---- what is told
+-- ---- requests for service that are raised
 
 pub raised_same : (act : Act) (log other : List Act) → SameStatus log other → IsRaised (act ∷ log) ↔ IsRaised (act ∷ other)
 raised_same act log other v =
     let now = (status_act act log other v).request in
     ((λ h. (now.0 h.0, λ b. h.1 (v.request.1 b))), (λ h. (now.1 h.0, λ b. h.1 (v.request.0 b))))
 
--- what is accepted raises no request
+-- Accepting text raises no request for service.
 pub never_raised : (bytes : List ℕ) (ended : Bool) (log : List Act) → IsRaised (Exchanged (Accepted bytes ended) ∷ log) → ⊥
 never_raised bytes ended log h = h.1 ((request_over bytes ended log).0 h.0)
 

@@ -1,5 +1,5 @@
--- Two logs that are the same but for the pieces in which bytes came, and the fragments of records:
--- over the same acts, and over other pieces.
+-- Two logs that are the same but for how bytes were split into pieces, and records into fragments.
+-- They stay so after the same acts, and after pieces of the same records.
 use Rattle.std.proofs.Common.{◌≡◌, ℕ, suc, List, [], ◌∷◌, ◌++◌, refl, sym, ap, ◌∙◌, inl, inr, append_assoc, append-nil}
 use Rattle.std.specs.Prelude.{map, ◌==◌}
 use Rattle.std.proofs.lemmas.Bool.{cases_eq, cases_Bool}
@@ -14,7 +14,8 @@ use Rattle.sv_history.proofs.Projections.{of_effect, others_effect, device_effec
 
 -- ---- the acts of a connection
 
--- They show the same, but for the stream.
+-- The acts show the same: role, pending call, number of finished records, faults and replies. Their
+-- streams may differ.
 pub record SameShown (acts others : List ConnAct) : Type 0 where
   pub role : open_role acts ≡ open_role others
   pub call : pending_call acts ≡ pending_call others
@@ -22,7 +23,7 @@ pub record SameShown (acts others : List ConnAct) : Type 0 where
   pub no_call : took_no_call acts ≡ took_no_call others
   pub replies : all_replies acts ≡ all_replies others
 
--- So do they, and the same is read of both.
+-- Moreover the same is read of both streams: the same records and the same tail.
 pub record SameConnection (acts others : List ConnAct) : Type 0 where
   pub shown : SameShown acts others
   pub open shown use *
@@ -34,14 +35,13 @@ connection_none = assumption
 pub connection_back : (acts others : List ConnAct) → SameConnection acts others → SameConnection others acts
 connection_back acts others v = record { shown = search sym; streams = sym v.streams }
 
--- the same act
 pub same_act : (act : ConnAct) (acts others : List ConnAct) → SameConnection acts others → SameConnection (act ∷ acts) (act ∷ others)
 same_act (Piece bytes) acts others v = assumption (read_alike (stream acts) (stream others) bytes v.streams)
 same_act Faulted acts others v = assumption (ap suc v.count)
 same_act (Replied bytes) acts others v = assumption (ap suc v.count, ap (λ (l : List ℕ). l ++ bytes) v.replies)
 same_act _ acts others v = assumption
 
--- pieces change nothing but the stream
+-- `acts` shows the same as `base`, and its stream has `bytes` added.
 abbrev pub Came : List ConnAct → List ConnAct → List ℕ → Type 0
 Came acts base bytes = SameShown acts base × (stream acts ≡ stream base ++ bytes)
 
@@ -89,7 +89,6 @@ pub alike_back : (log other : List Act) → Alike log other → Alike other log
 alike_back log other alike =
     record { device = sym alike.device; each = λ c. connection_back (of c log) (of c other) (alike.each c) }
 
--- the same acts
 pub alike_more : (adds log other : List Act) → Alike log other → Alike (adds ++ log) (adds ++ other)
 alike_more [] log other alike = alike
 alike_more (OnDevice act ∷ adds) log other alike =
@@ -104,9 +103,9 @@ alike_more (On c act ∷ adds) log other alike =
       ];
     }
 
--- ---- other pieces
+-- ---- different pieces in the two logs
 
--- an effect of these acts of a connection alone
+-- The effect that has these acts of the connection, and none of the device.
 abbrev pub only_own : List ConnAct → Effect
 only_own own = record { own = own; adds = [] }
 

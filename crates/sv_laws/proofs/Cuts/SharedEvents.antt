@@ -1,5 +1,4 @@
--- An event adds the same acts to two logs that are the same but for where program text was
--- accepted.
+-- An event adds the same acts to two logs that are the same but for how program text was accepted.
 use Rattle.std.proofs.Common.{◌≡◌, ℕ, List, [], ◌∷◌, ◌++◌, Option, Some, None, refl, ap, ◌∙◌}
 use Rattle.std.specs.Prelude.{map, Bool, true, false, ◌==◌, if◌then◌else◌}
 use Rattle.sv_vxi.specs.declared.error_code.ErrorCode.TheVariants.{Abort}
@@ -23,19 +22,19 @@ use Rattle.sv_history.specs.Resuming.{failure_effect, connect_effect}
 use Rattle.sv_history.specs.History.{abort_acts, turn_acts, own_acts}
 use Rattle.sv_laws.proofs.Cuts.SharedSteps.{SameCalls, request_alike, aborts_alike}
 
--- Each connection's next call is the same too, and what it asks for.
+-- Each connection's next call, and what it requests, is the same too.
 pub record SameNext (log other : List Act) : Type 0 where
   pub now : SameCalls log other
   pub calls : (d : ℕ) → next_call (of d log) ≡ next_call (of d other)
   pub requests : (d : ℕ) → next_request (of d log) ≡ next_request (of d other)
 
--- the call that another one's call ends
+-- The acts that abort a suspended call are the same.
 ended_shared : (found : Option ℕ) (log other : List Act) → ((d : ℕ) → pending_call (of d log) ≡ pending_call (of d other))
     → abort_acts found log ≡ abort_acts found other
 ended_shared None log other same = refl
 ended_shared (Some d) log other same = ap (λ (o : Option (List ℕ)). acts_of d (failure_effect Abort d (core_call_in o))) (same d)
 
--- the same acts in front leave the same calls without an answer
+-- Adding the same acts to both logs keeps the pending calls the same.
 pub calls_behind : (adds log other : List Act) → ((d : ℕ) → pending_call (of d log) ≡ pending_call (of d other))
     → (d : ℕ) → pending_call (of d (adds ++ log)) ≡ pending_call (of d (adds ++ other))
 calls_behind [] log other same d = same d

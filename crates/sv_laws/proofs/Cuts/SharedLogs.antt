@@ -1,5 +1,5 @@
--- Behind two histories whose logs are the same but for where text was accepted, and for calls that
--- came before, the same events add the same.
+-- Two histories differ only in how program text was accepted, and in the calls that were taken
+-- before. The same further events add the same bytes after both.
 use Rattle.std.proofs.Common.{◌≡◌, ℕ, List, [], ◌∷◌, ◌++◌, refl, sym, ap, subst, ◌∙◌}
 use Rattle.std.specs.Prelude.{◌↔◌}
 use Rattle.std.proofs.lemmas.List.{append_cancel_left}
@@ -20,15 +20,15 @@ use Rattle.sv_laws.proofs.Cuts.SharedEvents.{SameNext}
 use Rattle.sv_laws.proofs.Cuts.KeptLogs.{IsKept, event_so}
 use Rattle.sv_laws.proofs.Cuts.SameAhead.{SameAhead, ahead_more, next_call_ahead, next_request_ahead}
 
--- ---- what all connections share
+-- ---- the acts of the device
 
--- It is the same, and each tells what the other does.
+-- The state of the device is the same, and so are the logs of the interrupt channels that it leads
+-- to.
 pub record SameShared (acts other : List DeviceAct) : Type 0 where
   pub device : SameDevice acts other
   pub tells : Tells acts other
   pub back : Tells other acts
 
--- the same acts
 pub shared_more : (adds log other : List Act) → SameShared (device_acts log) (device_acts other)
     → SameShared (device_acts (adds ++ log)) (device_acts (adds ++ other))
 shared_more [] log other v = v
@@ -43,9 +43,10 @@ shared_more (OnDevice act ∷ adds) log other v =
       back = tells_act act there here (device_back here there so.device) so.back;
     }
 
--- ---- two logs
+-- ---- the two logs
 
--- Behind these bytes of each connection's replies.
+-- The state of the device is the same. The connections are the same, but for the replies `first`
+-- and `second` at the beginning of each.
 pub record SameLogs (first second : ℕ → List ℕ) (log other : List Act) : Type 0 where
   pub shared : SameShared (device_acts log) (device_acts other)
   pub open shared use *
@@ -71,7 +72,7 @@ logs_next first second log other v = record {
   requests = λ d. next_request_ahead (first d) (second d) (of d log) (of d other) (v.each d);
 }
 
--- the same events
+-- The same further events keep the two logs the same.
 events_same : (config : Config) (first second : ℕ → List ℕ) (one two events : List PlainEvent)
     → ((a b : List Act) → IsLogOf config one a → IsLogOf config two b → SameLogs first second a b) → (log also : List Act)
     → IsLogOf config (events ++ one) log → IsLogOf config (events ++ two) also → SameLogs first second log also
@@ -80,7 +81,7 @@ events_same config first second one two (event ∷ events) base log also =
     event_so (SameLogs first second) (logs_kept first second) (logs_next first second) config event (events ++ one) (events ++ two) log also
     (events_same config first second one two events base)
 
--- ---- what they add to a port
+-- ---- the bytes added on a port
 
 ahead_back : (first second : List ℕ) (acts others : List ConnAct) → SameAhead first second acts others
     → SameAhead second first others acts
@@ -98,14 +99,15 @@ logs_back first second log other v = assumption (
   (λ (d : ℕ). ahead_back (first d) (second d) (of d log) (of d other) (v.each d)),
 )
 
--- a history, its log, and what that tells
+-- The log of the interrupt channels depends only on the history, which has one log.
 hears_in : (config : Config) (history : List PlainEvent) (found log : List Act) (channel_log : List ChannelAct)
     → IsLogOf config history found
     → IsLogOf config history log → HearsOf (device_acts found) channel_log → HearsOf (device_acts log) channel_log
 hears_in config history found log channel_log x y hears =
     subst (λ (l : List Act). HearsOf (device_acts l) channel_log) (one_log config history found log x y) hears
 
--- The two histories, with their logs, and what their connections sent so far.
+-- The two histories with their logs, which are `SameLogs`. `first` and `second` are all replies on
+-- each connection so far.
 pub record Begun (config : Config) (first second : ℕ → List ℕ) (one two : List PlainEvent) : Type 0 where
   pub a : List Act
   pub b : List Act

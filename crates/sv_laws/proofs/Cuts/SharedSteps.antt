@@ -1,5 +1,5 @@
--- A step that is due adds the same acts to two logs that are the same but for where program text
--- was accepted.
+-- A step that is due adds the same acts to two logs that are the same but for how program text was
+-- accepted.
 use Rattle.std.proofs.Common.{◌≡◌, ℕ, ◌+◌, List, [], ◌∷◌, ◌++◌, Option, Some, None, refl, sym, ap, subst, ◌∙◌, inl, inr}
 use Rattle.std.specs.Prelude.{map, pos, negsuc}
 use Rattle.std.proofs.lemmas.List.{append_cancel_right}
@@ -56,7 +56,7 @@ resumed_alike config polled c wait (Some call) acts other v =
 
 -- ---- one step
 
--- The devices are the same, and so is each connection's call without an answer.
+-- The state of the device is the same in both logs, and so is each connection's pending call.
 pub record SameCalls (log other : List Act) : Type 0 where
   pub device : SameDevice (device_acts log) (device_acts other)
   pub calls : (d : ℕ) → pending_call (of d log) ≡ pending_call (of d other)
@@ -65,7 +65,8 @@ pub calls_back : (log other : List Act) → SameCalls log other → SameCalls ot
 calls_back log other v =
     record { device = device_back (device_acts log) (device_acts other) v.device; calls = λ d. sym (v.calls d) }
 
--- What the one log becomes by some acts, the other becomes by the same.
+-- The acts that lead from `log` to a log of which `Here` holds lead from `other` to one of which
+-- `There` holds.
 abbrev pub Shared : List Act → List Act → (List Act → Type 0) → (List Act → Type 0) → Type 0
 Shared log other Here There = (new : List Act) → Here new → (adds : List Act) × (new ≡ adds ++ log) × There (adds ++ other)
 

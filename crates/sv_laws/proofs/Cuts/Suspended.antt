@@ -1,5 +1,5 @@
--- Behind a log at which nothing is due a call is suspended, and what it waits for isn't there:
--- nothing is due but that it times out.
+-- When no step is due, a call is suspended, and it can't resume yet. Then the only step that can be
+-- due is that this call times out.
 use Rattle.std.proofs.Common.{◌≡◌, ◌≢◌, ℕ, ◌+◌, Bool, true, false, eqb, List, ◌∷◌, ◌++◌, Option, Some, None, refl, sym, ap, subst, ◌∙◌, inl, inr, eq-eqb}
 use Rattle.std.specs.Prelude.{map, not}
 use Rattle.std.proofs.lemmas.Bool.{cases_eq, ne_eqb}
@@ -16,7 +16,7 @@ use Rattle.sv_history.specs.Settling.{InstrumentDoes, CanResume, Resumes, TimesO
 use Rattle.sv_history.proofs.OneStep.{went_on, gave_up}
 use Rattle.sv_laws.proofs.EveryLog.Steps.{Rested, rested}
 
--- ---- the call that came first
+-- ---- the oldest suspended call
 
 oldest_before : (c : ℕ) (named : Option ℕ) (wait : Wait) (last : Option ℕ) (acts : List WaitAct) (IsSuch IsSo : ℕ → Type 0) (d : ℕ)
     → d ≢ c → (IsSuch d → IsSo d) → ((e : ℕ) → IsSo e → e ≢ c) → ((e : ℕ) → e ≢ c → IsSo e → IsSuch e)
@@ -31,11 +31,11 @@ oldest_before c named wait last acts IsSuch IsSo d ne to apart back (such, first
 
 -- ---- the steps
 
--- such a log
+-- The log after this call was taken and suspended.
 abbrev pub suspends : ℕ → List ℕ → Option ℕ → Wait → Option ℕ → List Act → List Act
 suspends c call named wait last base = OnDevice (Waited (Entered c named wait last)) ∷ On c (CallTaken call) ∷ base
 
--- what is waited for is there
+-- Whether a call with this wait and this link could resume.
 abbrev pub is_there_in : Option ℕ → Wait → List Act → Bool
 is_there_in named wait log = is_there (holder (link_acts (device_acts log))) (not (has_ended (exchange_acts (device_acts log))))
     (is_answerable (instrument_acts (device_acts log))) named (Some wait)
@@ -45,7 +45,7 @@ does_before : (IsSuch : List InstrumentAct → List InstrumentAct → Type 0) (c
     → (there : List Act) × InstrumentDoes IsSuch base there
 does_before IsSuch c call named wait last base new (adds, such, is) = (map OnDevice (map Applied adds) ++ base, (adds, such, refl))
 
--- no call can resume that couldn't
+-- No call can resume after the new call was suspended.
 none_resumes : (config : Config) (c : ℕ) (call : List ℕ) (named : Option ℕ) (wait : Wait) (last : Option ℕ) (base new : List Act)
     → Rested config base → waits c (wait_acts (device_acts base)) ≡ None → is_there_in named wait base ≡ false
     → Resumes config (suspends c call named wait last base) new → ⊥
@@ -78,7 +78,7 @@ none_resumes config c call named wait last base new rest free there (d, for, pol
         let none : waits e (wait_acts (device_acts base)) ≡ None = ap (λ (n : ℕ). waits n (wait_acts (device_acts base))) same ∙ free in
         let z : false ≡ true = rw none at able in cc
 
--- nor does another time out
+-- If a call times out, it is the new one.
 late_alone : (config : Config) (c : ℕ) (call : List ℕ) (named : Option ℕ) (wait : Wait) (last : Option ℕ) (base new : List Act)
     → Rested config base → waits c (wait_acts (device_acts base)) ≡ None → TimesOut config (suspends c call named wait last base) new
     → new ≡ gave_up (suspends c call named wait last base) c wait

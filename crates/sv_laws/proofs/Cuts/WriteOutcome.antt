@@ -1,5 +1,5 @@
--- What a call of the core program is on a connection, and what a write comes to: it fails, or waits
--- for what isn't there, or its bytes are accepted.
+-- What a record that is a call of the core channel requests on any connection; and the three
+-- outcomes of a write: it fails, it is suspended, or its bytes are accepted.
 use Rattle.std.proofs.Common.{◌≡◌, ◌≢◌, ℕ, suc, Bool, false, eqb, List, [], ◌∷◌, length, Option, Some, None, refl, sym, ap, subst, ◌∙◌, inl, inr, ◌⊎◌, arith}
 use Rattle.std.specs.Prelude.{not, pos, nat_lt, ◌==◌, Result, Ok, Err}
 use Rattle.std.specs.Int.{bit_at}
@@ -34,7 +34,7 @@ use Rattle.sv_history.specs.CoreChannel.{device_write}
 use Rattle.sv_history.specs.Admission.{stop_of, admission}
 use Rattle.sv_history.specs.Resuming.{late}
 
--- ---- what a core call is on a connection of another program
+-- ---- a call of the core channel on a connection of another program
 
 abbrev pub IsCore : Request → CoreCall → Type 0
 IsCore request call = (request ≡ CoreRequest call) ⊎ ((xid : ℕ) × (request ≡ Decided xid ProgUnavail))
@@ -43,7 +43,7 @@ core_is : (request : Request) (call : CoreCall) → core_call_of request ≡ Som
 core_is (CoreRequest found) call is = let same : found ≡ call = cc in inl (ap (λ (f : CoreCall). CoreRequest f) same)
 core_is _ call is = absurd cc
 
--- a call of the core program is of no other
+-- On a connection that serves another program, a call of the core channel gets PROG_UNAVAIL.
 other_program : (found : PlainCall) (call : CoreCall) (role : Role) → eqb (program_of Core).0 (program_of role).0 ≡ false
     → core_call_of (unless_decided Core found (header_reply Core found)) ≡ Some call
     → unless_decided role found (header_reply role found) ≡ Decided found.xid ProgUnavail
@@ -72,9 +72,10 @@ core_asked (Some role) bytes request call asks is =
     let same : request_of role (call_at bytes) ≡ request = cc in
     subst (λ (r : Request). IsCore r call) same (core_in role (call_at bytes) call is)
 
--- ---- what a write comes to
+-- ---- the outcomes of a write
 
--- It fails, or waits for what isn't there, or its bytes are accepted.
+-- The write fails with an error; or it is suspended and can't resume yet; or its bytes are
+-- accepted.
 abbrev pub WriteCase : ℕ → ℕ → ℕ → List ℕ → List DeviceAct → CallOutcome → Type 0
 WriteCase c lid flags bytes acts outcome =
     ((error : ErrorCode) × (error_number error ≢ 0) × (outcome ≡ only (Size error 0)))

@@ -1,5 +1,5 @@
--- A write, and the same bytes in two writes: what comes behind them adds the same, and so do they
--- to each port but the connection.
+-- A write, and the same bytes in two writes: further events add the same bytes after both, and the
+-- writes themselves differ only in the replies on their connection. This is the law `WritesCut`.
 use Rattle.std.proofs.Common.{◌≡◌, ◌≢◌, ℕ, zero, suc, Bool, true, false, Some, List, [], ◌∷◌, ◌++◌, length, refl, sym, ap, subst, ◌∙◌, inl, inr, append-nil, arith}
 use Rattle.std.specs.Prelude.{◌↔◌, pos}
 use Rattle.std.specs.Int.{bit_at}
@@ -38,17 +38,17 @@ use Rattle.sv_laws.proofs.Cuts.FirstPart.{Resting, reported, BecomesLong, first_
 use Rattle.sv_laws.proofs.Cuts.Beside.{Beside, reports, parts_shared, long_shared, beside_kept, beside_came, of_wrote, beside_wrote}
 use Rattle.sv_laws.proofs.Cuts.AllTaken.{same_bare, fed_all}
 
--- ---- the logs where the last write is accepted
+-- ---- the logs after the last write was accepted
 
--- what is settled behind a step that is due
+-- A step that is due is the first of the steps that settle the log.
 settles_behind : (n : ℕ) (config : Config) (log mid new : List Act) → IsNext config log mid → SettlesIn n config log new
     → (m : ℕ) × SettlesIn m config mid new
 settles_behind zero config log mid new next settles = absurd (settles.0 mid next)
 settles_behind (suc n) config log mid new next (middle, also, more) =
     (n, subst (λ (l : List Act). SettlesIn n config l new) (next_once config log middle mid also next) more)
 
--- A write of both parts, from the first log to the second; and writes of the one and then of the
--- other, with bytes that come between them.
+-- The whole write leads to the log `whole`. Two writes, one of each part, lead to the log `last`.
+-- Before each write only bytes came on the connection.
 record Parts (c : ℕ) (x y : List ℕ) (ended : Bool) (config : Config) (before whole last : List Act) : Type 0 where
   single : List Act
   first : List Act
@@ -63,7 +63,7 @@ record Parts (c : ℕ) (x y : List ℕ) (ended : Bool) (config : Config) (before
   one : Wrote c x false config first mid
   other : Wrote c y ended config second last
 
--- the logs of other connections in front of both
+-- Before the last write, the other connections have the same acts in both logs.
 others_before : (c : ℕ) (x y : List ℕ) (ended : Bool) (config : Config) (before whole last : List Act)
     (h : Parts c x y ended config before whole last) → ((d : ℕ) → d ≢ c → of d h.mid ≡ of d h.first) → (d : ℕ) → d ≢ c
     → of d h.single ≡ of d h.second
@@ -71,7 +71,7 @@ others_before c x y ended config before whole last h same d ne =
     behind_others c d before h.single h.at_single ne ∙ sym (behind_others c d before h.first h.at_first ne) ∙ sym (same d ne)
     ∙ sym (behind_others c d h.mid h.second h.at_second ne)
 
--- settled, they are beside one another
+-- After all steps that are due, the two logs are `Beside`.
 beside_settled : (c : ℕ) (x y : List ℕ) (ended : Bool) (config : Config) (before whole last : List Act)
     (h : Parts c x y ended config before whole last) → AllByRecursion (λ b. b ≢ 10) x → Beside c whole last
 beside_settled c x y ended config before whole last h line =
@@ -122,7 +122,7 @@ beside_settled c x y ended config before whole last h line =
         (long_shared x y ended (device_acts before)) in
         settles_so (Beside c) (beside_kept c) rest.0 h.other.steps config (reported start) also whole last v rest.1 h.other.settles
 
--- ---- what each port was sent
+-- ---- the bytes sent on each port
 
 ahead_same : (acts others : List ConnAct) → acts ≡ others → SameAhead (all_replies acts) (all_replies others) acts others
 ahead_same acts others same = subst (λ (l : List ConnAct). SameAhead (all_replies acts) (all_replies l) acts l) same (record {
@@ -149,7 +149,7 @@ adds_other port config past one two log other bytes was also tells same (before,
       (λ channel_log hears. (channel_log, tells channel_log hears, same channel_log)) adds,
 )
 
--- ---- the writes of the events
+-- ---- the writes among the events
 
 wrote_by : (c lid : ℕ) (config : Config) (past : List PlainEvent) (log : List Act) (bytes : List ℕ) (ended : Bool)
     (xid io_timeout lock_timeout flags : ℕ) (call : List ℕ) (rest : List ConnAct)

@@ -1,5 +1,5 @@
--- A write that was taken, and answered without an error and with all its bytes: its bytes were
--- accepted, and nothing else was done.
+-- If a write was answered without an error, and the reply says that all its bytes were written,
+-- then its bytes were accepted and nothing else was done.
 use Rattle.std.proofs.Common.{◌≡◌, ◌≢◌, ℕ, zero, suc, Bool, true, false, List, [], ◌∷◌, ◌++◌, length, Option, Some, None, refl, sym, ap, subst, ◌∙◌, inl, inr, arith, eq-eqb}
 use Rattle.std.specs.Prelude.{pos, ◌==◌, ◌↔◌, slice_index_or}
 use Rattle.std.specs.Int.{bit_at}
@@ -36,9 +36,9 @@ use Rattle.sv_laws.proofs.Cuts.Fed.{Taking}
 use Rattle.sv_laws.proofs.Cuts.WriteOutcome.{core_asked, WriteCase, write_case}
 use Rattle.sv_laws.proofs.Cuts.Suspended.{suspends, is_there_in, only_late}
 
--- ---- the reply tells which: it is neither one that tells an error, nor one that tells that the program isn't served
+-- ---- a reply without an error is no reply with an error, and no PROG_UNAVAIL
 
--- the last byte of a reply's status, and that of the error behind it
+-- The last byte of the reply's accept status, and the last byte of the error that follows it.
 abbrev status_in : List ℕ → ℕ
 status_in bytes = slice_index_or bytes 27 0
 
@@ -66,12 +66,12 @@ is_served xid other n same =
 
 -- ---- what was taken
 
--- its acts, and those of its connection
+-- The log after a write was taken, its bytes were accepted, and it was answered.
 abbrev pub wrote : ℕ → List ℕ → List ℕ → List ℕ → Bool → List Act → List Act
 wrote c call reply bytes ended base = On c (Replied reply) ∷ OnDevice (accepts bytes ended) ∷ On c (CallTaken call) ∷ base
 
--- A write of these bytes is taken in the first log, they are accepted, and that leads to the
--- second.
+-- In the log `base` a write of these bytes is taken, its bytes are accepted, and it is answered.
+-- Then the steps that are due lead to `log`.
 pub record Wrote (c : ℕ) (bytes : List ℕ) (ended : Bool) (config : Config) (base log : List Act) : Type 0 where
   pub call : List ℕ
   pub reply : List ℕ
@@ -85,7 +85,8 @@ pub record Wrote (c : ℕ) (bytes : List ℕ) (ended : Bool) (config : Config) (
 abbrev bare : ℕ → List Act → List ConnAct
 bare c log = without_pieces (of c log)
 
--- What is settled from a log whose connection's newest act is a reply tells that reply.
+-- The connection's acts end with a reply before the steps that are due, and with a reply after the
+-- same acts afterwards. Then it is the same reply.
 told_by : (c : ℕ) (steps : ℕ) (config : Config) (mid log : List Act) (told reply : List ℕ) (rest : List ConnAct)
     → SettlesIn steps config mid log → bare c mid ≡ Replied told ∷ rest → bare c log ≡ Replied reply ∷ rest → told ≡ reply
 told_by c steps config mid log told reply rest settles was is =
@@ -117,7 +118,7 @@ module _ (c lid : ℕ) (bytes : List ℕ) (ended : Bool) (config : Config) (base
   abbrev reply : List ℕ
   reply = result_reply xid (Size NoError (length bytes))
 
-  -- where it is answered at once, this is the answer
+  -- If the call is answered at once, the answer is this reply.
   at_once : (told : List ℕ) (steps : ℕ) → SettlesIn steps config (On c (Replied told) ∷ On c (CallTaken call) ∷ base) log → told ≡ reply
   at_once told steps settles =
       let mid = On c (Replied told) ∷ On c (CallTaken call) ∷ base in
@@ -125,7 +126,7 @@ module _ (c lid : ℕ) (bytes : List ℕ) (ended : Bool) (config : Config) (base
       (ap without_pieces (of_mine c (Replied told) (On c (CallTaken call) ∷ base))
       ∙ ap (λ (l : List ConnAct). Replied told ∷ without_pieces l) (of_mine c (CallTaken call) base)) acts
 
-  -- where it is suspended, it isn't
+  -- The call isn't suspended: otherwise it would later be answered with an error.
   never_waits : (steps : ℕ) (wait : Wait) (last : Option ℕ) → error_number (late wait) ≢ 0 → is_there_in (Some lid) wait base ≡ false
       → SettlesIn steps config (suspends c call (Some lid) wait last base) log → ⊥
   never_waits zero wait last error there settles =
@@ -171,7 +172,8 @@ module _ (c lid : ℕ) (bytes : List ℕ) (ended : Bool) (config : Config) (base
         settles = subst (λ (b : Bool). SettlesIn steps config (wrote c call reply bytes b base) log) (flag_is flags ended flag) here;
       }
 
-  -- on another channel it isn't answered so either
+  -- On a connection that serves another program the call isn't answered with this reply either. So
+  -- the write was accepted.
   pub written : Taking c config call base log → Wrote c bytes ended config base log
   written taking =
       let role = open_role (of c base) in

@@ -1,4 +1,4 @@
--- In every log a call that has no answer waits.
+-- In each log of a history, a call that is pending is suspended.
 use Rattle.std.proofs.Common.{◌≡◌, ◌≢◌, ℕ, ◌<◌, Bool, true, false, List, [], ◌∷◌, ◌++◌, Option, Some, None, refl, sym, ap, subst, ◌∙◌, inl, inr, append_assoc, eq-eqb}
 use Rattle.std.specs.Prelude.{map, is_some}
 use Rattle.std.proofs.lemmas.Bool.{cases_eq}
@@ -38,7 +38,7 @@ use Rattle.sv_laws.proofs.EveryLog.Fit.{Fit, of_each}
 use Rattle.sv_laws.proofs.EveryLog.EachEvent.{entered_waits, each_log, StepsKeep, step_keeps, turn_keeps, refuse_keeps, done_waits, fit_request, fit_keeps, close_adds, device_closed, of_closed, fit_event, fit_none}
 use Rattle.sv_laws.proofs.Facts.{some_none}
 
--- If no call of a connection waits, none is without an answer.
+-- If the connection has no suspended call, it has no pending call.
 abbrev HasWait : ℕ → List Act → Type 0
 HasWait c log = waits c (wait_acts (device_acts log)) ≡ None → pending_call (of c log) ≡ None
 
@@ -50,13 +50,13 @@ replies_free : (xid : ℕ) (result : Option Outcome) (acts : List ConnAct) → i
 replies_free xid (Some result) acts channel_log = refl
 replies_free xid None acts channel_log = absurd cc
 
--- ---- acts of one connection, and of what all share
+-- ---- acts of one connection, and acts of the device
 
 wait_other : (c d : ℕ) (act : WaitAct) (acts : List WaitAct) → conn_of act ≡ c → d ≢ c → waits d (act ∷ acts) ≡ waits d acts
 wait_other c d act acts is ne =
     (call_foreign d act acts acts (λ e. ne (sym e ∙ is)) (record { wait = refl; until = refl; named = refl })).wait
 
--- An effect leaves what calls of others wait for.
+-- These acts don't change what the suspended calls of other connections wait for.
 abbrev LeavesOthers : ℕ → List DeviceAct → List DeviceAct → Type 0
 LeavesOthers c adds acts = (d : ℕ) → d ≢ c → waits d (wait_acts (adds ++ acts)) ≡ waits d (wait_acts acts)
 
@@ -77,9 +77,9 @@ all_shared adds log all same d none = ap pending_call (of_shared d adds log)
 all_happened : (adds : List InstrumentAct) (log : List Act) → AllWait log → AllWait (map OnDevice (map Applied adds) ++ log)
 all_happened adds log all = all_shared (map Applied adds) log all (wait_acts_happened adds (device_acts log))
 
--- ---- a suspended call ends, or waits anew
+-- ---- a suspended call ends, or is suspended again
 
--- it ends with a result
+-- The case that the call ends with a result.
 all_left : (c xid : ℕ) (outcome : CallOutcome) (log : List Act) → AllWait log → is_some outcome.result ≡ true
     → wait_acts (outcome.adds ++ Waited (Left c) ∷ device_acts log) ≡ Left c ∷ wait_acts (device_acts log)
     → AllWait (acts_of c (call_effect xid (leaving c outcome)) ++ log)
@@ -91,7 +91,8 @@ all_left c xid outcome log all channel_log left =
     (λ d ne. ap (waits d) moved ∙ wait_other c d (Left c) (wait_acts acts) refl ne)
     (λ none. replies_free xid outcome.result (of c log) channel_log)
 
--- one that isn't of the core channel doesn't wait
+-- A suspended call is a call of the core channel, so it is enough to look at the effects of such
+-- calls.
 all_ended : (c : ℕ) (does : Arguments → CallOutcome) (log : List Act) → Fit log → AllWait log
     → ((call : CoreCall) → AllWait (acts_of c (call_effect call.xid (does call.arguments)) ++ log))
     → AllWait (acts_of c (effect_of c does (core_call_in (pending_call (of c log)))) ++ log)
@@ -146,7 +147,7 @@ all_continued config polled c wait call None log all for =
     all_left c call.xid outcome log all (own_told config polled c call.arguments before)
     (done_waits c call.arguments outcome.adds before (each_done config polled c call.arguments before))
 
--- both are kept together
+-- This invariant relies on `Fit`, and is proved together with it.
 abbrev IsSound : List Act → Type 0
 IsSound log = Fit log × AllWait log
 
@@ -163,7 +164,7 @@ steps_keep config = record {
 
 -- ---- an event's own acts
 
--- a record that was taken: its call has an answer, or waits
+-- A call that is taken is answered or suspended.
 all_admitted : (config : Config) (polled c : ℕ) (call : CoreCall) (stop : Option Stop) (log : List Act)
     → ((d : ℕ) → d ≢ c → HasWait d log)
     → AllWait (acts_of c (call_effect call.xid (admission config polled c call.arguments stop (device_acts log))) ++ log)
@@ -238,7 +239,7 @@ all_event config Tick polled channel_log log free fit all =
     subst AllWait (sym (append_assoc (map OnDevice (map Applied adds)) (OnDevice Ticked ∷ []) log))
     (all_happened adds (OnDevice Ticked ∷ log) (all_shared (Ticked ∷ []) log all refl))
 
--- in every log of a history
+-- In each log of a history, a connection without a suspended call has no pending call.
 pub busy_waits : (config : Config) (history : List PlainEvent) (log : List Act) → IsLogOf config history log → (c : ℕ)
     → waits c (wait_acts (device_acts log)) ≡ None → pending_call (of c log) ≡ None
 busy_waits config history log was =

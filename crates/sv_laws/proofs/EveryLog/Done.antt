@@ -1,4 +1,4 @@
--- What a call of the core channel adds to what all connections share, act by act.
+-- The acts that a call of the core channel adds to the acts of the device when it is executed.
 use Rattle.std.proofs.Common.{◌≡◌, ℕ, ◌+◌, Bool, true, false, cond, List, length, nat_lt, Option, Some, None, refl, sym, ap, ◌∙◌, inl, inr}
 use Rattle.std.specs.Prelude.{pos, not, is_some, ◌&&◌, ⊤}
 use Rattle.std.proofs.lemmas.Bool.{cases_Bool}
@@ -22,9 +22,10 @@ use Rattle.sv_history.specs.CoreChannel.{owns, own_call}
 use Rattle.sv_history.specs.Interrupts.{has_channel}
 use Rattle.sv_history.specs.Admission.{Stop, Fails, Awaits, stop_of}
 
--- An act that a call of a connection, with these arguments, adds where it is done: only a
--- create_link makes a link, and its number is the next; a link that begins to ask is the
--- connection's; no call begins or ends to wait, no channel opens, and no peer takes bytes.
+-- An act that a call of connection `c` may add when it is executed. Only a create_link makes a
+-- link, and it gets the next number. Service requests are enabled only for a link of this
+-- connection. No call is suspended or leaves the queue, no channel opens, no peer takes bytes, and
+-- no time passes.
 abbrev pub IsDone : ℕ → Arguments → List DeviceAct → DeviceAct → Type 0
 IsDone c arguments acts (Linked (Made lid conn)) = (lid ≡ links_made (link_acts acts) + 1) × (conn ≡ c) × (is_create_link arguments ≡ true)
 IsDone c arguments acts (Waited act) = ⊥
@@ -34,7 +35,7 @@ IsDone c arguments acts (Channel (ChannelTaken conn count)) = ⊥
 IsDone c arguments acts Ticked = ⊥
 IsDone c arguments acts _ = ⊤
 
--- Such are its acts, and it has a result.
+-- All acts that the call adds are such acts, and the call has a result.
 abbrev AreDone : Config → ℕ → ℕ → Arguments → List DeviceAct → Type 0
 AreDone config polled c arguments acts = Each (IsDone c arguments) (own_call config polled c arguments acts).adds acts
     × (is_some (own_call config polled c arguments acts).result ≡ true)
@@ -85,19 +86,16 @@ all_done config polled c DestroyIntrChan acts =
     elim (cases_Bool (has_channel c acts)) [ inl e ↦ rw e ((tt, tt), refl) | inr e ↦ rw e (tt, refl) ]
 all_done config polled c _ acts = (tt, refl)
 
--- its acts
 pub each_done : (config : Config) (polled c : ℕ) (arguments : Arguments) (acts : List DeviceAct)
     → Each (IsDone c arguments) (own_call config polled c arguments acts).adds acts
 each_done config polled c arguments acts = (all_done config polled c arguments acts).0
 
--- its result
 pub own_told : (config : Config) (polled c : ℕ) (arguments : Arguments) (acts : List DeviceAct)
     → is_some (own_call config polled c arguments acts).result ≡ true
 own_told config polled c arguments acts = (all_done config polled c arguments acts).1
 
--- ---- a call that has to wait
+-- ---- a call that is suspended
 
--- a link that is one of the connection is its own
 pub named_own : (c : ℕ) (named : Option ℕ) (acts : List DeviceAct) (n : ℕ) → owns c named acts ≡ true → named ≡ Some n
     → owner n (link_acts acts) ≡ Some c
 named_own c (Some m) acts n e is =
@@ -109,7 +107,7 @@ another_fails : (own : Bool) (rest : Option Stop) (wait : Wait) (until : Option 
 another_fails false rest wait until e = absurd cc
 another_fails true rest wait until e = refl
 
--- the link that it names is the connection's
+-- The link that a suspended call names belongs to the connection of the call.
 pub waits_own : (c : ℕ) (arguments : Arguments) (acts : List DeviceAct) (wait : Wait) (until : Option ℕ) (n : ℕ)
     → stop_of c arguments acts ≡ Some (Awaits wait until) → lid_of (link arguments) ≡ Some n → owner n (link_acts acts) ≡ Some c
 waits_own c (OnLink lid call) acts wait until n e is =
@@ -125,7 +123,7 @@ link_waits true true true true timeout wait until e = cc
 link_waits true true true false timeout wait until e = absurd cc
 link_waits true true false locked timeout wait until e = absurd cc
 
--- a create_link waits for the lock, and names no link
+-- A create_link is suspended only for the lock, and names no link.
 pub creating_waits : (c : ℕ) (arguments : Arguments) (acts : List DeviceAct) (wait : Wait) (until : Option ℕ)
     → stop_of c arguments acts ≡ Some (Awaits wait until) → is_create_link arguments ≡ true
     → (wait ≡ Lock) × (lid_of (link arguments) ≡ None)

@@ -1,5 +1,5 @@
--- Of the calls that wait on sixteen connections, one whose deadline has come came first, or there
--- is none; and a call that leaves makes those that wait fewer.
+-- Either no deadline of a suspended call has come, or one of the calls whose deadline has come is
+-- the oldest. The number of suspended calls falls when a call leaves the queue.
 use Rattle.std.proofs.Common.{◌≡◌, ℕ, zero, suc, ◌+◌, ◌<◌, ◌≤◌, Bool, true, false, cond, eqb, ltb, List, ◌∷◌, Option, Some, None, refl, sym, ap, subst, ◌∙◌, inl, inr, eq-eqb, arith}
 use Rattle.std.specs.Prelude.{is_some, ◌&&◌}
 use Rattle.std.proofs.lemmas.Bool.{cases_Bool, cases_eq, ne_eqb, leb-true, le-leb, ltb-true, ltb-false}
@@ -11,7 +11,7 @@ use Rattle.sv_laws.proofs.EveryLog.Fit.{AllSuit}
 use Rattle.sv_laws.proofs.EveryLog.Known.{waits_within}
 use Rattle.sv_laws.proofs.Facts.{not_both}
 
--- ---- the one that came first
+-- ---- the oldest suspended call whose deadline has come
 
 abbrev is_due : ℕ → List WaitAct → ℕ → Bool
 is_due clock acts d = is_some (waits d acts) && is_past clock (deadline d acts)
@@ -28,16 +28,16 @@ due_expired clock d acts e = due_by clock d acts (waits d acts) (deadline d acts
 expired_due : (clock d : ℕ) (acts : List WaitAct) → IsExpired clock acts d → is_due clock acts d ≡ true
 expired_due clock d acts (wait, last, for, until, le) = rw (for, until) (le-leb last clock le)
 
--- If a number passes the test, the call of this one came no later.
+-- If connection `d` passes the test, its call was suspended no earlier than that of connection `c`.
 abbrev pub IsNoLater : List WaitAct → (ℕ → Bool) → ℕ → ℕ → Type 0
 IsNoLater acts test c d = test d ≡ true → arrival c acts ≤ arrival d acts
 
--- the first, of the numbers below n
+-- Of the connections below `n` that pass the test, the one whose call was suspended first; `None`
+-- if none passes.
 abbrev pub Least : List WaitAct → (ℕ → Bool) → ℕ → Option ℕ → Type 0
 Least acts test n None = (d : ℕ) → d < n → test d ≡ false
 Least acts test n (Some c) = (test c ≡ true) × ((d : ℕ) → d < n → IsNoLater acts test c d)
 
--- one number more
 up_to : (IsSo : ℕ → Type 0) (n : ℕ) → IsSo n → ((d : ℕ) → d < n → IsSo d) → (d : ℕ) → d < suc n → IsSo d
 up_to IsSo n now before d lt =
     elim (cases_eq d n) [ inl e ↦ subst IsSo (sym e) now | inr ne ↦ before d (omega (arith, lt, ne)) ]
@@ -76,7 +76,7 @@ oldest_due clock acts all =
     let first = least (wait_acts acts) (is_due clock (wait_acts acts)) 16 in
     (first.0, oldest_by clock (wait_acts acts) (waits_within acts all) first.0 first.1)
 
--- ---- how many wait, of the numbers below n
+-- ---- how many connections below `n` have a suspended call
 
 abbrev pub count : List WaitAct → ℕ → ℕ
 count acts zero = 0

@@ -1,5 +1,5 @@
--- In every log each act of a connection came when it could: while the connection is open, each
--- reply for the call that had no answer.
+-- In each log of a history, every act of a connection was possible when it came: a connection has
+-- acts only while it is open, and each reply answers the pending call.
 use Rattle.std.proofs.Common.{◌≡◌, ℕ, Bool, true, false, cond, List, [], ◌∷◌, ◌++◌, nat_lt, Option, Some, None, refl, sym, ap, subst, ◌∙◌, append_assoc}
 use Rattle.std.specs.Prelude.{map, not, ◌||◌, ⊤, Result, Ok, Err}
 use Rattle.sv_xdr.specs.declared.garbage.Garbage.{Garbage}
@@ -46,15 +46,16 @@ use Rattle.sv_laws.proofs.Facts.{some_same}
 use Rattle.sv_laws.proofs.EveryLog.Taken.{xid_of, xid_in, xid_is, asks_as, is_core}
 use Rattle.sv_laws.proofs.EveryLog.Fit.{of_each}
 
--- ---- when an act can come
+-- ---- when an act is possible
 
--- A reply to this call, which begins with its xid.
+-- The reply is a reply record with the xid of this call.
 abbrev pub IsReplyTo : List ℕ → List ℕ → Type 0
 IsReplyTo call reply = (xid : ℕ) × (answer : Reply) × (fields : List Field) × (xid_of (call_at call) ≡ Some xid)
     × (reply ≡ reply_record xid answer fields)
 
--- An act can come behind these: bytes, and calls in their order, while the connection is open; a
--- fault or a reply for the call that has none.
+-- The act is possible after these acts. Bytes come and are taken, and a call is taken, only while
+-- the connection is open, and this call is the next one. A reply needs a pending call. A fault
+-- needs a pending record that isn't a call.
 abbrev pub CanCome : ConnAct → List ConnAct → Type 0
 CanCome (Opened role) acts = ⊤
 CanCome (Piece bytes) acts = (is_open acts ≡ true) × IsBytes bytes
@@ -64,19 +65,19 @@ CanCome (Replied reply) acts = (call : List ℕ) × (pending_call acts ≡ Some 
 CanCome (BytesTaken count) acts = is_open acts ≡ true
 CanCome PortClosed acts = ⊤
 
--- Each of these acts did.
+-- Each of these acts was possible after the acts before it.
 abbrev pub AllCame : List ConnAct → Type 0
 AllCame [] = ⊤
 AllCame (act ∷ acts) = CanCome act acts × AllCame acts
 
--- ---- what a request asks for has the xid of its call
+-- ---- a request has the xid of its record
 
 pub none_bad : (found : Result PlainCall CallFault) → xid_of found ≡ None → found ≡ Err BadHeader
 none_bad (Ok call) e = absurd cc
 none_bad (Err (Version xid)) e = absurd cc
 none_bad (Err BadHeader) e = refl
 
--- that of a connection's next call
+-- A request has the xid of the record from which it was read.
 xid_asked : (role : Option Role) (bytes : List ℕ) (request : Request) → request_for role (Some bytes) ≡ Some request
     → xid_of (call_at bytes) ≡ xid_in request
 xid_asked (Some role) bytes request e = xid_is role (xid_of (call_at bytes)) request
@@ -87,14 +88,13 @@ pub xid_next : (acts : List ConnAct) (bytes : List ℕ) (request : Request) → 
     → next_request acts ≡ Some request → xid_of (call_at bytes) ≡ xid_in request
 xid_next acts bytes request next asks = xid_asked (open_role acts) bytes request (ap (request_for (open_role acts)) (sym next) ∙ asks)
 
--- that of a call of the core channel
--- the call of the core channel that has no answer
+-- A pending call of the core channel has the xid of its record.
 pub core_known : (found : Option (List ℕ)) (call : CoreCall) → core_call_in found ≡ Some call
     → (bytes : List ℕ) × (found ≡ Some bytes) × (xid_of (call_at bytes) ≡ Some call.xid)
 core_known (Some bytes) call e = (bytes, refl, (asks_as Core (call_at bytes) (CoreRequest call) (is_core _ call e)).1)
 core_known None call e = absurd cc
 
--- ---- of all connections
+-- ---- all connections
 
 abbrev Everywhere : List Act → Type 0
 Everywhere log = (c : ℕ) → AllCame (of c log)
@@ -109,7 +109,7 @@ all_on c act log all h = all_effect c (record { own = act ∷ []; adds = [] }) l
 all_shared : (adds : List DeviceAct) (log : List Act) → Everywhere log → Everywhere (map OnDevice adds ++ log)
 all_shared adds log all d = subst AllCame (sym (of_shared d adds log)) (all d)
 
--- ---- a suspended call ends, or waits anew
+-- ---- a suspended call ends, or is suspended again
 
 told_result : (call : List ℕ) (xid : ℕ) (result : Outcome) → xid_of (call_at call) ≡ Some xid → IsReplyTo call (result_reply xid result)
 told_result call xid result is = (xid, Success, result_fields result, is, refl)
@@ -162,7 +162,7 @@ all_turn config polled c log all opened =
     (came_request config polled c bytes request (device_acts log) (of c log) (xid_next (of c log) bytes request next asks)
     ((opened, next), all c))))
 
--- a call that may be refused
+-- A request that can be refused for lack of memory is a call of the core channel.
 refusable_is : (request : Option Request) (call : CoreCall) → refusable_call request ≡ Some call → request ≡ Some (CoreRequest call)
 refusable_is (Some (CoreRequest found)) call e = by (takes_memory found.arguments) e
   where
@@ -183,7 +183,7 @@ open_by true opened other e = absurd cc
 open_by false true other e = refl
 open_by false false other e = absurd cc
 
--- what isn't refused is of an open one
+-- If an event that needs an open connection isn't refused, the connection is open.
 pub open_unless : (c : ℕ) (log : List Act) (other : Option Refused) → unless_shut c log other ≡ None → is_open (of c log) ≡ true
 open_unless c log other e = open_by (nat_lt 15 c) (is_open (of c log)) other e
 
@@ -214,7 +214,7 @@ all_event config Tick polled channel_log log is free all =
     subst Everywhere (sym (append_assoc (map OnDevice adds) (OnDevice Ticked ∷ []) log))
     (all_shared adds (OnDevice Ticked ∷ log) (all_shared (Ticked ∷ []) log all))
 
--- in every log of a history
+-- In each log of a history, every act of a connection was possible when it came.
 pub all_came : (config : Config) (history : List PlainEvent) (log : List Act) (c : ℕ) → IsLogOf config history log → AllCame (of c log)
 all_came config history log c was = each_log config Everywhere (λ d. tt) (all_event config)
     (step_keeps config Everywhere (steps_keep config)) history log was c

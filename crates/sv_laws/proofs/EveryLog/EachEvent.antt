@@ -1,5 +1,5 @@
--- What holds of nothing and is kept by each event's own acts, and by each step, holds of the log of
--- every history.
+-- An invariant that holds of the empty log, and that each event's own acts and each step keep,
+-- holds of each log of a history.
 use Rattle.std.proofs.Common.{◌≡◌, ◌≢◌, ℕ, zero, suc, ◌<◌, Bool, true, false, cond, List, [], ◌∷◌, ◌++◌, nat_lt, Option, Some, None, refl, sym, ap, subst, ◌∙◌, inl, inr, eq-eqb, append_assoc}
 use Rattle.std.specs.Prelude.{map, is_some}
 use Rattle.std.proofs.lemmas.Bool.{cases_eq}
@@ -45,7 +45,7 @@ use Rattle.sv_laws.proofs.EveryLog.Done.{IsDone, each_done, waits_own, creating_
 use Rattle.sv_laws.proofs.EveryLog.Taken.{free_call, core_taken, within}
 use Rattle.sv_laws.proofs.EveryLog.Fit.{AllSuit, IsHeld, Fit, IsBy, IsCore, held_none, held_same, fit_effect, fit_free, fit_on, fit_on_free, fit_shared}
 
--- ---- the principle
+-- ---- induction over a history
 
 pub each_settled : (config : Config) (IsSo : List Act → Type 0) → ((log new : List Act) → IsSo log → IsNext config log new → IsSo new)
     → (n : ℕ) (log new : List Act) → IsSo log → SettlesIn n config log new → IsSo new
@@ -64,10 +64,10 @@ each_log config IsSo empty acts step (event ∷ history) log (before, polled, ch
     each_settled config IsSo step settles.0 (own_acts config polled event before ++ before) log
     (acts event polled channel_log before is_event free (each_log config IsSo empty acts step history before was)) settles.1
 
--- ---- steps, and calls
+-- ---- steps
 
--- What happens to the instrument keeps it, and so does a call that resumes, and one that ends with
--- an error.
+-- Acts of the instrument keep the invariant, and so do a call that resumes and a call that ends
+-- with an error.
 pub record StepsKeep (config : Config) (IsSo : List Act → Type 0) : Type 0 where
   pub happened : (adds : List InstrumentAct) (log : List Act) → IsSo log → IsSo (map OnDevice (map Applied adds) ++ log)
   pub resumed : (polled c : ℕ) (wait : Wait) (log : List Act) → waits c (wait_acts (device_acts log)) ≡ Some wait → IsSo log
@@ -75,7 +75,8 @@ pub record StepsKeep (config : Config) (IsSo : List Act → Type 0) : Type 0 whe
   pub failed : (error : ErrorCode) (c : ℕ) (log : List Act) → IsSo log
       → IsSo (acts_of c (failure_effect error c (core_call_in (pending_call (of c log)))) ++ log)
 
--- where each call that ends does
+-- It is enough that acts of the instrument keep the invariant, and every effect of a suspended
+-- call.
 pub ends_keep : (config : Config) (IsSo : List Act → Type 0)
     → ((adds : List InstrumentAct) (log : List Act) → IsSo log → IsSo (map OnDevice (map Applied adds) ++ log))
     → ((c : ℕ) (does : Arguments → CallOutcome) (log : List Act) → IsSo log
@@ -87,7 +88,6 @@ ends_keep config IsSo happened ended = record {
   failed = λ error c log so. ended c (λ arguments. leaving c (only (failure arguments error))) log so;
 }
 
--- each step
 pub step_keeps : (config : Config) (IsSo : List Act → Type 0) → StepsKeep config IsSo → (log new : List Act) → IsSo log
     → IsNext config log new → IsSo new
 step_keeps config IsSo keep log new so (inl (adds, such, is)) = subst IsSo (sym is) (keep.happened adds log so)
@@ -97,13 +97,14 @@ step_keeps config IsSo keep log new so (inr (none, inr (still, inl (adds, such, 
 step_keeps config IsSo keep log new so (inr (none, inr (still, inr (idle, (c, wait, oldest, for, is))))) =
     subst IsSo (sym is) (keep.failed (late wait) c log so)
 
--- the end of a call that is aborted
+-- The end of a suspended call that a device_abort aborts keeps the invariant.
 pub abort_keeps : (config : Config) (IsSo : List Act → Type 0) → StepsKeep config IsSo → (found : Option ℕ) (log : List Act) → IsSo log
     → IsSo (abort_acts found log ++ log)
 abort_keeps config IsSo keep (Some d) log so = keep.failed Abort d log so
 abort_keeps config IsSo keep None log so = so
 
--- the acts of a Turn in their order
+-- The acts of a Turn in their order: the call is taken, its effect comes, and then the end of a
+-- call that it aborts.
 pub turn_parts : (c : ℕ) (bytes : List ℕ) (effect : Effect) (aborts : Option ℕ) (log : List Act)
     → let taken = acts_of c effect ++ On c (CallTaken bytes) ∷ log in
     taken_acts c bytes effect aborts log ++ log ≡ abort_acts aborts taken ++ taken
@@ -113,7 +114,7 @@ turn_parts c bytes effect aborts log =
     append_assoc (acts_of c effect) (On c (CallTaken bytes) ∷ []) log in
     append_assoc (abort_acts aborts (acts ++ log)) acts log ∙ ap (λ (l : List Act). abort_acts aborts l ++ l) same
 
--- a Turn, where what the request does leaves it so
+-- A Turn keeps the invariant if taking the call and its effect do.
 pub turn_keeps : (config : Config) (IsSo : List Act → Type 0) → StepsKeep config IsSo → (polled c : ℕ) (found : Option (List ℕ))
     (request : Option Request) (log : List Act) → IsSo log
     → ((bytes : List ℕ) (asked : Request) → found ≡ Some bytes → request ≡ Some asked
@@ -125,14 +126,14 @@ turn_keeps config IsSo keep polled c (Some bytes) (Some request) log so does =
     (abort_keeps config IsSo keep (aborts request (device_acts log)) _ (does bytes request refl refl))
 turn_keeps config IsSo keep polled c _ _ log so does = so
 
--- a Refuse, where the reply does
+-- A Refuse keeps the invariant if taking the call and the reply with error 9 do.
 pub refuse_keeps : (IsSo : List Act → Type 0) (c : ℕ) (found : Option (List ℕ)) (call : Option CoreCall) (log : List Act) → IsSo log
     → ((bytes : List ℕ) (asked : CoreCall) → found ≡ Some bytes → call ≡ Some asked
     → IsSo (On c (Replied (refused_reply asked)) ∷ On c (CallTaken bytes) ∷ log)) → IsSo (refuse_acts c found call ++ log)
 refuse_keeps IsSo c (Some bytes) (Some call) log so does = does bytes call refl refl
 refuse_keeps IsSo c _ _ log so does = so
 
--- ---- a call that is done, or waits no more
+-- ---- a call that is executed, or leaves the queue
 
 left_none : (c : ℕ) (acts : List WaitAct) → waits c (Left c ∷ acts) ≡ None
 left_none c acts = rw (eq-eqb c c refl) refl
@@ -158,7 +159,7 @@ pub replies_role : (xid : ℕ) (result : Option Outcome) (own : List ConnAct) �
 replies_role xid (Some result) own = refl
 replies_role xid None own = refl
 
--- it ends with an error, or with what is left to do once a peer was called
+-- Ending a suspended call with an error keeps `Fit`.
 pub fit_failed : (error : ErrorCode) (c : ℕ) (call : Option CoreCall) (log : List Act) → Fit log
     → Fit (acts_of c (failure_effect error c call) ++ log)
 fit_failed error c (Some call) log fit = fit_free c (failure_effect error c (Some call)) log fit (refl, tt) refl
@@ -185,7 +186,7 @@ fit_connected c ok None log fit = fit_free c (connect_effect c ok None) log fit 
 
 -- ---- a call that resumes
 
--- a create_link doesn't wait anew
+-- A create_link that resumes isn't suspended again.
 pub no_next : (wait : Wait) (arguments : Arguments) (acts : List DeviceAct) (next : Wait × ℕ) → is_create_link arguments ≡ true
     → next_wait wait arguments acts ≡ Some next → ⊥
 no_next Lock (CreateLink client_id lock_device lock_timeout device) acts next is e = cc
@@ -227,7 +228,7 @@ fit_resumed config polled c wait log fit for =
     subst (λ (call : Option CoreCall). Fit (acts_of c (resume_effect config polled c wait call (device_acts log)) ++ log)) (sym held.1.1)
     (fit_continued config polled c wait held.1.0 (next_wait wait held.1.0.arguments (device_acts log)) log fit for held.1.1 refl)
 
--- ---- what happens to the instrument
+-- ---- acts of the instrument
 
 suits_happened : (adds : List InstrumentAct) (acts : List DeviceAct) → AllSuit acts → AllSuit (map Applied adds ++ acts)
 suits_happened [] acts all = all
@@ -239,7 +240,6 @@ fit_happened adds log fit = fit_shared (map Applied adds) log fit (suits_happene
 
 -- ---- a step
 
--- steps keep it
 pub fit_keeps : (config : Config) → StepsKeep config Fit
 fit_keeps config = record {
   happened = fit_happened;
@@ -252,7 +252,7 @@ fit_step config = step_keeps config Fit (fit_keeps config)
 
 -- ---- an event's own acts
 
--- no call of a connection waits that has none without an answer
+-- A connection without a pending call has no suspended call.
 waits_free : (c : ℕ) (log : List Act) (found : Option Wait) → Fit log → pending_call (of c log) ≡ None
     → waits c (wait_acts (device_acts log)) ≡ found → waits c (wait_acts (device_acts log)) ≡ None
 waits_free c log None fit free is = is
@@ -268,7 +268,7 @@ fit_taken : (c : ℕ) (bytes : List ℕ) (log : List Act) → Fit log → waits 
     → Fit (On c (CallTaken bytes) ∷ log)
 fit_taken c bytes log fit none = fit_on_free c (CallTaken bytes) log fit refl none
 
--- a call that begins to wait
+-- A call that was just suspended has this wait, and names this link.
 pub entered_waits : (c : ℕ) (named : Option ℕ) (wait : Wait) (last : Option ℕ) (acts : List WaitAct)
     → (waits c (Entered c named wait last ∷ acts) ≡ Some wait) × (named_link c (Entered c named wait last ∷ acts) ≡ named)
 entered_waits c named wait last acts = rw (eq-eqb c c refl) (refl, refl)
@@ -335,7 +335,7 @@ fit_refuse c log fit = refuse_keeps Fit c (next_call (of c log)) (refusable (of 
     let none = idle_free c log bytes fit next in
     fit_on_free c (Replied _) (On c (CallTaken bytes) ∷ log) (fit_taken c bytes log fit none) refl none)
 
--- a connection opens
+-- If an Open isn't refused, the connection isn't open yet.
 pub shut_before : (far : Bool) (role : Option Role)
     → cond far (Some NoConn) (cond (is_some role) (Some ConnInUse) None) ≡ None → role ≡ None
 shut_before true role e = absurd cc
@@ -359,7 +359,7 @@ fit_open c role log fit shut = record {
   ];
 }
 
--- a connection closes
+-- Acts on links that make no link suit all acts before them.
 suits_links : (links : List LinkAct) (acts : List DeviceAct) (before : List LinkAct) → Each (λ before act. MakesNone act) links before
     → AllSuit acts → AllSuit (map Linked links ++ acts)
 suits_links [] acts before h all = all
@@ -437,7 +437,7 @@ fit_none = record {
   held = λ c wait is. absurd (let z : None ≡ Some wait = is in cc);
 }
 
--- in every log of a history
+-- Each log of a history is `Fit`.
 pub fit_log : (config : Config) (history : List PlainEvent) (log : List Act) → IsLogOf config history log → Fit log
 fit_log config =
     each_log config Fit fit_none (λ event polled channel_log log is free. fit_event config event polled channel_log log free)

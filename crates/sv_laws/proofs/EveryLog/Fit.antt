@@ -1,5 +1,5 @@
--- What holds in every log of a history of each act and of each call that waits; and acts that keep
--- it.
+-- The invariant `Fit`, and acts that keep it: each act of the device suits the acts before it, and
+-- each link and each suspended call belongs to an open core channel.
 use Rattle.std.proofs.Common.{◌≡◌, ◌≢◌, ℕ, ◌+◌, ◌<◌, true, List, [], ◌∷◌, ◌++◌, Option, Some, None, refl, sym, ap, subst, ◌∙◌, inl, inr, ◌⊎◌}
 use Rattle.std.specs.Prelude.{map, ⊤}
 use Rattle.std.proofs.lemmas.Bool.{cases_eq}
@@ -20,9 +20,9 @@ use Rattle.sv_history.specs.Request.{core_call_in}
 use Rattle.sv_history.specs.Effect.{Effect, acts_of}
 use Rattle.sv_history.proofs.Projections.{of_shared, device_shared, of_effect, others_effect, device_effect}
 
--- An act suits those before it: a link that is made has the next number; a call that begins to wait
--- is of one of sixteen connections, and the link that it names is that connection's; so is a link
--- that begins to ask for service requests.
+-- The act suits the acts before it. A link that is made gets the next number. A call that is
+-- suspended is of a connection from 0 to 15, and the link that it names belongs to this connection.
+-- Service requests are enabled for a link by the connection that owns it.
 abbrev pub Suits : List DeviceAct → DeviceAct → Type 0
 Suits acts (Linked (Made lid conn)) = lid ≡ links_made (link_acts acts) + 1
 Suits acts (Waited (Entered conn named wait last)) = (conn < 16) × ((n : ℕ) → named ≡ Some n → owner n (link_acts acts) ≡ Some conn)
@@ -33,8 +33,8 @@ abbrev pub AllSuit : List DeviceAct → Type 0
 AllSuit [] = ⊤
 AllSuit (act ∷ acts) = Suits acts act × AllSuit acts
 
--- If the call of a connection waits, the connection is open as a core channel, and has a call
--- without an answer; if that is a create_link it waits for the lock, and names no link.
+-- The pending call of the connection is a call of the core channel. If it is a create_link, it
+-- waits for the lock and names no link.
 abbrev pub IsCall : Wait → Option ℕ → List ConnAct → Type 0
 IsCall wait named acts = (call : CoreCall) × (core_call_in (pending_call acts) ≡ Some call)
     × (is_create_link call.arguments ≡ true → (wait ≡ Lock) × (named ≡ None))
@@ -51,14 +51,14 @@ pub suit_more : (adds acts : List DeviceAct) → Each Suits adds acts → AllSui
 suit_more [] acts h all = all
 suit_more (act ∷ adds) acts h all = (h.0, suit_more adds acts h.1 all)
 
--- no call waits, so nothing is asked of it
+-- If the connection has no suspended call, `IsHeld` holds.
 pub held_none : (c : ℕ) (own : List ConnAct) (acts : List WaitAct) → waits c acts ≡ None → IsHeld c own acts
 held_none c own acts none = λ wait is. absurd (let z : None ≡ Some wait = sym none ∙ is in cc)
 
 -- ---- acts of one connection
 
--- An act that suits, of this connection where it makes a link, for which this has to hold, or where
--- a call of its begins or ends to wait.
+-- The act suits the acts before it. If it makes a link, this link belongs to connection `c`, and
+-- `May` holds. If it is an act of a suspended call, it is one of connection `c`.
 abbrev pub IsBy : ℕ → Type 0 → List DeviceAct → DeviceAct → Type 0
 IsBy c May acts (Linked (Made lid conn)) = (lid ≡ links_made (link_acts acts) + 1) × (conn ≡ c) × May
 IsBy c May acts (Waited (Entered conn named wait last)) =
@@ -80,7 +80,7 @@ by_suits c May (act ∷ adds) acts h = (one act (adds ++ acts) h.0, by_suits c M
 same_none : (c : ℕ) (acts : List WaitAct) → SameCall c acts acts
 same_none c acts = record { wait = refl; until = refl; named = refl }
 
--- the calls of others are as before
+-- Such acts leave the suspended calls of other connections as they are.
 pub by_others : (c d : ℕ) (May : Type 0) (adds acts : List DeviceAct) → d ≢ c → Each (IsBy c May) adds acts
     → SameCall d (wait_acts (adds ++ acts)) (wait_acts acts)
 by_others c d May [] acts ne h = same_none d (wait_acts acts)
@@ -92,7 +92,7 @@ by_others c d May (Waited act ∷ adds) acts ne h = call_foreign d act (wait_act
     conn_is _ acts h = h
 by_others c d May (_ ∷ adds) acts ne h = by_others c d May adds acts ne h.1
 
--- an owner was one before, or is this connection
+-- After such acts, the owner of a link is the one before, or it is connection `c` and `May` holds.
 by_owner : (c n d : ℕ) (May : Type 0) (adds acts : List DeviceAct) → Each (IsBy c May) adds acts
     → owner n (link_acts (adds ++ acts)) ≡ Some d → (owner n (link_acts acts) ≡ Some d) ⊎ ((d ≡ c) × May)
 by_owner c n d May [] acts h is = inl is
@@ -104,7 +104,7 @@ by_owner c n d May (Linked (Destroyed lid) ∷ adds) acts h is =
     by_owner c n d May adds acts h.1 (owner_before n d lid (link_acts (adds ++ acts)) is).1
 by_owner c n d May (_ ∷ adds) acts h is = by_owner c n d May adds acts h.1 is
 
--- a call that waits as before
+-- If the connection's acts and its suspended call are the same, `IsHeld` still holds.
 pub held_same : (c : ℕ) (own now : List ConnAct) (acts after : List WaitAct) → now ≡ own → SameCall c after acts → IsHeld c own acts
     → IsHeld c now after
 held_same c own now acts after same call held = λ wait is.
@@ -117,12 +117,13 @@ held_same c own now acts after same call held = λ wait is.
       ),
     )
 
--- ---- what an effect leaves
+-- ---- effects that keep the invariant
 
 abbrev pub IsCore : ℕ → List Act → Type 0
 IsCore c log = open_role (of c log) ≡ Some Core
 
--- what holds of each connection's acts behind an effect of one
+-- What holds of connection `c` after the effect, and of each other connection before, holds of each
+-- connection after the effect.
 pub of_each : (IsSo : ℕ → List ConnAct → Type 0) (c : ℕ) (effect : Effect) (log : List Act) → IsSo c (effect.own ++ of c log)
     → ((d : ℕ) → d ≢ c → IsSo d (of d log)) → (d : ℕ) → IsSo d (of d (acts_of c effect ++ log))
 of_each IsSo c effect log mine others d = elim (cases_eq d c) [
@@ -154,12 +155,14 @@ fit_effect c effect log fit by role held =
     roles = of_each (λ d own. open_role (of d log) ≡ Some Core → open_role own ≡ Some Core) c effect log (λ is. role ∙ is)
         (λ d ne is. is)
 
--- an act of one connection that leaves what it is open for, and its call
+-- An act of one connection keeps `Fit` if it keeps the connection's role, and `IsHeld` holds after
+-- it.
 pub fit_on : (c : ℕ) (act : ConnAct) (log : List Act) → Fit log → open_role (act ∷ of c log) ≡ open_role (of c log)
     → IsHeld c (act ∷ of c log) (wait_acts (device_acts log)) → Fit (On c act ∷ log)
 fit_on c act log fit role held = fit_effect c (record { own = act ∷ []; adds = [] }) log fit tt role held
 
--- where its call doesn't wait behind them
+-- An effect of connection `c` keeps `Fit` if it keeps the connection's role and leaves it no
+-- suspended call.
 pub fit_free : (c : ℕ) (effect : Effect) (log : List Act) → Fit log → Each (IsBy c (IsCore c log)) effect.adds (device_acts log)
     → open_role (effect.own ++ of c log) ≡ open_role (of c log) → waits c (wait_acts (effect.adds ++ device_acts log)) ≡ None
     → Fit (acts_of c effect ++ log)
@@ -171,7 +174,7 @@ pub fit_on_free : (c : ℕ) (act : ConnAct) (log : List Act) → Fit log → ope
 fit_on_free c act log fit role none =
     fit_on c act log fit role (held_none c (act ∷ of c log) (wait_acts (device_acts log)) none)
 
--- acts of what all share, that are neither of links nor of calls that wait
+-- Acts of the device keep `Fit` if they suit, and concern neither links nor suspended calls.
 pub fit_shared : (adds : List DeviceAct) (log : List Act) → Fit log → AllSuit (adds ++ device_acts log)
     → link_acts (adds ++ device_acts log) ≡ link_acts (device_acts log) → wait_acts (adds ++ device_acts log) ≡ wait_acts (device_acts log)
     → Fit (map OnDevice adds ++ log)

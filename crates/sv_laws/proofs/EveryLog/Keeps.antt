@@ -1,4 +1,4 @@
--- What each act of the device keeps in every log, and what follows: which link holds the lock, and
+-- An invariant of the acts of the device, and what follows from it: which link holds the lock, and
 -- which links the suspended calls name.
 use Rattle.std.proofs.Common.{◌≡◌, ◌≢◌, ℕ, Bool, true, false, eqb, List, [], ◌∷◌, ◌++◌, Option, Some, None, refl, sym, ap, subst, ◌∙◌, inl, inr, ◌⊎◌, eq-eqb}
 use Rattle.std.specs.Prelude.{map, not, ◌&&◌, ◌||◌, ⊤, option_map}
@@ -23,7 +23,7 @@ use Rattle.sv_laws.proofs.EveryLog.Known.{rises, mapped}
 abbrev pub NamesNone : ℕ → List DeviceAct → Type 0
 NamesNone lid acts = (d : ℕ) (wait : Wait) → waits d (wait_acts acts) ≡ Some wait → link d (wait_acts acts) ≡ Some lid → ⊥
 
--- A link lives, and no call of its connection waits.
+-- The link is live, and its connection has no suspended call.
 abbrev pub IsFree : ℕ → List DeviceAct → Type 0
 IsFree lid acts = (d : ℕ) × (owner lid (link_acts acts) ≡ Some d) × (waits d (wait_acts acts) ≡ None)
 
@@ -31,17 +31,18 @@ IsFree lid acts = (d : ℕ) × (owner lid (link_acts acts) ≡ Some d) × (waits
 abbrev pub IsEarliest : ℕ → List DeviceAct → Type 0
 IsEarliest c acts = IsOldest (wait_acts acts) (WaitsForLock acts) (Some c)
 
--- A link may take the lock: it holds the lock; or the lock is free, and no call waits for it, or
--- the call of the link's connection, which waited for the lock until now, was suspended first.
+-- The link may take the lock in three cases. It already holds the lock; or the lock is free and no
+-- call waits for it; or the lock is free, and of all calls that waited for it, the one that was
+-- suspended first has just left the queue, and is of the link's connection.
 abbrev pub MayTake : ℕ → List DeviceAct → Type 0
 MayTake lid acts = (holder (link_acts acts) ≡ Some lid)
     ⊎ ((holder (link_acts acts) ≡ None) × (((c : ℕ) → WaitsForLock acts c → ⊥)
     ⊎ ((c : ℕ) × (made : List LinkAct) × (before : List DeviceAct) × (acts ≡ map Linked made ++ Waited (Left c) ∷ before)
     × (owner lid (link_acts acts) ≡ Some c) × IsEarliest c before)))
 
--- A link is destroyed that no suspended call names; a link gets the lock that may get it; a call
--- begins to wait for the lock while another link holds it; and a call that stops to wait for the
--- lock while it is free is the oldest.
+-- A link that is destroyed is named by no suspended call. A link that gets the lock may take it. A
+-- call that is suspended for the lock is locked out by another link. A call that stops waiting for
+-- the lock while it is free was suspended first.
 abbrev pub Keeps : List DeviceAct → DeviceAct → Type 0
 Keeps acts (Linked (Destroyed lid)) = NamesNone lid acts
 Keeps acts (Linked (Locked lid)) = IsFree lid acts × MayTake lid acts
@@ -62,9 +63,9 @@ pub keep_before : (newer older : List DeviceAct) → AllKeep (newer ++ older) �
 keep_before [] older all = all
 keep_before (act ∷ newer) older all = keep_before newer older all.1
 
--- ---- one link alone is locked, and it is the holder
+-- ---- at most one link is locked, and it is the holder
 
--- This link alone is locked; `None`: none is.
+-- This link is the only locked one; `None`: no link is locked.
 abbrev HeldBy : List LinkAct → Option ℕ → Type 0
 HeldBy acts o = (n : ℕ) → is_locked n acts ≡ is_this n o
 
@@ -78,7 +79,7 @@ holder_by acts all o held = holder_is
     (link_acts acts)
     (record { made = refl; kept = kept_all (live (link_acts acts)); rising = rises acts all; lock = held })
 
--- a link that may have the lock gets it
+-- If no other link is locked, a link that gets the lock is then the only locked one.
 locked_by : (lid : ℕ) (acts : List LinkAct) (o : Option ℕ) → HeldBy acts o → (o ≡ Some lid) ⊎ (o ≡ None)
     → HeldBy (Locked lid ∷ acts) (Some lid)
 locked_by lid acts o held (inl same) =
@@ -106,7 +107,7 @@ held_is acts all keep =
     let by = held_by acts all keep in
     subst (HeldBy (link_acts acts)) (sym (holder_by acts all by.0 by.1)) by.1
 
--- ---- the holder lives
+-- ---- the holder is a live link
 
 or_by : (a b : Bool) → (a || b) ≡ true → (a ≡ true) ⊎ (b ≡ true)
 or_by true b e = inl refl
@@ -137,7 +138,7 @@ pub holder_lives : (acts : List DeviceAct) → AllSuit acts → AllKeep acts →
 holder_lives acts all keep n is =
     locked_lives acts keep n (held_is acts all keep n ∙ ap (is_this n) is ∙ eq-eqb n n refl)
 
--- ---- the link that a suspended call names lives, and is its connection's
+-- ---- the link that a suspended call names is a live link of its connection
 
 pub named_lives : (acts : List DeviceAct) → AllSuit acts → AllKeep acts → (d : ℕ) (wait : Wait) (n : ℕ)
     → waits d (wait_acts acts) ≡ Some wait → link d (wait_acts acts) ≡ Some n → owner n (link_acts acts) ≡ Some d
@@ -211,7 +212,7 @@ locked_out (Waited (Left conn) ∷ acts) all keep d n w h = elim (cases_Bool (eq
 ]
 locked_out (_ ∷ acts) all keep d n w h = locked_out acts all.1 keep.1 d n w h
 
--- so it can have the lock only while it is free
+-- While a link holds the lock, a call that isn't locked out names this link.
 pub out_or_this : (h : ℕ) (named : Option ℕ) → is_locked_out (Some h) named ≡ false → named ≡ Some h
 out_or_this h (Some n) e = elim (cases_eq n h) [
   | inl same ↦ ap (λ (m : ℕ). Some m) same

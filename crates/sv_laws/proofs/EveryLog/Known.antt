@@ -1,5 +1,5 @@
--- What follows for links, for calls that wait, and for links that ask for service requests, where
--- each act suits those before it.
+-- What follows for links, for suspended calls and for service requests, if each act of the device
+-- suits the acts before it.
 use Rattle.std.proofs.Common.{◌≡◌, ◌≢◌, ℕ, ◌+◌, ◌<◌, ◌≤◌, Bool, true, false, eqb, List, [], ◌∷◌, Option, Some, None, refl, sym, ap, subst, ◌∙◌, inl, inr, eq-eqb, arith}
 use Rattle.std.specs.Prelude.{option_map, find}
 use Rattle.std.proofs.lemmas.Bool.{cases_Bool, cases_eq, eqb-true, ne_eqb}
@@ -21,7 +21,7 @@ use Rattle.sv_history.specs.Settling.{CanResume}
 use Rattle.sv_laws.specs.Isolation.{NoOtherWaits}
 use Rattle.sv_laws.proofs.EveryLog.Fit.{AllSuit}
 
--- ---- numbers of links rise
+-- ---- the numbers of links rise
 
 pub rises : (acts : List DeviceAct) → AllSuit acts → IsRising (live (link_acts acts)) (links_made (link_acts acts))
 rises [] all = tt
@@ -40,13 +40,13 @@ rising_owner n c last (x ∷ xs) rising h = elim (cases_Bool (eqb x.lid n)) [
   | inr e ↦ rising_owner n c last xs rising.2 (rw e at h)
 ]
 
--- a live link's number is at most as high as links were made
+-- The number of a live link is at most the number of links that were made.
 pub owner_within : (n c : ℕ) (acts : List DeviceAct) → AllSuit acts → owner n (link_acts acts) ≡ Some c → n ≤ links_made (link_acts acts)
 owner_within n c acts all h = rising_owner n c (links_made (link_acts acts)) (live (link_acts acts)) (rises acts all) h
 
--- ---- the link that a waiting call names
+-- ---- the link that a suspended call names
 
--- It is none to come, and if it lives it is this connection's.
+-- No link that is made later gets this number. If the link is live, it belongs to connection `d`.
 abbrev pub IsNamed : ℕ → ℕ → List LinkAct → Type 0
 IsNamed d n acts = (n ≤ links_made acts) × ((e : ℕ) → owner n acts ≡ Some e → e ≡ d)
 
@@ -72,7 +72,7 @@ wait_link (Waited (Entered conn named wait last) ∷ acts) all d n h = elim (cas
 ]
 wait_link (_ ∷ acts) all d n h = wait_link acts all.1 d n h
 
--- ---- a call that waits is of one of sixteen connections
+-- ---- a suspended call is of a connection from 0 to 15
 
 pub mapped : (wait now : Wait) (found : Option Wait) → option_map (λ before. wait) found ≡ Some now → (was : Wait) × (found ≡ Some was)
 mapped wait now None e = absurd cc
@@ -96,9 +96,9 @@ waits_within (Waited (Left conn) ∷ acts) all d wait h = elim (cases_Bool (eqb 
 ]
 waits_within (_ ∷ acts) all d wait h = waits_within acts all.1 d wait h
 
--- ---- a link that asks for service requests lives, on the connection that it is of
+-- ---- a link that has service requests enabled is live
 
--- Those of these lists are owned.
+-- Each link that has service requests enabled belongs to the connection that enabled them.
 abbrev AskOwned : List DeviceAct → List ChannelAct → Type 0
 AskOwned acts channel_log = (lid : ℕ) (one : Enabled) → srq_enabled lid channel_log ≡ Some one → owner lid (link_acts acts) ≡ Some one.conn
 
@@ -139,14 +139,14 @@ asks_own (Applied act ∷ acts) channel_log all (before, false, hears, so, is) =
     subst (AskOwned acts) (sym is) (asks_own acts before all.1 hears)
 asks_own (_ ∷ acts) channel_log all hears = asks_own acts channel_log all.1 hears
 
--- so one of a number that isn't a connection's is of another
+-- A link that doesn't belong to connection `c` hasn't enabled service requests on `c`.
 pub asks_elsewhere : (c lid : ℕ) (acts : List DeviceAct) (channel_log : List ChannelAct) → AllSuit acts → HearsOf acts channel_log
     → is_of c (owner lid (link_acts acts)) ≡ false → AsksElsewhere c lid channel_log
 asks_elsewhere c lid acts channel_log all hears none one h same =
     let owns : owner lid (link_acts acts) ≡ Some c = asks_own acts channel_log all hears lid one h ∙ ap (λ (n : ℕ). Some n) same in
     let z : true ≡ false = sym (is_of_owner c lid (link_acts acts) owns) ∙ none in cc
 
--- ---- under a lock no call of another connection can resume
+-- ---- while a link holds the lock, no call of another connection can resume
 
 not_there : (lid : ℕ) (named : Option ℕ) (wait : Option Wait) (writes reads : Bool) → wait ≢ Some ForInput → wait ≢ Some Response
     → ((n : ℕ) → named ≡ Some n → n ≢ lid) → is_there (Some lid) writes reads named wait ≡ true → ⊥

@@ -1,4 +1,5 @@
--- Steps that are due, one after the other: each adds acts to the log, and at the end none is due.
+-- Steps that are due, one after the other: each adds acts to the log, and after the last one no
+-- step is due.
 use Rattle.std.proofs.Common.{◌≡◌, ℕ, zero, suc, List, [], ◌∷◌, ◌++◌, Some, None, sym, ap, subst, ◌∙◌, inl, inr, append_assoc}
 use Rattle.std.specs.Prelude.{map}
 use Rattle.sv_instrument.specs.Stimulus.{IsFired}
@@ -9,7 +10,7 @@ use Rattle.sv_history.specs.Act.{Act, OnDevice, Applied}
 use Rattle.sv_history.specs.Settling.{InstrumentDoes, Resumes, TimesOut, IsNext, IsSettled, SettlesIn}
 use Rattle.sv_history.specs.History.{IsLogOf}
 
--- ---- each adds acts
+-- ---- each step adds acts
 
 abbrev pub Extends : List Act → List Act → Type 0
 Extends log new = (adds : List Act) × (new ≡ adds ++ log)
@@ -29,7 +30,7 @@ settles_extends zero config log new (none, same) = ([], same)
 settles_extends (suc n) config log new (middle, next, more) =
     extends_then log middle new (next_extends config log middle next) (settles_extends n config middle new more)
 
--- ---- at the end none is due
+-- ---- after the last step none is due
 
 nothing_due : (n : ℕ) (config : Config) (log new : List Act) → SettlesIn n config log new → IsSettled config new
 nothing_due zero config log new (none, same) = subst (λ (end : List Act). IsSettled config end) (sym same) none
@@ -46,12 +47,12 @@ log_settled config [] log (given, none) = subst (λ (end : List Act). IsSettled 
 log_settled config (event ∷ history) log (before, polled, channel_log, is_event, was, hears, free, said, settles) =
     nothing_due settles.0 config _ log settles.1
 
--- so from there nothing is reached
+-- If no step is due, the log stays as it is.
 pub stays : (n : ℕ) (config : Config) (log new : List Act) → IsSettled config log → SettlesIn n config log new → new ≡ log
 stays zero config log new none (still, same) = same
 stays (suc n) config log new none (middle, next, more) = absurd (none middle next)
 
--- ---- where none is due, none of any kind is
+-- ---- if no step is due, no step of any kind is possible
 
 pub record Rested (config : Config) (log : List Act) : Type 0 where
   pub fires : (new : List Act) → InstrumentDoes IsFired log new → ⊥
@@ -71,9 +72,9 @@ rested config log none =
       times = λ new does. none new (inr (fires, inr (resumes, inr (steps, does))));
     }
 
--- ---- some steps, and then others
+-- ---- steps that lead from one log to another
 
--- What settles the second log settles the first.
+-- Every log that `mid` settles to is one that `log` settles to.
 abbrev pub Reaches : Config → List Act → List Act → Type 0
 Reaches config log mid = (n : ℕ) (new : List Act) → SettlesIn n config mid new → (m : ℕ) × SettlesIn m config log new
 

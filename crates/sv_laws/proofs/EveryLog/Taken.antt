@@ -1,4 +1,5 @@
--- What is known of a call that a connection takes.
+-- What is known of a call when it is taken: no other call is pending, and its request is for the
+-- program of its connection.
 use Rattle.std.proofs.Common.{◌≡◌, ℕ, ◌<◌, ◌≤◌, Bool, true, false, cond, List, nat_lt, Option, Some, None, refl, sym, ap, subst, ◌∙◌, arith}
 use Rattle.std.specs.Prelude.{is_some, ◌||◌, ℤ, slice_get, Result, Ok, Err}
 use Rattle.std.proofs.lemmas.Bool.{ltb-false}
@@ -22,7 +23,7 @@ use Rattle.sv_history.proofs.Deciding.{unless_decided, header_reply, request_is}
 use Rattle.sv_history.specs.History.{unless_shut}
 use Rattle.sv_laws.proofs.Facts.{some_same}
 
--- ---- it has no other without an answer
+-- ---- no other call is pending
 
 free_by : (t : Bool) (call rest : Option (List ℕ)) (bytes : List ℕ) → cond (t || is_some call) None rest ≡ Some bytes → call ≡ None
 free_by t None rest bytes e = refl
@@ -33,9 +34,9 @@ pub free_call : (acts : List ConnAct) (bytes : List ℕ) → next_call acts ≡ 
 free_call acts bytes e =
     free_by (took_no_call acts) (pending_call acts) (slice_get (records_of (stream acts)) (records_ended acts)) bytes e
 
--- ---- what a record asks for is of its connection's program, and has its xid
+-- ---- a request is for the program of its connection, and has the xid of its record
 
--- the xid of what is read as a call, unless it is none
+-- The xid of a record; `None` if the record isn't a call.
 abbrev pub xid_of : Result PlainCall CallFault → Option ℕ
 xid_of (Ok call) = Some call.xid
 xid_of (Err (Version xid)) = Some xid
@@ -48,14 +49,13 @@ xid_in (CoreRequest call) = Some call.xid
 xid_in (AbortRequest xid lid) = Some xid
 xid_in (PortRequest xid args) = Some xid
 
--- A request is of the program of this role, and has this xid.
+-- The request is for the program of this role, and has this xid.
 abbrev pub AsksAs : Role → Option ℕ → Request → Type 0
 AsksAs role xid (CoreRequest call) = (role ≡ Core) × (xid ≡ Some call.xid)
 AsksAs role xid (AbortRequest own lid) = (role ≡ Abort) × (xid ≡ Some own)
 AsksAs role xid (PortRequest own args) = (role ≡ Portmap) × (xid ≡ Some own)
 AsksAs role xid request = xid ≡ xid_in request
 
--- so has what is asked
 pub xid_is : (role : Role) (xid : Option ℕ) (request : Request) → AsksAs role xid request → xid ≡ xid_in request
 xid_is role xid (CoreRequest call) h = h.1
 xid_is role xid (AbortRequest own lid) h = h.1
@@ -76,7 +76,8 @@ decided_asks Core call None = core_asks call.xid (arguments_at call.proc call.ar
 decided_asks Abort call None = abort_asks call.xid (arguments_at call.proc call.args)
 decided_asks Portmap call None = (refl, refl)
 
--- So is what a record asks for on a connection of this role.
+-- The request that is read from a record is for the program of the role, and has the xid of the
+-- record.
 pub asks_as : (role : Role) (found : Result PlainCall CallFault) (request : Request) → request_of role found ≡ request
     → AsksAs role (xid_of found) request
 asks_as role found request same = subst (AsksAs role (xid_of found)) same (by found)
@@ -86,12 +87,11 @@ asks_as role found request same = subst (AsksAs role (xid_of found)) same (by fo
     by (Err (Version xid)) = refl
     by (Err BadHeader) = refl
 
--- a call of the core channel
 pub is_core : (request : Request) (call : CoreCall) → core_call_of request ≡ Some call → request ≡ CoreRequest call
 is_core (CoreRequest found) call e = ap CoreRequest (some_same found call e)
 is_core _ call e = absurd cc
 
--- ---- a call of the core channel is taken on a core channel, and is what its bytes are
+-- ---- a call of the core channel is taken on a core channel, and is read from its record
 
 core_asked : (role : Option Role) (bytes : List ℕ) (call : CoreCall) → request_for role (Some bytes) ≡ Some (CoreRequest call)
     → (role ≡ Some Core) × (core_call bytes ≡ Some call)
@@ -106,7 +106,7 @@ pub core_taken : (acts : List ConnAct) (bytes : List ℕ) (call : CoreCall) → 
 core_taken acts bytes call next request =
     core_asked (open_role acts) bytes call (ap (request_for (open_role acts)) (sym next) ∙ request)
 
--- a device_abort isn't
+-- A core channel takes no device_abort.
 pub no_abort : (acts : List ConnAct) (xid : ℕ) (lid : ℤ) → open_role acts ≡ Some Core → next_request acts ≡ Some (AbortRequest xid lid) → ⊥
 no_abort acts xid lid = by (open_role acts) (next_call acts)
   where
@@ -118,7 +118,7 @@ no_abort acts xid lid = by (open_role acts) (next_call acts)
     by (Some role) None core e = absurd cc
     by None found core e = absurd cc
 
--- ---- an event that isn't refused is of one of sixteen connections
+-- ---- an event that isn't refused is of a connection from 0 to 15
 
 within_by : (far shut : Bool) (other : Option Refused) → cond (far || shut) (Some NoConn) other ≡ None → (far ≡ false) × (shut ≡ false)
 within_by true shut other e = absurd cc

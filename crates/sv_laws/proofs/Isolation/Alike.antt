@@ -1,5 +1,5 @@
--- Two logs that are alike for a connection whose link holds the lock, over acts of others and over
--- the same acts.
+-- Two logs that are alike for a connection whose link holds the lock. They stay so after acts of
+-- other connections in one of them, and after the same acts in both.
 use Rattle.std.proofs.Common.{◌≡◌, ◌≢◌, ℕ, ◌+◌, Bool, true, false, eqb, List, [], ◌∷◌, ◌++◌, Option, Some, refl, sym, ap, subst, ◌∙◌, inl, inr}
 use Rattle.std.specs.Prelude.{⊤, ◌↔◌, ◌==◌, if◌then◌else◌}
 use Rattle.std.proofs.lemmas.Bool.{cases_Bool, ne_eqb}
@@ -23,10 +23,10 @@ use Rattle.sv_history.proofs.Telling.{peer_more}
 use Rattle.sv_laws.proofs.EveryLog.Fit.{AllSuit}
 use Rattle.sv_laws.proofs.EveryLog.Known.{asks_elsewhere}
 
--- ---- what all connections share
+-- ---- the acts of the device
 
--- What acts of the connection rest on is the same in both; its link holds the lock in both, and no
--- other connection waits for the device.
+-- All that the calls of connection `c` depend on is the same in both logs. In both, link `lid` of
+-- this connection holds the lock, and no read or write of another connection waits for the device.
 pub record View (c lid : ℕ) (acts other : List DeviceAct) : Type 0 where
   pub instrument : instrument_acts acts ≡ instrument_acts other
   pub clock : ticks acts ≡ ticks other
@@ -43,8 +43,8 @@ pub mine_also : (c lid : ℕ) (acts other : List DeviceAct) → View c lid acts 
 mine_also c lid acts other view = owner_is_of c (owner lid (link_acts other))
     (sym (view.owns lid) ∙ is_of_owner c lid (link_acts acts) view.mine)
 
--- an act of another connection: on its own links, of its own call, which doesn't wait for the
--- device, or of its own channel
+-- An act of another connection: on its own links, on its own call, which isn't suspended to wait
+-- for the device, or on its own interrupt channel.
 abbrev pub IsForeign : ℕ → List DeviceAct → DeviceAct → Type 0
 IsForeign c acts (Linked act) = IsForeignLink c act (link_acts acts)
 IsForeign c acts (Waited (Entered conn named wait last)) = (conn ≢ c) × (wait ≢ ForInput) × (wait ≢ Response)
@@ -56,13 +56,13 @@ IsForeign c acts (Channel (ChannelClosed conn)) = conn ≢ c
 IsForeign c acts (Channel (ChannelTaken conn count)) = conn ≢ c
 IsForeign c acts _ = ⊥
 
--- an act of this connection, or of none, that makes no link
+-- An act of this connection or of no connection; it makes no link.
 abbrev pub IsOwn : ℕ → DeviceAct → Type 0
 IsOwn c (Linked act) = MakesNone act
 IsOwn c (Waited act) = conn_of act ≡ c
 IsOwn c _ = ⊤
 
--- ---- no other connection waits for the device
+-- ---- no read or write of another connection waits for the device
 
 rest_entered : (c conn : ℕ) (named : Option ℕ) (wait : Wait) (last : Option ℕ) (acts : List WaitAct) → wait ≢ ForInput → wait ≢ Response
     → NoOtherWaits c acts → NoOtherWaits c (Entered conn named wait last ∷ acts)
@@ -81,7 +81,7 @@ rest_own : (c : ℕ) (act : WaitAct) (acts : List WaitAct) → conn_of act ≡ c
 rest_own c (Left conn) acts same rest d ne = rw (ne_eqb conn d (λ e. ne (sym e ∙ same))) (rest d ne)
 rest_own c _ acts same rest d ne = rw (ne_eqb _ d (λ e. ne (sym e ∙ same))) (rest d ne)
 
--- ---- over acts
+-- ---- after acts
 
 peer_foreign : (c : ℕ) (acts : List DeviceAct) (act : ChannelAct) (more : List ChannelAct) → IsForeign c acts (Channel act)
     → peer c (act ∷ more) ≡ peer c more
@@ -107,7 +107,7 @@ view_foreign c lid (Waited (Left conn)) acts other h now view = assumption (
 view_foreign c lid (Channel act) acts other h now view = assumption (peer_foreign c acts act (channel_acts acts) h ∙ view.opened)
 view_foreign c lid _ acts other h now view = absurd h
 
--- in the other log, the call of another connection ends to wait
+-- A suspended call of another connection leaves the queue in the other log.
 pub view_left : (c lid d : ℕ) (acts other : List DeviceAct) → d ≢ c → View c lid acts other → View c lid acts (Waited (Left d) ∷ other)
 view_left c lid d acts other ne view =
     let back = call_sym c (wait_acts acts) (wait_acts other) view.call in
@@ -116,7 +116,6 @@ view_left c lid d acts other ne view =
       rest_left c d (wait_acts other) view.rest,
     )
 
--- the same act
 pub view_same : (c lid : ℕ) (act : DeviceAct) (acts other : List DeviceAct) → IsOwn c act → holder (link_acts (act ∷ acts)) ≡ Some lid
     → View c lid acts other → View c lid (act ∷ acts) (act ∷ other)
 view_same c lid (Linked act) acts other h now view = assumption (
@@ -135,9 +134,10 @@ view_same c lid (Channel act) acts other h now view =
 view_same c lid (Applied act) acts other h now view = assumption (ap (λ (l : List InstrumentAct). act ∷ l) view.instrument)
 view_same c lid Ticked acts other h now view = assumption (ap (λ (n : ℕ). n + 1) view.clock)
 
--- ---- what is told to interrupt channels
+-- ---- the logs of the interrupt channels
 
--- What the one log tells is the same for this connection's channel as what the other tells.
+-- For each log of the interrupt channels that the one list of acts leads to, the other list leads
+-- to one that is the same for the channel of connection `c`.
 abbrev pub TellsAs : ℕ → List DeviceAct → List DeviceAct → Type 0
 TellsAs c acts other = (channel_log : List ChannelAct) → HearsOf acts channel_log
     → (also : List ChannelAct) × HearsOf other also × SameChannel c channel_log also
@@ -167,7 +167,7 @@ tells_foreign c (Channel act) acts other all h tells = λ channel_log (before, h
 tells_foreign c (Applied act) acts other all h tells = absurd h
 tells_foreign c Ticked acts other all h tells = absurd h
 
--- and what the other tells is the same as what this one tells
+-- The same with the act in the other log.
 pub tells_back : (c : ℕ) (act : DeviceAct) (acts other : List DeviceAct) → AllSuit acts → IsForeign c acts act → TellsAs c other acts
     → TellsAs c other (act ∷ acts)
 tells_back c (Linked act) acts other all h tells = λ channel_log hears.
@@ -230,11 +230,11 @@ abbrev pub IsOwnAct : ℕ → List Act → Act → Type 0
 IsOwnAct c log (On d act) = ⊤
 IsOwnAct c log (OnDevice act) = IsOwn c act
 
--- the link holds the lock behind an act
+-- Link `lid` holds the lock after the act.
 abbrev pub Locks : ℕ → List Act → Act → Type 0
 Locks lid log act = holder (link_acts (device_acts (act ∷ log))) ≡ Some lid
 
--- acts of others, in the one log
+-- Acts of other connections are added to the one log.
 pub pair_foreign : (c lid : ℕ) (new log other : List Act) → Each (IsForeignAct c) new log → Each (Locks lid) new log
     → AllSuit (device_acts (new ++ log)) → Pair c lid log other → Pair c lid (new ++ log) other
 pair_foreign c lid [] log other h locks all pair = pair
@@ -249,7 +249,7 @@ pair_foreign c lid (OnDevice act ∷ new) log other h locks all pair =
       tells_back c act (device_acts (new ++ log)) (device_acts other) all.1 h.0 so.back,
     )
 
--- the same acts, in both
+-- The same acts are added to both logs.
 pub pair_same : (c lid : ℕ) (new log other : List Act) → Each (IsOwnAct c) new log → Each (Locks lid) new log → Pair c lid log other
     → Pair c lid (new ++ log) (new ++ other)
 pair_same c lid [] log other h locks pair = pair
@@ -265,13 +265,13 @@ pair_same c lid (OnDevice act ∷ new) log other h locks pair =
       back = tells_same c act (device_acts (new ++ other)) (device_acts (new ++ log)) (sym so.view.instrument) so.back;
     }
 
--- an act of another connection's call that ends
+-- An act by which the suspended call of another connection ends.
 abbrev pub IsLeaving : ℕ → List Act → Act → Type 0
 IsLeaving c log (On d act) = d ≢ c
 IsLeaving c log (OnDevice (Waited (Left d))) = d ≢ c
 IsLeaving c log (OnDevice _) = ⊥
 
--- such acts, in the other log
+-- Such acts are added to the other log.
 pub pair_left : (c lid : ℕ) (new log other : List Act) → Each (IsLeaving c) new other → Pair c lid log other → Pair c lid log (new ++ other)
 pair_left c lid [] log other h pair = pair
 pair_left c lid (On d act ∷ new) log other h pair =

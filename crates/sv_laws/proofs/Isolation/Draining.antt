@@ -1,5 +1,5 @@
--- Where nothing but giving up is due, the calls of other connections whose deadline has come before
--- this one's are given up.
+-- If only timeouts are due, the calls of other connections whose deadline has come, and that are
+-- older than the connection's own call, time out first.
 use Rattle.std.proofs.Common.{◌≡◌, ◌≢◌, ℕ, zero, suc, ◌+◌, ◌<◌, ◌≤◌, List, ◌∷◌, ◌++◌, Option, Some, None, refl, sym, ap, subst, ◌∙◌, inl, inr, ◌⊎◌, arith}
 use Rattle.std.specs.Prelude.{map, ◌↔◌}
 use Rattle.std.specs.Int.{bit_at}
@@ -29,9 +29,9 @@ use Rattle.sv_laws.proofs.Isolation.Alike.{View, Pair, IsLeaving, pair_left, min
 use Rattle.sv_laws.proofs.EveryLog.Due.{count, left_fewer, oldest_due}
 use Rattle.sv_laws.proofs.EveryLog.Steps.{Reaches, reaches_none, reaches_next, reaches_then}
 
--- ---- what is due in one log and in the other
+-- ---- which steps are possible in both logs
 
--- the instrument has nothing to do, and no call can resume
+-- The instrument takes no step, and no suspended call can resume.
 abbrev pub NothingElse : Config → List Act → Type 0
 NothingElse config log = ((new : List Act) → InstrumentDoes IsFired log new → ⊥) × ((new : List Act) → Resumes config log new → ⊥)
     × ((new : List Act) → InstrumentDoes IsStep log new → ⊥)
@@ -57,7 +57,7 @@ pub polled_to : (polled : ℕ) (acts other : List DeviceAct) → instrument_acts
 polled_to polled acts other same said =
     subst (λ (l : List InstrumentAct). (k : ℕ) → (bit_at polled k ≡ 1) ↔ PolledBit k l) same said
 
--- the call of the connection alone
+-- If no call of another connection can resume, the connection's own call is the oldest that can.
 pub only_own : (c : ℕ) (acts : List DeviceAct) → ((d : ℕ) → d ≢ c → CanResume acts d → ⊥) → CanResume acts c
     → IsOldest (wait_acts acts) (CanResume acts) (Some c)
 only_own c acts none able = (
@@ -118,13 +118,14 @@ nothing_to config c lid log other fit also pair (fire, resume, step) = (
   (λ new does. let there = does_to IsStep other log new (sym pair.view.instrument) does in step there.0 there.1),
 )
 
--- ---- the calls of others that are given up first
+-- ---- the calls of other connections that time out first
 
 abbrev pub IsDue : Config → List Act → Option ℕ → Type 0
 IsDue config log found = IsOldest (wait_acts (device_acts log))
     (IsExpired (config.clock + ticks (device_acts log)) (wait_acts (device_acts log))) found
 
--- what is left: nothing, or this connection's call comes first
+-- Steps lead from `other` to the log `last`, which is still alike. There, of the calls whose
+-- deadline has come, the oldest is that of connection `c`, or there is none.
 pub record Drained (config : Config) (c lid : ℕ) (log other : List Act) : Type 0 where
   pub last : List Act
   pub reaches : Reaches config other last
@@ -159,13 +160,13 @@ fewer_wait d log wait error fit for lt =
     (sym (failed_device error d (core_call_in (pending_call (of d log))) log))
     (left_fewer d 16 (wait_acts (device_acts log)) wait lt for)
 
--- it is given up here
+-- The logs stay alike when a call of another connection ends with an error.
 gives_pair : (c lid d : ℕ) (log other : List Act) (error : ErrorCode) → d ≢ c → Pair c lid log other → Pair c lid log (gave error d other)
 gives_pair c lid d log other error ne pair =
     pair_left c lid (acts_of d (failure_effect error d (core_call_in (pending_call (of d other))))) log other
     (leaving_failed c d error (core_call_in (pending_call (of d other))) other ne) pair
 
--- nothing more is
+-- The case that no call of another connection is left to time out.
 here : (config : Config) (c lid : ℕ) (log other : List Act) (found : Option ℕ) → Fit other → Pair c lid log other → IsDue config other found
     → (found ≡ None) ⊎ (found ≡ Some c) → Drained config c lid log other
 here config c lid log other found also pair due own = record {

@@ -1,5 +1,6 @@
--- While a link holds the lock, the events without those of other connections are possible too, and
--- add the same bytes to its connection and to its interrupt channel.
+-- While a link holds the lock, the history can go on without the events of other connections. The
+-- remaining events add the same bytes to the connection and to its interrupt channel: the law
+-- `Isolation`.
 use Rattle.std.proofs.Common.{◌≡◌, ℕ, true, false, List, [], ◌∷◌, ◌++◌, Some, None, refl, sym, ap, subst, ◌∙◌, inl, inr, append_assoc}
 use Rattle.std.specs.List.{concat}
 use Rattle.std.proofs.lemmas.Bool.{cases_Bool}
@@ -36,7 +37,7 @@ holds_from lid before whole holds later (act ∷ acts) is = (
   holds_from lid before whole holds (later ++ act ∷ []) acts (is ∙ sym (append_assoc later (act ∷ []) (acts ++ before))),
 )
 
--- ---- where it begins, both logs are one
+-- ---- at the beginning both logs are the same
 
 same_channel : (c : ℕ) (channel_log : List ChannelAct) → SameChannel c channel_log channel_log
 same_channel c channel_log = record { opened = refl; took = refl; links = refl; sent = refl; all = refl }
@@ -65,7 +66,7 @@ own_with : (c : ℕ) (event : PlainEvent) (events : List PlainEvent) → is_fore
     → own_events c (event ∷ events) ≡ event ∷ own_events c events
 own_with c event events e = rw e refl
 
--- an event of another connection is left out
+-- An event of another connection is left out.
 left_out : (c lid : ℕ) (config : Config) (past events : List PlainEvent) (event : PlainEvent) (polled n : ℕ)
     (whole later before log : List Act) → is_foreign c event ≡ true → LeavesLinksAlone c event before → Fit before
     → Fit (own_acts config polled event before ++ before) → SettlesIn n config (own_acts config polled event before ++ before) log
@@ -91,7 +92,7 @@ left_out c lid config past events event polled n whole later before log foreign 
       holds = subst (λ (l : List Act). HoldsUp lid l whole) (sym rest.1) (holds_further lid (acts ++ before) whole rest.0 further);
     }
 
--- one of the connection, or of none, is in both
+-- An event of the connection, or of no connection, comes in both histories.
 in_both : (c lid : ℕ) (config : Config) (past events : List PlainEvent) (event : PlainEvent) (polled n : ℕ) (channel_log : List ChannelAct)
     (whole later before log : List Act) → is_foreign c event ≡ false → LeavesLinksAlone c event before → IsEvent event → Fit before
     → HearsOf (device_acts before) channel_log → refusal config channel_log event before ≡ None → IsPolled polled (device_acts before)
@@ -162,7 +163,7 @@ alone_from c lid config past all (event ∷ events) locked later log is left_alo
           settles is alone
     ]
 
--- ---- what is added
+-- ---- the bytes that are added
 
 sent_same : (c lid : ℕ) (port : Port) (log other : List Act) (channel_log also : List ChannelAct) → port_number port ≡ c
     → Pair c lid log other

@@ -1,5 +1,5 @@
--- While a link holds the lock, the acts of another connection's event, and of its call that ends,
--- are of others.
+-- While a link holds the lock, all acts of an event of another connection are foreign to the link's
+-- connection (`IsForeignAct`), and so are the acts with which a call of another connection ends.
 use Rattle.std.proofs.Common.{◌≡◌, ◌≢◌, ℕ, true, eqb, eq-eqb, List, [], ◌∷◌, ◌++◌, Option, Some, None, sym, ap, subst, inl, inr}
 use Rattle.std.specs.Prelude.{map, not, is_some, ◌&&◌}
 use Rattle.std.proofs.lemmas.Bool.{cases_Bool}
@@ -30,7 +30,7 @@ use Rattle.sv_laws.proofs.Isolation.Alike.{IsForeign, IsForeignAct}
 use Rattle.sv_laws.proofs.Isolation.Shut.{call_foreign}
 use Rattle.sv_laws.proofs.Isolation.OwnEvents.{IsOf, each_shared, each_effect, each_failed, each_connected, each_refused}
 
--- such are its acts
+-- All acts of another connection `d` are foreign to connection `c`.
 pub foreign_is : (c d : ℕ) → d ≢ c → IsOf d (IsForeignAct c) (IsForeign c)
 foreign_is c d ne = record { own = λ log act. ne; shared = λ log act other. other; left = λ acts. ne; opened = λ acts peer. ne }
 

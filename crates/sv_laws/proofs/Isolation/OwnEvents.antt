@@ -1,5 +1,5 @@
--- An event of the connection whose link holds the lock, or of none: it is refused in both logs or
--- in neither, and adds the same acts to both.
+-- An event of the connection whose link holds the lock, or of no connection: it is refused in both
+-- logs or in neither, and adds the same acts to both.
 use Rattle.std.proofs.Common.{◌≡◌, ℕ, Bool, true, false, eqb, List, [], ◌∷◌, ◌++◌, Option, Some, None, refl, sym, ap, subst, ◌∙◌, inl, inr, append_assoc}
 use Rattle.std.specs.Prelude.{map, not, ℤ}
 use Rattle.std.proofs.lemmas.Bool.{cases_Bool, eqb-true}
@@ -38,14 +38,13 @@ use Rattle.sv_laws.proofs.EveryLog.Done.{IsDone, each_done}
 use Rattle.sv_laws.proofs.Isolation.Alike.{View, Pair, IsOwn, IsOwnAct, Locks}
 use Rattle.sv_laws.proofs.SameOutcomes.{SameGround, admitted_same}
 
--- the number of such an event is the connection's
 own_number : (d c : ℕ) → not (eqb d c) ≡ false → d ≡ c
 own_number d c h = elim (cases_Bool (eqb d c)) [
   | inl e ↦ eqb-true d c e
   | inr e ↦ absurd (let z : not false ≡ false = rw e at h in cc)
 ]
 
--- ---- what refuses it
+-- ---- the check that it fails
 
 channel_same : (c : ℕ) (channel_log also : List ChannelAct) → SameChannel c channel_log also
     → channel_waiting c channel_log ≡ channel_waiting c also
@@ -68,10 +67,11 @@ refusal_same config c lid channel_log also log other (Dialed d ok) pair same own
 refusal_same config c lid channel_log also log other Tick pair same own = rw pair.view.clock refl
 refusal_same config c lid channel_log also log other _ pair same own = refl
 
--- ---- effects of a connection
+-- ---- the effects of a call
 
--- Such are all acts of this connection, and those of what all share that are such there; so are the
--- acts with which a call ends.
+-- `IsSuch` holds of all acts of connection `d`, and of the acts of the device of which `IsShared`
+-- holds. `IsShared` holds of the acts by which the connection's suspended call leaves the queue,
+-- and its interrupt channel opens.
 pub record IsOf (d : ℕ) (IsSuch : List Act → Act → Type 0) (IsShared : List DeviceAct → DeviceAct → Type 0) : Type 0 where
   pub own : (log : List Act) (act : ConnAct) → IsSuch log (On d act)
   pub shared : (log : List Act) (act : DeviceAct) → IsShared (device_acts log) act → IsSuch log (OnDevice act)
@@ -83,24 +83,20 @@ module _ (d : ℕ) {IsSuch : List Act → Act → Type 0} {IsShared : List Devic
   each_own [] log = tt
   each_own (act ∷ own) log = (is.own (map (On d) own ++ log) act, each_own own log)
 
-  -- acts of what all share
   pub each_shared : (adds : List DeviceAct) (log : List Act) → Each IsShared adds (device_acts log) → Each IsSuch (map OnDevice adds) log
   each_shared [] log h = tt
   each_shared (act ∷ adds) log h =
       (is.shared (map OnDevice adds ++ log) act (rw (device_shared adds log) h.0), each_shared adds log h.1)
 
-  -- an effect of a call
   pub each_effect : (effect : Effect) (log : List Act) → Each IsShared effect.adds (device_acts log) → Each IsSuch (acts_of d effect) log
   each_effect effect log h = each_join IsSuch (map (On d) effect.own) (map OnDevice effect.adds) log
       (each_own effect.own (map OnDevice effect.adds ++ log)) (each_shared effect.adds log h)
 
-  -- a call that ends with an error
   pub each_failed : (error : ErrorCode) (call : Option CoreCall) (log : List Act)
       → Each IsSuch (acts_of d (failure_effect error d call)) log
   each_failed error (Some call) log = each_effect (failure_effect error d (Some call)) log (is.left (device_acts log), tt)
   each_failed error None log = each_effect (failure_effect error d None) log (is.left (device_acts log), tt)
 
-  -- a call whose peer was connected, or couldn't be
   pub each_connected : (ok : Bool) (call : Option CoreCall) (log : List Act) → Each IsSuch (acts_of d (connect_effect d ok call)) log
   each_connected ok None log = each_effect (connect_effect d ok None) log (is.left (device_acts log), tt)
   each_connected ok (Some call) log = rw (dialed_is d ok call.arguments) (each_effect
@@ -112,13 +108,11 @@ module _ (d : ℕ) {IsSuch : List Act → Act → Type 0} {IsShared : List Devic
       by true None = (is.left (device_acts log), tt)
       by false None = (is.left (device_acts log), tt)
 
-  -- a call that is refused
   pub each_refused : (found : Option (List ℕ)) (call : Option CoreCall) (log : List Act) → Each IsSuch (refuse_acts d found call) log
   each_refused (Some bytes) (Some call) log =
       (is.own (On d (CallTaken bytes) ∷ log) (Replied (refused_reply call)), (is.own log (CallTaken bytes), tt))
   each_refused _ _ log = tt
 
--- such are the connection's own
 pub own_is : (c : ℕ) → IsOf c (IsOwnAct c) (λ before act. IsOwn c act)
 own_is c = record { own = λ log act. tt; shared = λ log act own. own; left = λ acts. refl; opened = λ acts peer. tt }
 
@@ -128,7 +122,7 @@ own_happened c (act ∷ adds) log = (tt, own_happened c adds log)
 
 -- ---- a call of the connection
 
--- what it rests on
+-- All that the effect of a call of the connection depends on is the same in both logs.
 pub same_ground : (c lid : ℕ) (acts other : List DeviceAct) → View c lid acts other → SameGround c acts other
 same_ground c lid acts other view = record {
   ended = rw view.instrument refl;
@@ -141,7 +135,7 @@ same_ground c lid acts other view = record {
   clock = view.clock;
 }
 
--- Its acts make no link.
+-- A call that isn't create_link makes no link when it is executed.
 pub done_own : (c : ℕ) (arguments : Arguments) (adds acts : List DeviceAct) → is_create_link arguments ≡ false
     → Each (IsDone c arguments) adds acts → Each (λ before act. IsOwn c act) adds acts
 done_own c arguments [] acts makes h = tt
@@ -195,7 +189,7 @@ own_turn config polled c lid log other fit pair makes =
     (λ xid named is. no_abort (of c log) xid named core is) in
     (so.0 ∙ ap (λ (l : List ConnAct). turn_acts config polled c (next_call l) (next_request l) other) pair.own, so.1)
 
--- ---- it can't close
+-- ---- the connection isn't closed
 
 no_close : (c lid : ℕ) (log : List Act) → owner lid (link_acts (device_acts log)) ≡ Some c
     → Each (Locks lid) (map OnDevice (close_adds c (device_acts log)) ++ On c PortClosed ∷ []) log → ⊥

@@ -1,4 +1,5 @@
--- The steps that settle the one log have their like in the other, and leave both alike.
+-- The steps that settle the one log have their counterparts in the other, and the two logs stay
+-- alike.
 use Rattle.std.proofs.Common.{◌≡◌, ℕ, zero, suc, ◌+◌, Bool, true, false, List, [], ◌∷◌, ◌++◌, Option, Some, None, refl, sym, ap, subst, ◌∙◌, inl, inr, ◌⊎◌, append_assoc}
 use Rattle.std.specs.Prelude.{map}
 use Rattle.std.proofs.lemmas.Bool.{cases_eq}
@@ -43,7 +44,7 @@ pub record Advanced (config : Config) (c lid : ℕ) (middle other : List Act) : 
 abbrev LocksOver : ℕ → List Act → List Act → Type 0
 LocksOver lid log middle = (acts : List Act) → middle ≡ acts ++ log → Each (Locks lid) acts log
 
--- the instrument does the same
+-- The instrument takes the same step in both logs.
 does_alike : (config : Config) (c lid : ℕ) (IsSuch : List InstrumentAct → List InstrumentAct → Type 0) (log middle other : List Act)
     → Fit other
     → Pair c lid log other → LocksOver lid log middle → InstrumentDoes IsSuch log middle
@@ -59,7 +60,7 @@ does_alike config c lid IsSuch log middle other also pair locks (adds, such, is)
       fit = fit_step config other (new ++ other) also next;
     }
 
--- a call that can resume under the lock is no create_link
+-- While a link holds the lock, no create_link that waits for it can resume.
 lock_there : (lid : ℕ) (named : Option ℕ) (wait : Option Wait) (writes reads : Bool) → named ≡ None → wait ≡ Some Lock
     → is_there (Some lid) writes reads named wait ≡ true → ⊥
 lock_there lid named wait writes reads none lock there = let z : false ≡ true = rw (none, lock) at there in cc
@@ -132,7 +133,7 @@ resumes_alike config c lid polled wait log middle other fit also pair locks fire
       fit = fit_step config other (acts_of c effect ++ other) also next;
     }
 
--- the connection's own call times out, behind those of others
+-- If the deadline of the connection's call has come in one log, it has come in the other.
 expired_to : (config : Config) (c lid : ℕ) (log other : List Act) → Pair c lid log other
     → IsExpired (config.clock + ticks (device_acts log)) (wait_acts (device_acts log)) c
     → IsExpired (config.clock + ticks (device_acts other)) (wait_acts (device_acts other)) c
@@ -217,9 +218,9 @@ advance config c lid log middle other fit also pair locks (inr (fire, inr (resum
           }
     ]
 
--- ---- all of them
+-- ---- all steps
 
--- From the one log on to the other the link holds the lock behind each act.
+-- From `log` to `whole`, the link holds the lock after each act.
 abbrev pub HoldsUp : ℕ → List Act → List Act → Type 0
 HoldsUp lid log whole = (later acts : List Act) → whole ≡ later ++ (acts ++ log) → Each (Locks lid) acts log
 
@@ -240,7 +241,8 @@ pub record SettledAlike (config : Config) (c lid : ℕ) (new other : List Act) :
   pub steps : (m : ℕ) × SettlesIn m config other last
   pub pair : Pair c lid new last
 
--- the calls of others that are left are given up, and then nothing is due
+-- When the one log is settled, calls of other connections may still time out in the other; after
+-- that no step is due there.
 ends_alike : (config : Config) (c lid : ℕ) (log other : List Act) → Fit log → Fit other → Pair c lid log other → IsSettled config log
     → SettledAlike config c lid log other
 ends_alike config c lid log other fit also pair settled =

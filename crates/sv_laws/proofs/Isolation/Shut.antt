@@ -1,5 +1,5 @@
--- While a link holds the lock, a call of another connection adds nothing of the instrument's, takes
--- no lock, and speaks of its own links.
+-- While a link holds the lock, a call of another connection adds no act of the instrument, doesn't
+-- take the lock, and concerns only links of its own.
 use Rattle.std.proofs.Common.{◌≡◌, ◌≢◌, ℕ, Bool, true, false, List, length, nat_lt, Option, Some, None, refl, sym, ap, ◌∙◌, inl, inr}
 use Rattle.std.specs.Prelude.{ℤ, pos, negsuc, codes, is_some, ◌==◌}
 use Rattle.std.specs.Str.{bytes_eq}
@@ -19,11 +19,11 @@ use Rattle.sv_history.specs.Admission.{Stop, lock_stop, channel_stop, may_make_m
 use Rattle.sv_laws.proofs.Isolation.Alike.{IsForeign}
 use Rattle.sv_laws.proofs.EveryLog.Done.{named_own}
 
--- the acts of a call that comes to this are of others
+-- All acts that the outcome of the call adds are foreign to connection `c`.
 abbrev AreForeign : Config → ℕ → ℕ → ℕ → Arguments → List DeviceAct → Option Stop → Type 0
 AreForeign config polled c d arguments acts stop = Each (IsForeign c) (admission config polled d arguments stop acts).adds acts
 
--- another link holds the lock
+-- A link of another connection than the holder's is locked out.
 kept_out : (c d lid : ℕ) (named : Option ℕ) (acts : List DeviceAct) → holder (link_acts acts) ≡ Some lid
     → owner lid (link_acts acts) ≡ Some c
     → d ≢ c → owns d named acts ≡ true → is_locked_out (holder (link_acts acts)) named ≡ true
@@ -32,7 +32,7 @@ kept_out c d lid (Some n) acts held mine ne own =
     let owns : owner n (link_acts acts) ≡ Some d = named_own d (Some n) acts n own refl in
     rw (held, ne_eqb n lid (λ same. ne (some_same d c (sym owns ∙ ap (λ (m : ℕ). owner m (link_acts acts)) same ∙ mine)))) refl
 
--- a call that minds the lock waits for it or fails
+-- A call that the lock stops is suspended or fails, so all its acts are foreign.
 waits_or_fails : (config : Config) (polled c d : ℕ) (arguments : Arguments) (acts : List DeviceAct) (wait : LockWait) → d ≢ c
     → AreForeign config polled c d arguments acts (Some (lock_stop wait))
 waits_or_fails config polled c d arguments acts wait ne = elim (cases_Bool wait.waits) [
@@ -59,7 +59,6 @@ minds_lock config polled c d lid named call acts minds held mine ne = elim (case
   ]
 ]
 
--- a link of its own isn't the connection's
 own_other : (c d : ℕ) (found : Option ℕ) → d ≢ c → found ≡ Some d → is_of c found ≡ false
 own_other c d found ne is = rw is (ne_eqb d c ne)
 

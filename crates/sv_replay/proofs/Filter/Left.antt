@@ -1,4 +1,4 @@
--- What is left of texts that are made of whole lines, and of fronts of them.
+-- The filter removes the lines that an explained replay adds and keeps all others, also in part.
 use Rattle.std.proofs.Common.{◌≡◌, ◌≢◌, ◌⊎◌, ℕ, ◌==◌, cond, Bool, true, false, List, [], ◌∷◌, ◌++◌, drop, slice_index_or, map, refl, sym, ap, subst, ◌∙◌, inl, inr, append_assoc, append-nil}
 use Rattle.std.specs.List.{onto_first as onto, concat}
 use Rattle.sv_print.specs.TakenByWriter.{IsFront}
@@ -15,11 +15,9 @@ unbroken (b ∷ text) = cond (b == 10) false (unbroken text)
 abbrev pub Unbroken : List ℕ → Type 0
 Unbroken text = unbroken text ≡ true
 
--- a byte in front
 pub unbroken_byte : (b : ℕ) (text : List ℕ) → (b == 10) ≡ false → Unbroken text → Unbroken (b ∷ text)
 unbroken_byte b text e h = ap (λ (t : Bool). cond t false (unbroken text)) e ∙ h
 
--- what a byte in front says
 pub unbroken_cons : (b : ℕ) (text : List ℕ) → Unbroken (b ∷ text) → ((b == 10) ≡ false) × Unbroken text
 unbroken_cons b text h = here (b == 10) h
   where
@@ -35,7 +33,7 @@ unbroken_front : (a b : List ℕ) → Unbroken (a ++ b) → Unbroken a
 unbroken_front [] b h = refl
 unbroken_front (x ∷ a) b h = let (other, rest) = unbroken_cons x (a ++ b) h in unbroken_byte x a other (unbroken_front a b rest)
 
--- ---- where a text with a first line is cut
+-- ---- the first line of a text
 
 parts_line : (line behind : List ℕ) → Unbroken line → parts (line ++ 10 ∷ behind) ≡ line ∷ parts behind
 parts_line [] behind h = refl
@@ -59,9 +57,9 @@ left_plain : (line : List ℕ) (lines : List (List ℕ)) → is_told line ≡ fa
 left_plain line [] told some = absurd (some refl)
 left_plain line (next ∷ lines) told some = ap (λ (t : Bool). cond t [] (line ++ 10 ∷ []) ++ left_of (next ∷ lines)) told
 
--- ---- fronts
+-- ---- prefixes
 
--- a front of two texts is one of the first, or all of the first and a front of the second
+-- A prefix of `a ++ b` is a prefix of `a`, or `a` followed by a prefix of `b`.
 front_of : (a b part : List ℕ) → IsFront part (a ++ b) → IsFront part a ⊎ ((q : List ℕ) × IsFront q b × (part ≡ a ++ q))
 front_of [] b part f = inr (part, f, refl)
 front_of (x ∷ a) b [] f = inl (x ∷ a, refl)
@@ -72,12 +70,11 @@ front_of (x ∷ a) b (y ∷ part) (rest, e) =
       | inr (q, of, is) ↦ inr (q, of, ap (λ (l : List ℕ). y ∷ l) is ∙ ap (λ (h : ℕ). h ∷ (a ++ q)) (sym head))
     ]
 
--- a front of no text
 front_none : (part : List ℕ) → IsFront part [] → part ≡ []
 front_none [] f = refl
 front_none (x ∷ part) (rest, e) = absurd cc
 
--- a front of one line
+-- A prefix of a line is the whole line, or a prefix of the line without its new line.
 front_line : (line part : List ℕ) → IsFront part (line ++ 10 ∷ []) → IsFront part line ⊎ (part ≡ line ++ 10 ∷ [])
 front_line line part f = elim (front_of line (10 ∷ []) part f) [
   | inl of ↦ inl of
@@ -91,14 +88,14 @@ front_line line part f = elim (front_of line (10 ∷ []) part f) [
         let none : q ≡ [] = front_none q (rest, ap (λ (l : List ℕ). drop 1 l) e) in
         inr (is ∙ ap (λ (l : List ℕ). line ++ y ∷ l) none ∙ ap (λ (h : ℕ). line ++ h ∷ []) (sym head))
 
--- a front of a line begins as the line does
+-- A prefix of a line has the line's first byte, so the filter takes it for the same kind of line.
 told_front : (part line : List ℕ) → IsFront part line → (part ≡ []) ⊎ (is_told part ≡ is_told line)
 told_front [] line f = inl refl
 told_front (x ∷ part) [] (rest, e) = absurd cc
 told_front (x ∷ part) (y ∷ line) (rest, e) =
     inr (ap (λ (l : List ℕ). is_told (slice_index_or l 0 0 ∷ [])) (sym e))
 
--- ---- one line
+-- ---- single lines
 
 -- The only new line of the text is its last byte.
 abbrev pub IsLine : List ℕ → Type 0
@@ -118,9 +115,9 @@ told_line : (line : List ℕ) → is_told (line ++ 10 ∷ []) ≡ is_told line
 told_line [] = refl
 told_line (x ∷ line) = refl
 
--- ---- lines of which nothing is left
+-- ---- texts that the filter removes
 
--- Nothing is left of the text, whatever follows, nor of a front of it.
+-- The filter removes the text, whatever follows it, and every prefix of it.
 abbrev pub IsHidden : List ℕ → Type 0
 IsHidden text = ((behind : List ℕ) → filtered (text ++ behind) ≡ filtered behind)
     × ((part : List ℕ) → IsFront part text → filtered part ≡ [])
@@ -162,19 +159,17 @@ hidden_line text (line, whole, is) told =
     all behind = ap filtered (append_assoc line (10 ∷ []) behind) ∙ ap left_of (parts_line line behind whole)
         ∙ left_told line (parts behind) mark (parts_never behind)
 
--- the texts of the elements of a list
 pub hidden_all : {X : Type 0} (f : X → List ℕ) (xs : List X) → ((x : X) → IsHidden (f x)) → IsHidden (concat (map f xs))
 hidden_all f [] h = hidden_none
 hidden_all f (x ∷ xs) h = hidden_then (f x) (concat (map f xs)) (h x) (hidden_all f xs h)
 
--- a text that depends on a test
 pub hidden_if : (test : Bool) (text : List ℕ) → IsHidden text → IsHidden (cond test [] text)
 hidden_if true text h = hidden_none
 hidden_if false text h = h
 
--- ---- lines that are left
+-- ---- texts that the filter keeps
 
--- All of the text is left, whatever follows, and all of a front of it.
+-- The filter keeps the text, whatever follows it, and every prefix of it.
 abbrev pub IsLeft : List ℕ → Type 0
 IsLeft text = ((behind : List ℕ) → filtered (text ++ behind) ≡ text ++ filtered behind)
     × ((part : List ℕ) → IsFront part text → filtered part ≡ part)

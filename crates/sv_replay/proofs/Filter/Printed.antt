@@ -1,4 +1,4 @@
--- All is left of what the replay of an event writes.
+-- The filter keeps all that the replay of an event prints.
 use Rattle.std.proofs.Common.{◌≡◌, ℕ, ◌==◌, false, List, [], ◌∷◌, ◌++◌, codes, Result, Ok, Err, refl, sym, ap, subst, ◌∙◌, inl, inr, append-nil}
 use Rattle.std.specs.Prelude.{decimal}
 use Rattle.hex.specs.Hex.{encode_lower}
@@ -26,7 +26,7 @@ left_head : (did : Result Did Refused) → IsLeft (head_of did)
 left_head (Ok did) = left_none
 left_head (Err refusal) = left_refusal refusal
 
--- the line of a port with this letter
+-- The filter keeps the line with a port's unsent bytes, which begins with the letter of the port.
 left_bytes : (letter c : ℕ) (bytes : List ℕ) → (letter == 10) ≡ false
     → ((rest : List ℕ) → is_told (letter ∷ rest) ≡ false) → IsLeft ((letter ∷ decimal c) ++ 32 ∷ (encode_lower bytes ++ 10 ∷ []))
 left_bytes letter c bytes other plain = left_line ((letter ∷ decimal c) ++ 32 ∷ (encode_lower bytes ++ 10 ∷ []))
@@ -49,7 +49,6 @@ left_print : (did : Result Did Refused) (channel_log : List ChannelAct) (log : L
 left_print did channel_log log = left_then (head_of did) (lines_of channel_log (ports_after did) log) (left_head did)
     (left_ports channel_log (ports_after did) log)
 
--- all of the text, if nothing follows
 left_whole : (text : List ℕ) → IsLeft text → filtered text ≡ text
 left_whole text h = h.1 text ([], sym (append-nil text))
 

@@ -1,4 +1,4 @@
--- What is left of the text of an explained run is the text of a replay.
+-- The filtered text of an explained run is the text of a replay.
 use Rattle.std.proofs.Common.{◌≡◌, ℕ, List, [], ◌∷◌, ◌++◌, Option, Result, Ok, Err, refl, sym, ap, subst, ◌∙◌, inl, inr, append_assoc, append-nil}
 use Rattle.std.specs.Prelude.{⊤}
 use Rattle.sv_print.specs.TakenByWriter.{IsFront}
@@ -17,7 +17,7 @@ use Rattle.sv_replay.specs.Filtered.{filtered}
 use Rattle.sv_replay.proofs.Filter.Told.{hidden_told, hidden_end}
 use Rattle.sv_replay.proofs.Filter.Printed.{written_on, written_stop}
 
--- of an event, what its replay writes is left
+-- Filtering what is printed for an explained event leaves what its replay prints.
 explains_on : (config : Config) (line : ℕ) (history : List PlainEvent) (event : PlainEvent) (text : List ℕ) (after : List PlainEvent)
     → Explains config line history event (Ok tt) text after
     → (own : List ℕ) × Replays config history event (Ok tt) own after
@@ -47,7 +47,7 @@ explains_stop config line history event fault text after e =
     ] in
     subst (λ (l : List ℕ). Replays config history event (Err fault) l after) (sym is) e.replays
 
--- of events
+-- The same for a list of events.
 prints_filtered : (config : Config) (history : List PlainEvent) (events : List ScriptEvent) (text : List ℕ) (after : List PlainEvent)
     → Prints Explained config history events text after
     → (own : List ℕ) × Prints Plain config history events own after
@@ -63,7 +63,7 @@ prints_filtered config history (said ∷ events) text after (first, rest, middle
           ∙ one (rest ++ behind) ∙ ap (λ (l : List ℕ). own ++ l) (all behind) ∙ sym (append_assoc own others (filtered behind)),
     )
 
--- and if nothing is left of what follows
+-- The same if a text follows that the filter removes.
 with_hidden : (config : Config) (history : List PlainEvent) (events : List ScriptEvent) (text behind : List ℕ) (after : List PlainEvent)
     → Prints Explained config history events text after → filtered behind ≡ []
     → Prints Plain config history events (filtered (text ++ behind)) after
@@ -105,7 +105,7 @@ up_to_filtered : (config : Config) (lines : List (List ℕ)) (fault : ReplayFaul
 up_to_filtered config lines fault text (events, after, script, stops) =
     (events, after, script, stops_filtered config [] events fault text after stops)
 
--- with the line of the clock, or a front of it
+-- The same if the line with the clock follows, or a prefix of it.
 to_end_filtered : (config : Config) (lines : List (List ℕ)) (front last part : List ℕ) → PrintedToEnd config lines front last
     → IsFront part last
     → Printed config Plain lines (filtered (front ++ part))

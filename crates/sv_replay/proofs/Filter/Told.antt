@@ -1,4 +1,4 @@
--- Nothing is left of what is told of an event.
+-- The filter removes all that an explained replay adds for an event.
 use Rattle.std.proofs.Common.{◌≡◌, ℕ, zero, suc, cond, Bool, true, false, List, [], ◌∷◌, ◌++◌, map, codes, Option, Some, None, Result, Ok, Err, slice_index_or, ◌==◌, ◌&&◌, ℤ, refl, sym, subst, inl, inr}
 use Rattle.std.specs.Prelude.{decimal}
 use Rattle.std.specs.List.{concat, list_all, range_with_len}
@@ -53,7 +53,7 @@ hidden_call c bytes = hidden_line (call_line c bytes) (line_more (codes "- call 
     (line_more (decimal c) (32 ∷ (encode_lower bytes ++ 10 ∷ [])) (unbroken_decimal c)
     (line_byte 32 (encode_lower bytes ++ 10 ∷ []) refl (line_more (encode_lower bytes) (10 ∷ []) (unbroken_hex bytes) line_end)))) refl
 
--- a line of a number
+-- A line that ends with a number.
 hidden_conn : (words : List ℕ) (c : ℕ) → Unbroken words → is_told (words ++ (decimal c ++ 10 ∷ [])) ≡ true
     → IsHidden (words ++ (decimal c ++ 10 ∷ []))
 hidden_conn words c whole told = hidden_line (words ++ (decimal c ++ 10 ∷ [])) (line_more words (decimal c ++ 10 ∷ []) whole
@@ -86,11 +86,10 @@ hidden_value : (name text : List ℕ) → Unbroken name → Unbroken text → Is
 hidden_value name text h k = hidden_line (value_line name text) (line_more (codes "= ") (name ++ 32 ∷ (text ++ 10 ∷ [])) refl
     (line_more name (32 ∷ (text ++ 10 ∷ [])) h (line_byte 32 (text ++ 10 ∷ []) refl (line_more text (10 ∷ []) k line_end)))) refl
 
--- names without a new line
+-- No name contains a new line.
 abbrev Names : List (List ℕ) → Type 0
 Names names = list_all unbroken names ≡ true
 
--- the first name, and the others
 first_name : (name : List ℕ) (names : List (List ℕ)) → Names (name ∷ names) → Unbroken name × Names names
 first_name name names h = here (unbroken name) h
   where
@@ -148,9 +147,9 @@ register_names = codes "enable" ∷ codes "ptr" ∷ codes "ntr" ∷ codes "cond"
 abbrev status_names : List (List ℕ)
 status_names = codes "opc" ∷ codes "ese" ∷ codes "esr" ∷ codes "sre" ∷ codes "stb" ∷ codes "rqs" ∷ []
 
--- ---- everything that changed
+-- ---- changed values
 
--- the name of a connection or of an interrupt channel, with a point
+-- The beginning of a value's name, such as `c1.` for a connection, contains no new line.
 unbroken_owner : (letter c : ℕ) → (letter == 10) ≡ false → Unbroken (letter ∷ decimal c ++ 46 ∷ [])
 unbroken_owner letter c h = unbroken_byte letter (decimal c ++ 46 ∷ []) h (unbroken_then (decimal c) (46 ∷ []) (unbroken_decimal c) refl)
 
@@ -206,7 +205,7 @@ hidden_changes old new = hidden_then (conns_lines old.conns.items new.conns.item
     (hidden_then (exchange_lines old.exchange new.exchange) (status_lines old.statuses new.statuses)
     (hidden_exchange_lines old.exchange new.exchange) (hidden_status old.statuses new.statuses))))
 
--- ---- all that is told
+-- ---- the whole text of an event
 
 hidden_taken_call : (c : ℕ) (call : Option (List ℕ)) → IsHidden (option_map_or (call_line c) call [])
 hidden_taken_call c None = hidden_none

@@ -1,4 +1,4 @@
--- Numbers, bytes in hexadecimal, words and values have no new line.
+-- Decimal numbers, hexadecimal bytes, words and values contain no new line.
 use Rattle.std.proofs.Common.{◌≡◌, ℕ, zero, suc, ℤ, pos, negsuc, ◌+◌, ◌/◌, ◌%◌, ◌==◌, cond, Bool, true, false, List, [], ◌∷◌, ◌++◌, map, codes, nat_lt, Option, Some, None, slice_index, refl, arith}
 use Rattle.std.proofs.lemmas.Bool.{ne_eqb}
 use Rattle.std.specs.Prelude.{decimal}
@@ -23,7 +23,6 @@ glyph_other d = here (nat_lt d 10)
     here true = ne_eqb (48 + d) 10 (λ e. omega (arith, e))
     here false = ne_eqb (87 + d) 10 (λ e. omega (arith, e))
 
--- a text that depends on a test
 either : (test : Bool) (a b : List ℕ) → Unbroken a → Unbroken b → Unbroken (cond test a b)
 either true a b h k = h
 either false a b h k = k
@@ -55,7 +54,6 @@ unbroken_numbers (n ∷ ns) = all (n ∷ ns)
 
 -- ---- bytes in hexadecimal
 
--- an element of such a text
 element_other : (text : List ℕ) (i : ℕ) → Unbroken text → (slice_index text i == 10) ≡ false
 element_other [] i h = refl
 element_other (x ∷ text) zero h = (unbroken_cons x text h).0
@@ -94,12 +92,10 @@ unbroken_word word.Dial = refl
 unbroken_word word.Over = refl
 unbroken_word word.Under = refl
 
--- a number, or a word without one
 unbroken_option : (o : Option ℕ) (text : List ℕ) → Unbroken text → Unbroken (option_map_or decimal o text)
 unbroken_option None text h = h
 unbroken_option (Some n) text h = unbroken_decimal n
 
--- two texts with a space between them
 unbroken_pair : (a b : List ℕ) → Unbroken a → Unbroken b → Unbroken (a ++ 32 ∷ b)
 unbroken_pair a b h k = unbroken_then a (32 ∷ b) h (unbroken_byte 32 b refl k)
 

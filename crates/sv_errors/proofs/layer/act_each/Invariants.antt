@@ -1,4 +1,4 @@
--- The acts so far have happened.
+-- The acts before the index have happened.
 use Rattle.std.proofs.Common.{List, ◌++◌, take}
 use Rattle.std.specs.Prelude.{reverse}
 use Rattle.sv_errors.proofs.layer.act_each.Given as goal

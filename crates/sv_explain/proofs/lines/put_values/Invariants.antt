@@ -4,7 +4,7 @@ use Rattle.sv_explain.specs.Lines.{lines_of}
 use Rattle.sv_explain.specs.Inside.Names.{owner_text, texts_of}
 use Rattle.sv_explain.proofs.lines.put_values.Given as goal
 
--- what is printed, and the lines that are left, are all lines
+-- The lines of the values before the index are printed; the other lines remain.
 abbrev pub invariant-loop-index : goal.invariant-loop-index
 invariant-loop-index g l = (done : List ℕ)
     × (lines_of (owner_text l.owner) (texts_of l.names) l.old l.new

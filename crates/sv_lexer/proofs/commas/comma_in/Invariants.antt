@@ -2,7 +2,7 @@ use Rattle.std.proofs.Common.{◌≡◌, ◌+◌, false, length}
 use Rattle.sv_lexer.specs.Parameters.{first_size}
 use Rattle.sv_lexer.proofs.commas.comma_in.Given as goal
 
--- what is left decides
+-- The size of the first part is that of the bytes passed and of its remaining bytes.
 abbrev pub invariant-loop-rest : goal.invariant-loop-rest
 invariant-loop-rest l = record {
   value : first_size false l.text ≡ l.place + first_size l.inside l.rest;

@@ -3,7 +3,7 @@ use Rattle.std.specs.List.{list_any}
 use Rattle.sv_lexer.specs.Parameters.{cut_outside, is_blank}
 use Rattle.sv_lexer.proofs.commas.filled.Given as goal
 
--- the parts that are left are the ones not counted yet
+-- No part passed so far is blank. The count includes the first of the remaining parts.
 abbrev pub invariant-loop-part : goal.invariant-loop-part
 invariant-loop-part l = record {
   blank : list_any is_blank (cut_outside [] l.text) ≡ list_any is_blank (cut_outside [] l.rest);

@@ -3,7 +3,7 @@ use Rattle.sv_lexer.specs.Token.{StandsAt}
 use Rattle.sv_lexer.specs.Parameters.{cut_outside, part_place}
 use Rattle.sv_lexer.proofs.commas.part_at.Given as goal
 
--- the parts that are left are those behind the ones passed
+-- The remaining text consists of the parts after those that were passed.
 abbrev pub invariant-loop-passed : goal.invariant-loop-passed
 invariant-loop-passed l = record {
   left : drop l.passed (cut_outside [] l.text) ≡ cut_outside [] l.rest;

@@ -5,7 +5,7 @@ use Rattle.sv_links.proofs.Requests.{text, text_is_written, text_is_short}
 use Rattle.sv_links.proofs.request.put_request.Goals as goal
 use Rattle.sv_links.proofs.request.put_request.Given as given
 
--- the header and the handle were written
+-- The header and the handle are written.
 text_is : (g : given.Over) (c : goal.After-text g) → c.text.result.now ≡ text c.args.xid c.args.peer c.args.handle.now
 text_is g c =
     c.text.ensures

@@ -4,8 +4,8 @@ use contract.BorrowLft.{◌⊑◌, ⊑_meet, ⊑_static}
 use Rattle.sv_net.proofs.Running.{told_first, swept_first}
 use Rattle.sv_net.proofs.serving.sweep.Goals as goal
 
--- What is borrowed of a driver ends before each of its parts does: the search takes long to take
--- the list apart.
+-- The borrow of a driver ends before each of its parts does. This is a lemma because the prover's
+-- search takes long to split the list.
 ends_first : (κ network memory socket stream listener : Lft)
     → κ ⊑ network → κ ⊑ memory → κ ⊑ socket → κ ⊑ stream → κ ⊑ listener
     → κ ⊑ (network ++ (memory ++ (socket ++ (stream ++ (listener ++ [])))))

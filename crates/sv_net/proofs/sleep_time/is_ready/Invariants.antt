@@ -7,7 +7,7 @@ use Rattle.sv_serve.specs.Asked.{IsReady}
 use Rattle.sv_serve.specs.DriverView.{driver_view}
 use Rattle.sv_net.proofs.sleep_time.is_ready.Given as goal
 
--- on no connection below the number a call is there
+-- No connection below this number has a call to take.
 abbrev pub invariant-loop-conn : goal.invariant-loop-conn
 invariant-loop-conn g l = (config : Config) (history : List PlainEvent) → StandsFor l.fn.driver.server config history
     → (c : ℕ) → c < l.conn → IsReady c config (driver_view l.fn.driver history) false

@@ -1,4 +1,4 @@
--- The bytes that were read are the word.
+-- A word is compared as bytes, which decides whether it is `external`.
 use Rattle.std.proofs.Common.{refl, ◌≡◌, rules, arith}
 use Rattle.std.specs.Prelude.{codes}
 use Rattle.std.proofs.lemmas.Slice.Eq.{text_from_reads}

@@ -1,4 +1,4 @@
--- The loop decodes one byte more.
+-- Each turn of the loop decodes one byte, or finds that the text spells no bytes.
 use Rattle.std.proofs.Common.{Some, ap, sym, ◌∙◌, take, ◌++◌, option_map, arith}
 use Rattle.std.proofs.lemmas.List.{take_more_set}
 use Rattle.sv_replay.specs.Reading.{hex_at}

@@ -1,4 +1,4 @@
--- The place that is found is that of the first space.
+-- The position that the search finds is that of the first space.
 use Rattle.std.proofs.Common.{◌≡◌, eqb, tests, cond, ltb, length, Some, None, rules, sym, ◌∙◌}
 use Rattle.std.proofs.lemmas.Iterator.{YieldsList-from_slice}
 use Rattle.std.proofs.lemmas.Iterator.Search.{position_from_yields_List}

@@ -1,4 +1,4 @@
--- The bytes that were read are the word.
+-- The first word is compared as bytes, which decides which event the line can describe.
 use Rattle.std.proofs.Common.{◌≡◌, rules, arith}
 use Rattle.std.specs.Prelude.{codes}
 use Rattle.std.proofs.lemmas.Slice.Eq.{text_from_reads}

@@ -1,4 +1,4 @@
--- The bytes that were read are the word.
+-- The line is compared as bytes with each line of one word.
 use Rattle.std.proofs.Common.{refl, ◌≡◌, rules, arith}
 use Rattle.std.specs.Prelude.{codes}
 use Rattle.std.proofs.lemmas.Slice.Eq.{text_from_reads}

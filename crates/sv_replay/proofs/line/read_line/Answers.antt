@@ -1,4 +1,4 @@
--- What is read is what the line says.
+-- The meaning that is read from a line is the one that the line has.
 use Rattle.sv_replay.proofs.Lines.{line_found, line_only}
 use Rattle.sv_replay.proofs.line.read_line.Goals as goal
 

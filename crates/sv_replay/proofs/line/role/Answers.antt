@@ -1,4 +1,4 @@
--- The bytes that were read are the word.
+-- The word is compared as bytes with the word of each role.
 use Rattle.std.proofs.Common.{refl, ◌≡◌, rules, arith}
 use Rattle.std.specs.Prelude.{codes}
 use Rattle.std.proofs.lemmas.Slice.Eq.{text_from_reads}

@@ -1,4 +1,4 @@
--- The loop reads one digit more.
+-- Each turn of the loop reads one digit, or finds that the text is no number of at most `most`.
 use Rattle.std.proofs.Common.{length, sym, ◌∙◌, arith}
 use Rattle.std.proofs.lemmas.Bool.{eqb-true, eqb-false}
 use Rattle.sv_replay.proofs.Steps.{number_starts, no_number, digits_end, digits_bad, digits_above, digits_next}

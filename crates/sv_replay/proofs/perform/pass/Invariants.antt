@@ -7,7 +7,7 @@ use Rattle.sv_replay.specs.Line.{Ticks}
 use Rattle.sv_replay.specs.Script.{events_of, Prints}
 use Rattle.sv_replay.proofs.perform.pass.Given as goal
 
--- so many ticks were printed
+-- `counter` ticks happened, and what they print was written.
 abbrev pub invariant-loop : goal.invariant-loop
 invariant-loop g l = (config : Config) (history : List PlainEvent) → StandsFor l.fn.server config history
     → (text : List ℕ) × (after : List PlainEvent)

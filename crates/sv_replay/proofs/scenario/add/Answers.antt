@@ -1,4 +1,4 @@
--- What was read is said.
+-- The entry that is added is the one that the line describes.
 use Rattle.std.proofs.Common.{length, inr, refl, sym, ◌∙◌}
 use Rattle.std.proofs.lemmas.Bool.{eqb-false}
 use Rattle.sv_replay.proofs.Entries.{from_takes, from_none}

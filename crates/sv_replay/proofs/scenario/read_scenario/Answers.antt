@@ -1,4 +1,4 @@
--- Each turn reads a line.
+-- Each turn of the loop reads one line.
 use Rattle.std.proofs.Common.{◌≡◌, ◌+◌, [], ◌∷◌, refl, arith, rules}
 use Rattle.sv_replay.specs.Script.{parts}
 use Rattle.sv_replay.proofs.Scenarios.{read_line, read_last, read_stop}

@@ -5,11 +5,11 @@ use Rattle.sv_xdr.specs.Spelling.{Unsigned, Begins}
 use Rattle.sv_rpc.specs.Ports.{Mapping, port_at}
 use Rattle.sv_rpc.proofs.ports.getport.Goals as goal
 
--- a field begins where the one in front of it ended
+-- Equal bytes begin with the same field.
 begins_at : (n : ℕ) {x y after : List ℕ} → x ≡ y → Begins y (Unsigned n) after → Begins x (Unsigned n) after
 begins_at n {after} e h = subst (λ (l : List ℕ). Begins l (Unsigned n) after) (sym e) h
 
--- a field that can't be read isn't spelled
+-- A field that can't be read isn't encoded there.
 not_read : (fault : XdrFault) (n : ℕ) → (let r : Result ℕ XdrFault = Err fault in r) ≡ Ok n → ⊥
 not_read fault n e = cc
 

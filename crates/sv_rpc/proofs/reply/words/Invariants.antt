@@ -4,7 +4,7 @@ use Rattle.sv_xdr.specs.Spelling.{spelling, Unsigned}
 use Rattle.sv_xdr.specs.Writer.{Appends}
 use Rattle.sv_rpc.proofs.reply.words.Given as goal
 
--- the words in front of the index were written, into the same buffer
+-- The words before the index are written, in the same output buffer.
 abbrev pub invariant-loop-word : goal.invariant-loop-word
 invariant-loop-word l = record {
   same_buffer : l.writer.out.ghost_name ≡ l.fn.writer.out.ghost_name;

@@ -5,7 +5,7 @@ use Rattle.sv_text.specs.Cut.{cut_at}
 use Rattle.sv_value.specs.Channels.{span}
 use Rattle.sv_value.proofs.channels.are_spans.Given as goal
 
--- the items that are left decide
+-- All items so far have the right form.
 abbrev pub invariant-loop-item : goal.invariant-loop-item
 invariant-loop-item l = list_all (λ item. is_some (span item)) (cut_at 44 l.items)
     ≡ list_all (λ item. is_some (span item)) (cut_at 44 l.rest)

@@ -9,7 +9,6 @@ loop-channel-preserved-then-channel-last c = record {
   fits = omega (arith, c.push.ensures.len, c.loop-channel.invariant.fits, c.if-channel-last.true);
 }
 
--- two channels that differ, the first not below the last
 above : (channel last : ℕ) → (channel ≡ last → ⊥) → last ≤ channel → last < channel
 above channel last other le = omega (arith, other, le)
 

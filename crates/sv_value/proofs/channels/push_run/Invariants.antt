@@ -3,7 +3,7 @@ use Rattle.sv_errors.specs.Limits.{longest_list}
 use Rattle.sv_value.specs.Channels.{channel_range}
 use Rattle.sv_value.proofs.channels.push_run.Given as goal
 
--- what is pushed, and the channels from here on
+-- The channels before this one are in the list, and the others have room.
 abbrev pub invariant-loop-channel : goal.invariant-loop-channel
 invariant-loop-channel l = record {
   same : l.list.items ++ channel_range l.channel l.last ≡ l.fn.list.items ++ channel_range l.first l.last;

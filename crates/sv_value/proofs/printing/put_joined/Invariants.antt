@@ -3,7 +3,7 @@ use Rattle.std.specs.Prelude.{codes, decimal}
 use Rattle.std.specs.List.{flat_map, join_by}
 use Rattle.sv_value.proofs.printing.put_joined.Given as goal
 
--- what is put so far, and the channels from here on, each behind a comma
+-- The channels before the index are written; a comma comes before each remaining one.
 abbrev pub invariant-loop-channel : goal.invariant-loop-channel
 invariant-loop-channel g l = record {
   text : l.out.items ++ flat_map (λ c. codes "," ++ decimal c) (drop l.channel-index l.others)

@@ -1,4 +1,4 @@
--- The ring keeps all codes, since there are no more than it has room for.
+-- The ring buffer keeps all codes, because there are never more than its capacity.
 use Rattle.std.proofs.Common.{◌≡◌, ℕ, ◌+◌, ◌-◌, ◌<◌, ◌≤◌, List, [], ◌∷◌, ◌++◌, length, take, drop, ap, ◌∙◌, arith, rules, length-append}
 use Rattle.std.proofs.lemmas.List.{length-map}
 use Rattle.std.specs.Prelude.{◌==◌, min, nat_le}
@@ -12,18 +12,17 @@ use Rattle.sv_errors.specs.ErrorQueue.{Queue, StandsFor, entries, entry_code, mo
 use Rattle.sv_errors.proofs.Queue.{stands_for_reported, stands_for_overflowed}
 use Rattle.sv_errors.proofs.error_queue.ErrorQueue.report.Goals as goal
 
--- few enough codes are kept
 keep_all : (capacity : ℕ) (codes : List Code) → length codes ≤ capacity → keep_last capacity codes ≡ codes
 keep_all capacity codes few = let e : length codes - capacity ≡ 0 = omega arith in ap (λ (n : ℕ). drop n codes) e
 
--- where there is room
+-- There is room for the error.
 reported : (capacity : ℕ) (queue : Queue) (code : Code) (acts : List QueueAct) → capacity ≡ most → length queue.codes < most
     → StandsFor queue acts → StandsFor (record queue { codes = keep_last capacity (queue.codes ++ code ∷ []) }) (Report code ∷ acts)
 reported capacity queue code acts size room stands =
     rw (keep_all capacity (queue.codes ++ code ∷ []) (omega (arith, length-append queue.codes (code ∷ []))))
     (stands_for_reported queue code acts room stands)
 
--- where there is none
+-- The queue is full.
 overflowed : (capacity : ℕ) (queue : Queue) (code : Code) (acts : List QueueAct) (count : ℕ) → capacity ≡ most
     → length queue.codes ≡ most → count ≡ min (queue.lost_count + 1) most_lost → StandsFor queue acts
     → StandsFor (record {

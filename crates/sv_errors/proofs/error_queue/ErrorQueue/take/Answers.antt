@@ -1,4 +1,4 @@
--- The front of the ring is the oldest entry.
+-- The front of the ring buffer is the oldest entry.
 use Rattle.std.proofs.Common.{rules}
 use Rattle.sv_errors.proofs.Queue.{stands_for_taken}
 use Rattle.sv_errors.proofs.error_queue.ErrorQueue.take.Goals as goal

@@ -2,7 +2,7 @@ use Rattle.std.proofs.Common.{◌-◌, length}
 use Rattle.sv_exchange.specs.Ahead.{IsBegun}
 use Rattle.sv_exchange.proofs.ahead.Ahead.look.Given as goal
 
--- the front of the text was looked at
+-- A prefix of the text was read, and the state describes it.
 abbrev pub invariant-loop-self : goal.invariant-loop-self
 invariant-loop-self l = IsBegun l.self l.text
 

@@ -9,7 +9,7 @@ use Rattle.sv_exchange.proofs.exchange.Exchange.respond.Goals.{then-self, else-s
 use Rattle.sv_exchange.specs.Fields.{with_answer}
 use Rattle.sv_exchange.specs.Limits.{max_response}
 
--- how long the answers are with this one
+-- The length of the answers with the new one.
 size_is : (g : Over) (c : Joined-self g)
     → length (with_answer c.self.inside.answering (drop c.self.inside.read c.self.inside.response.items) c.args.answer.now)
     ≡ c.if-self.before + length c.args.answer.now

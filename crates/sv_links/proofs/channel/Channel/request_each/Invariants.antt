@@ -4,7 +4,7 @@ use Rattle.sv_links.specs.ChannelRepresentation.{IsQueued}
 use Rattle.sv_links.proofs.Calling.{called_for}
 use Rattle.sv_links.proofs.channel.Channel.request_each.Given as goal
 
--- it is open, and sent a call for each of the links in front of the index
+-- The channel is open, and has a call for each link before the index.
 abbrev pub invariant-loop-link : goal.invariant-loop-link
 invariant-loop-link g l = record {
   is_open : l.self.stage ≡ Open l.peer;

@@ -15,11 +15,11 @@ use Rattle.sv_links.proofs.Acts.{are_channels_enabled}
 use Rattle.sv_links.proofs.intr.Intr.enable.Goals as goal
 use Rattle.sv_links.proofs.intr.Intr.enable.Given as given
 
--- the links are those that asked, without the one that asks anew
+-- The other links with service requests enabled stay.
 others_are : (g : given.Over) (c : goal.After-insert g) → c.self.inside.enabled.items ≡ other_links c.args.lid c.args.self.now.enabled
 others_are g c = ap (λ (kept : Channels). kept.enabled) c.self.view_is ∙ c.disable.ensures.value
 
--- its place is behind those of lower numbers
+-- The link's position comes after the links with lower numbers.
 place_is : (g : given.Over) (c : goal.After-insert g) → c.count-place.result ≡ length (below c.args.lid c.self.inside.enabled.items)
 place_is g c =
     count_from_yields_List c.filter.result _ c.count-place.ensures.ran
@@ -27,7 +27,7 @@ place_is g c =
     (YieldsList-from_slice c.self.inside.enabled.items cc)) c.filter.ensures.closure
     (λ x r q k. search (rules, tests)))
 
--- there is memory for it, so it is inserted
+-- Memory suffices, so the link is inserted.
 items_are : (g : given.Over) (c : goal.After-insert g) → c.insert.new.self.items
     ≡ insert (other_links c.args.lid c.args.self.now.enabled)
     (length (below c.args.lid (other_links c.args.lid c.args.self.now.enabled))) c.new.result

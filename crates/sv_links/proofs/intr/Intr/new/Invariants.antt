@@ -4,7 +4,7 @@ use Rattle.sv_links.specs.declared.channel.Stage.TheVariants.{Closed}
 use Rattle.sv_links.specs.ChannelRepresentation.{Channel}
 use Rattle.sv_links.proofs.intr.Intr.new.Given as goal
 
--- there are so many channels, and none is open
+-- There are `counter` channels, and none is open.
 abbrev pub invariant-loop : goal.invariant-loop
 invariant-loop g l = record {
   long : length l.channels.items ≡ l.counter;

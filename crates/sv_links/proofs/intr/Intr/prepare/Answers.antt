@@ -6,7 +6,7 @@ use Rattle.sv_links.proofs.Acts.{are_channels_kept, at_set}
 use Rattle.std.proofs.lemmas.Grind.{common_steps}
 use Rattle.sv_links.proofs.intr.Intr.prepare.Goals as goal
 
--- whether memory was refused or not, the channel stays open, or stays closed
+-- The channel stays open or stays closed, whether memory is refused or not.
 still_open : {A E : Type 0} (r : Result A E) (old new : Channel) → OnOk r (opened_for new.stage ≡ opened_for old.stage)
     → OnErr r (new ≡ old) → opened_for new.stage ≡ opened_for old.stage
 still_open (Ok a) old new stage err = stage

@@ -5,7 +5,7 @@ use Rattle.sv_links.specs.Limits.{max_connections}
 use Rattle.sv_links.specs.ChannelRepresentation.{Channel, AreChannels, IsChannel, IsReady, is_prepared}
 use Rattle.sv_links.proofs.intr.Intr.raise.Given as goal
 
--- the channels in front of the index were sent their calls, and the others are as they were
+-- The channels before the index have their calls, and the others are unchanged.
 abbrev pub invariant-loop-conn : goal.invariant-loop-conn
 invariant-loop-conn g l = record {
   enabled : l.self-inside.enabled ≡ l.initial.self-inside.enabled;

@@ -6,7 +6,7 @@ use Rattle.sv_replay.specs.Stage.{IsStage}
 use Rattle.sv_replay.specs.Reads.{Gave, Made}
 use Rattle.sv_replay.proofs.run_state.Run.to_end.Given as goal
 
--- what was read and printed until now is a stage, and each turn did a line or read
+-- The run so far is a stage of the replay, and each step executed a line or made a read.
 abbrev pub invariant-loop : goal.invariant-loop
 invariant-loop g l =
     ((config : Config) → StandsFor l.fn.self.server config [] → (read text : List ℕ) × Consumes (g.R.Read.remaining l.fn.reader)

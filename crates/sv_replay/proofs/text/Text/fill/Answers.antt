@@ -8,7 +8,7 @@ use Rattle.sv_replay.proofs.text.Text.fill.Given.{Over}
 use Rattle.sv_replay.proofs.text.Text.fill.Goals as goal
 use Rattle.sv_replay.proofs.text.Text.fill.Goals.{After-read_behind}
 
--- the buffer after the read, of which so many bytes came behind the text
+-- After the read, the buffer holds the text followed by the `count` bytes that were read.
 kept : (g : Over) (c : After-read_behind g) (count last more : ℕ)
     → count ≤ length (drop (c.self.inside.end - c.make_room-moved.result) c.read_behind.new.buffer)
     → last ≡ c.self.inside.end - c.make_room-moved.result + count → more ≤ c.self.inside.reads + 1

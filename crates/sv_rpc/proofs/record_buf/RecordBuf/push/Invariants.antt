@@ -2,7 +2,7 @@ use Rattle.std.proofs.Common.{◌≡◌, ℕ, ◌<◌, List, ◌++◌, length}
 use Rattle.sv_rpc.specs.Representation.{InRoom, GoesOn, Keeps}
 use Rattle.sv_rpc.proofs.record_buf.RecordBuf.push.Given as goal
 
--- what was taken in stands in front of the rest, which fits
+-- The bytes pushed so far have extended the stream, and the remaining ones fit.
 abbrev pub invariant-loop-rest : goal.invariant-loop-rest
 invariant-loop-rest g l = record {
   fits : 0 < length l.rest → InRoom l.self (length l.rest);

@@ -15,7 +15,7 @@ pub returns-clause-questionable : goal.returns-clause-questionable
 returns-clause-questionable g c acts is =
     rw (c.questionable_word.ensures, c.is_overload.ensures, c.last_reading-last.ensures acts is) refl
 
--- the limits that are passed, by the parts that the word is made of
+-- The limit condition, from the parts of which the code makes it.
 limit_is : (log : List ScanAct) (word : ℕ) (limits_now below above outside : Bool) (lower_now upper_now : ℤ) (last : Option Reading)
     → word ≡ bit 0 (limits_now && below) + bit 1 (limits_now && above) + bit 2 (limits_now && outside)
     → limits_now ≡ limits log → lower_now ≡ lower log → upper_now ≡ upper log → last ≡ last_reading log

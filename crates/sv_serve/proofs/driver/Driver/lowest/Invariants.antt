@@ -8,7 +8,7 @@ use Rattle.sv_serve.specs.Asked.{IsOpen}
 use Rattle.sv_serve.specs.DriverView.{driver_view}
 use Rattle.sv_serve.proofs.driver.Driver.lowest.Given as goal
 
--- each connection below the number is open
+-- Each connection below this number is open.
 abbrev pub invariant-loop-conn : goal.invariant-loop-conn
 invariant-loop-conn g l = (config : Config) (history : List PlainEvent) → StandsFor l.fn.self.server config history
     → (d : ℕ) → d < l.conn → IsOpen (Conn d) config (driver_view l.fn.self history) true

@@ -3,7 +3,7 @@ use Rattle.sv_serve.specs.DriverView.{Steps, ForEach}
 use Rattle.sv_serve.specs.Sweep.{PlaysOne}
 use Rattle.sv_serve.proofs.driver.Driver.play.Given as goal
 
--- some entries were played
+-- Some entries of the scenario, each of them due, were applied.
 abbrev pub invariant-loop : goal.invariant-loop
 invariant-loop g l = Steps g.J.Journal.notes (λ config before after. (n : ℕ)
     × ForEach n (λ i. PlaysOne) config before after) l.fn.self l.self

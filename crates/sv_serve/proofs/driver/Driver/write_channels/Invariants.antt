@@ -4,6 +4,6 @@ use Rattle.sv_history.specs.declared.event.Port.TheVariants.{Intr}
 use Rattle.sv_serve.specs.Steps.{WritesTo}
 use Rattle.sv_serve.proofs.driver.Driver.write_channels.Given as goal
 
--- the step was taken for each number below this one
+-- The step was taken for each channel below this number.
 abbrev pub invariant-loop-conn : goal.invariant-loop-conn
 invariant-loop-conn g l = Steps g.J.Journal.notes (ForEach l.conn (λ (c : ℕ). WritesTo g.W.Wire.hears (Intr c))) l.fn.self l.self
