@@ -36,14 +36,14 @@ same_heard (PeerAnswered conn x) (PeerAnswered other y) e h = let z = same_all x
 same_heard (WasClosed port) (WasClosed other) e h = cc
 same_heard _ _ e h = absurd cc
 
-none_behind : {A B : Type 0} (ys : List A) (y : A) → [] ≡ ys ++ y ∷ [] → B
-none_behind [] y e = absurd cc
-none_behind (x ∷ ys) y e = absurd cc
+empty_is_no_append_cons : {A B : Type 0} (ys : List A) (y : A) → [] ≡ ys ++ y ∷ [] → B
+empty_is_no_append_cons [] y e = absurd cc
+empty_is_no_append_cons (x ∷ ys) y e = absurd cc
 
 last_same : {A : Type 0} (xs ys : List A) (x y : A) → xs ++ x ∷ [] ≡ ys ++ y ∷ [] → x ≡ y
 last_same [] [] x y e = cc
-last_same [] (z ∷ ys) x y e = none_behind ys y (let h : [] ≡ ys ++ y ∷ [] = cc in h)
-last_same (z ∷ xs) [] x y e = none_behind xs x (let h : [] ≡ xs ++ x ∷ [] = cc in h)
+last_same [] (z ∷ ys) x y e = empty_is_no_append_cons ys y (let h : [] ≡ ys ++ y ∷ [] = cc in h)
+last_same (z ∷ xs) [] x y e = empty_is_no_append_cons xs x (let h : [] ≡ xs ++ x ∷ [] = cc in h)
 last_same (z ∷ xs) (w ∷ ys) x y e = last_same xs ys x y (let h : xs ++ x ∷ [] ≡ ys ++ y ∷ [] = cc in h)
 
 map_join : (xs : List Heard) (x : Heard) (ys : List Heard)
@@ -51,13 +51,13 @@ map_join : (xs : List Heard) (x : Heard) (ys : List Heard)
 map_join [] x ys = refl
 map_join (z ∷ xs) x ys = ap (λ (l : List (Answer (List ℕ))). answer_of z ∷ l) (map_join xs x ys)
 
-refuses_there : (events past : List PlainEvent) (c : ℕ) → NeverRefuses (events ++ (Refuse c ∷ past)) → ⊥
-refuses_there [] past c h = h.0 c refl
-refuses_there (event ∷ events) past c h = refuses_there events past c h.1
+refuse_is_in_history : (events past : List PlainEvent) (c : ℕ) → NeverRefuses (events ++ (Refuse c ∷ past)) → ⊥
+refuse_is_in_history [] past c h = h.0 c refl
+refuse_is_in_history (event ∷ events) past c h = refuse_is_in_history events past c h.1
 
 no_memory : (trace other : List Heard) (history also : List PlainEvent) → MemoryDiffers trace history other also → NeverRefuses also → ⊥
 no_memory trace other history also (c, newer, later, older, events, more, past, x, y, z, w, told) h =
-    refuses_there more past c (subst NeverRefuses w h)
+    refuse_is_in_history more past c (subst NeverRefuses w h)
 
 pub by_answers : ByAnswers
 by_answers trace other history also (inl same) answers h k = same

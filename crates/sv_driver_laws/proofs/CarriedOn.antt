@@ -9,37 +9,37 @@ use Rattle.sv_replay.specs.declared.entry.Entry.{Entry}
 use Rattle.sv_replay.specs.declared.entry.Stimulus.{Stimulus}
 use Rattle.sv_history.specs.Interrupts.{has_channel}
 use Rattle.sv_history.specs.Requests.{HearsOf}
-use Rattle.sv_history.proofs.Telling.{has_channel_told}
+use Rattle.sv_history.proofs.Telling.{channel_open_by_channel_log}
 use Rattle.sv_history.specs.declared.event.Port.{Port}
 use Rattle.sv_history.specs.declared.event.Port.TheVariants.{Conn, Intr}
 use Rattle.sv_history.specs.Event.{PlainEvent}
 use Rattle.sv_history.specs.Act.{Act, ConnAct, of, device_acts}
 use Rattle.sv_history.specs.Connection.{is_open, sent_on, waiting, waiting_on, bytes_sent}
 use Rattle.sv_history.specs.History.{is_port_shut, last_clock, IsLogOf}
-use Rattle.sv_history.proofs.AlwaysTold.{some_told}
+use Rattle.sv_history.proofs.AlwaysTold.{channel_log_exists}
 use Rattle.sv_replay.specs.Scenario.{IsScenario}
 use Rattle.sv_server.specs.Server.State.{StandsFor}
 use Rattle.sv_driver_laws.specs.Timed.{handed_ticks, with_handed}
-use Rattle.sv_driver_laws.proofs.Timing.{Played, begins, behind, handed_in}
+use Rattle.sv_driver_laws.proofs.Timing.{Played, played_before_sweeps, played_after_sweep, handed_in}
 use Rattle.sv_serve.specs.Heard.{Heard, Through}
 use Rattle.sv_serve.specs.DriverView.{DriverState, DriverView, Stands, driver_view}
 use Rattle.sv_driver_laws.specs.Served.{event_of, is_outer}
 use Rattle.sv_driver_laws.specs.Determined.{SameUntil, Determined}
 use Rattle.sv_driver_laws.specs.Carried.{ClosesAtOnce, IsCarried, InSweeps, Carried}
 use Rattle.sv_serve.specs.Sweep.{Handed, Passing, Stimulated, Swept, Stimulates, Sweeps}
-use Rattle.sv_driver_laws.proofs.Ports.{Holds, Both, Keeping, came, went, left_bytes}
-use Rattle.sv_driver_laws.proofs.Reasons.{HasReasons, told_more, once_join}
+use Rattle.sv_driver_laws.proofs.Ports.{ConnBytes, PortBytes, BytesMatch, came, went, untaken_calls_bytes}
+use Rattle.sv_driver_laws.proofs.Reasons.{HasReasons, matching_append, closes_at_once_append}
 use Rattle.sv_driver_laws.proofs.Handing.{HandsOver}
-use Rattle.sv_driver_laws.proofs.LettingGo.{LetsGoRightly}
+use Rattle.sv_driver_laws.proofs.LettingGo.{ClosesChannelsRightly}
 use Rattle.sv_driver_laws.proofs.Keeps.{Subject, AllMay, through_join}
 use Rattle.sv_driver_laws.proofs.Peers.{stimulates}
 use Rattle.sv_driver_laws.proofs.Serving.{SweptOnce, sweep_once, serves}
-use Rattle.sv_driver_laws.proofs.Recorded.{Records, onto, lift_stimulates, lift_sweep}
+use Rattle.sv_driver_laws.proofs.Recorded.{Records, over_trace, lift_stimulates, lift_sweep}
 use Rattle.sv_driver_laws.proofs.Alike.{View, Forks, through_records}
 use Rattle.sv_driver_laws.proofs.AlikeSweeps.{Runs, runs_alike}
 
 keeping_none : (c : ℕ) (log : List Act) (channel_log : List ChannelAct) → log ≡ [] → HearsOf (device_acts log) channel_log
-    → Both c (of c log) channel_log []
+    → PortBytes c (of c log) channel_log []
 keeping_none c log channel_log none hears_of =
     let untold : channel_log ≡ [] = rw none at hears_of in
     rw (none, untold) ((refl, (λ opened. absurd cc)), (λ opened. absurd cc))
@@ -51,40 +51,41 @@ record Over {W J : Type 0} (hears : W → Heard → W → Type 0) (notes : J →
   pub through : Through hears trace start.wire now.wire
   pub stands : Stands (notes start.journal) now config history
   pub told : filter is_outer history ≡ flat_map event_of trace
-  pub keeping : Keeping config history trace
+  pub keeping : BytesMatch config history trace
   pub once : ClosesAtOnce None trace
   pub reasons : HasReasons config history trace
   pub hands : HandsOver config history trace
-  pub lets : LetsGoRightly config history trace
+  pub lets : ClosesChannelsRightly config history trace
   pub parts : InSweeps hears notes config start passed now swept history trace
   pub time : config.clock ≤ last_clock → start.ticks ≡ 0 → IsScenario 0 start.ahead
       → Played config (with_handed (last_clock - config.clock) passed start.ahead) (handed_ticks passed) (driver_view now history)
-  pub runs : Runs config passed (onto (driver_view start []) []) (onto (driver_view now history) trace)
+  pub runs : Runs config passed (over_trace (driver_view start []) []) (over_trace (driver_view now history) trace)
 
-open_by : (far opened : Bool) → (far || not opened) ≡ false → opened ≡ true
-open_by true opened e = absurd cc
-open_by false true e = refl
-open_by false false e = absurd cc
+not_shut_is_open : (far opened : Bool) → (far || not opened) ≡ false → opened ≡ true
+not_shut_is_open true opened e = absurd cc
+not_shut_is_open false true e = refl
+not_shut_is_open false false e = absurd cc
 
-sends_by : (acts : List ConnAct) (came gone : List ℕ) → Holds acts came gone → is_open acts ≡ true → gone ++ waiting acts ≡ bytes_sent acts
+sends_by : (acts : List ConnAct) (came gone : List ℕ) → ConnBytes acts came gone → is_open acts ≡ true
+    → gone ++ waiting acts ≡ bytes_sent acts
 sends_by acts came gone h opened = rw opened (h.1 opened).0
 
 sends_all : (port : Port) (log : List Act) (channel_log : List ChannelAct) (trace : List Heard) → HearsOf (device_acts log) channel_log
-    → ((c : ℕ) → Both c (of c log) channel_log trace) → is_port_shut port log ≡ false
+    → ((c : ℕ) → PortBytes c (of c log) channel_log trace) → is_port_shut port log ≡ false
     → went port trace ++ waiting_on channel_log port log ≡ sent_on channel_log port log
 sends_all (Conn c) log channel_log trace tells all free =
-    sends_by (of c log) (came c trace) (went (Conn c) trace) (all c).0 (open_by (nat_lt 15 c) (is_open (of c log)) free)
+    sends_by (of c log) (came c trace) (went (Conn c) trace) (all c).0 (not_shut_is_open (nat_lt 15 c) (is_open (of c log)) free)
 sends_all (Intr c) log channel_log trace tells all free =
-    let opened : is_channel_open c channel_log ≡ true = has_channel_told c (device_acts log) channel_log tells
-    ∙ open_by (nat_lt 15 c) (has_channel c (device_acts log)) free in
-    rw (opened, left_bytes (channel_taken c channel_log) (calls c channel_log)) ((all c).1 opened).0
+    let opened : is_channel_open c channel_log ≡ true = channel_open_by_channel_log c (device_acts log) channel_log tells
+    ∙ not_shut_is_open (nat_lt 15 c) (has_channel c (device_acts log)) free in
+    rw (opened, untaken_calls_bytes (channel_taken c channel_log) (calls c channel_log)) ((all c).1 opened).0
 
 is_carried : {W J : Type 0} (hears : W → Heard → W → Type 0) (notes : J → List PlainEvent → J → Type 0) (config : Config)
     (passed : List Handed) (start now : DriverState W J) (swept : Swept hears notes passed start now)
     (all : Over hears notes config passed start now swept) → IsCarried config all.history all.trace
 is_carried hears notes config passed start now swept all =
     let log = all.stands.0.log in
-    let channel_log = some_told (device_acts log) in record {
+    let channel_log = channel_log_exists (device_acts log) in record {
       events = all.told;
       streams = λ c. (log, all.stands.0.is_log, sym (all.keeping log channel_log.0 all.stands.0.is_log channel_log.1 c).0.0);
       sends = λ port log channel_log is_log tells free. sends_all port log channel_log all.trace tells
@@ -99,8 +100,8 @@ is_carried hears notes config passed start now swept all =
 record Traced {W : Type 0} (hears : W → Heard → W → Type 0) (config : Config) (ticks : ℕ) (x y : DriverView W) (trace : List Heard)
     : Type 0 where
   pub later : List Heard
-  pub sweeps : Sweeps Records ticks config (onto x trace) (onto y later)
-  pub swept : SweptOnce Records config (onto x trace) (onto y later)
+  pub sweeps : Sweeps Records ticks config (over_trace x trace) (over_trace y later)
+  pub swept : SweptOnce Records config (over_trace x trace) (over_trace y later)
   pub is : later ≡ swept.k.piece ++ trace
   pub through : Through hears swept.k.piece x.wire y.wire
 
@@ -108,7 +109,7 @@ traced : {W : Type 0} (hears : W → Heard → W → Type 0) (config : Config) (
     → Sweeps hears ticks config x y → Traced hears config ticks x y trace
 traced hears config ticks x y trace h =
     let (later, (piece, is, through), sweeps) = lift_sweep hears ticks config x y trace h in
-    let swept = sweep_once Records config ticks (onto x trace) (onto y later) sweeps in
+    let swept = sweep_once Records config ticks (over_trace x trace) (over_trace y later) sweeps in
     let all : later ≡ swept.k.piece ++ trace = through_records swept.k.piece trace later swept.k.through in
     record {
       later = later;
@@ -122,23 +123,25 @@ abbrev Nothing : Subject → Type 0
 Nothing subject = ⊥
 
 -- A step that may ask the wire nothing adds nothing to the trace.
-no_peers : (piece : List Heard) → AllMay Nothing piece → piece ≡ []
-no_peers [] may = refl
-no_peers (heard ∷ piece) may = absurd may.0
+asks_nothing_is_empty : (piece : List Heard) → AllMay Nothing piece → piece ≡ []
+asks_nothing_is_empty [] may = refl
+asks_nothing_is_empty (heard ∷ piece) may = absurd may.0
 
 -- A stimulus over a wire is one over the recorded trace, to which it adds nothing.
 stimulus_onto : {W : Type 0} (hears : W → Heard → W → Type 0) (config : Config) (stimulus : Stimulus) (x y : DriverView W)
-    (trace : List Heard) → Stimulates stimulus config x y → Stimulates stimulus config (onto x trace) (onto y trace)
+    (trace : List Heard) → Stimulates stimulus config x y → Stimulates stimulus config (over_trace x trace) (over_trace y trace)
 stimulus_onto hears config stimulus x y trace h =
     let (later, along, same) = lift_stimulates hears stimulus config x y trace h in
-    let k = stimulates Records Nothing config stimulus (onto x trace) (onto y later) same in
-    let is : later ≡ trace = through_records k.piece trace later k.through ∙ ap (λ (l : List Heard). l ++ trace) (no_peers k.piece k.may) in
-    subst (λ (l : List Heard). Stimulates stimulus config (onto x trace) (onto y l)) is same
+    let k = stimulates Records Nothing config stimulus (over_trace x trace) (over_trace y later) same in
+    let is : later ≡ trace = through_records k.piece trace later k.through
+        ∙ ap (λ (l : List Heard). l ++ trace) (asks_nothing_is_empty k.piece k.may) in
+    subst (λ (l : List Heard). Stimulates stimulus config (over_trace x trace) (over_trace y l)) is same
 
-over : {W J : Type 0} (hears : W → Heard → W → Type 0) (notes : J → List PlainEvent → J → Type 0) (config : Config) (passed : List Handed)
+over_all_sweeps : {W J : Type 0} (hears : W → Heard → W → Type 0) (notes : J → List PlainEvent → J → Type 0) (config : Config)
+    (passed : List Handed)
     (start now : DriverState W J) → Stands (notes start.journal) start config [] → (swept : Swept hears notes passed start now)
     → Over hears notes config passed start now swept
-over hears notes config [] start now stands is = record {
+over_all_sweeps hears notes config [] start now stands is = record {
   trace = [];
   history = [];
   through = ap (λ d. d.wire) is;
@@ -150,11 +153,12 @@ over hears notes config [] start now stands is = record {
   hands = tt;
   lets = tt;
   parts = (refl, refl);
-  time = λ clock zero rising. subst (λ d. Played config start.ahead 0 (driver_view d [])) (sym is) (begins config start clock zero rising);
-  runs = ap (λ d. onto (driver_view d []) []) is;
+  time = λ clock zero rising. subst (λ d. Played config start.ahead 0 (driver_view d [])) (sym is)
+      (played_before_sweeps config start clock zero rising);
+  runs = ap (λ d. over_trace (driver_view d []) []) is;
 }
-over hears notes config (Passing ticks ∷ passed) start now stands (between, swept, goes) =
-    let was = over hears notes config passed start between stands swept in
+over_all_sweeps hears notes config (Passing ticks ∷ passed) start now stands (between, swept, goes) =
+    let was = over_all_sweeps hears notes config passed start between stands swept in
     let now_so = goes start.journal config was.history was.stands in
     let t = traced hears config ticks (driver_view between was.history) (driver_view now now_so.0) was.trace now_so.2 in
     let s = t.swept in
@@ -163,9 +167,9 @@ over hears notes config (Passing ticks ∷ passed) start now stands (between, sw
       history = now_so.0;
       through = through_join hears was.trace s.k.piece start.wire between.wire now.wire was.through t.through;
       stands = now_so.1;
-      told = ap (filter is_outer) s.k.grown ∙ told_more s.k.events was.history s.k.piece was.trace s.k.told was.told;
+      told = ap (filter is_outer) s.k.grown ∙ matching_append s.k.events was.history s.k.piece was.trace s.k.told was.told;
       keeping = s.k.keeps was.trace was.keeping;
-      once = once_join None s.k.piece was.trace s.k.closing.once was.once;
+      once = closes_at_once_append None s.k.piece was.trace s.k.closing.once was.once;
       reasons = s.k.closing.reasons was.trace was.told was.reasons;
       hands = s.k.hands was.trace was.told was.hands;
       lets = s.k.lets was.trace was.told was.lets;
@@ -187,27 +191,27 @@ over hears notes config (Passing ticks ∷ passed) start now stands (between, sw
               (subst (λ h. IsLogOf config h now_so.1.0.log) s.k.grown now_so.1.0.is_log) (s.offered c lt),
           s.whole now_so.1.0.log now_so.1.0.is_log,
         ),
-        λ clock zero rising. (behind hears config (with_handed (last_clock - config.clock) passed start.ahead) passed ticks
+        λ clock zero rising. (played_after_sweep hears config (with_handed (last_clock - config.clock) passed start.ahead) passed ticks
             (driver_view between was.history)
             (driver_view now now_so.0) now_so.2
             (was.time clock zero rising)).1,
       );
-      time = λ clock zero rising. (behind hears config (with_handed (last_clock - config.clock) passed start.ahead) passed ticks
+      time = λ clock zero rising. (played_after_sweep hears config (with_handed (last_clock - config.clock) passed start.ahead) passed ticks
           (driver_view between was.history)
           (driver_view now now_so.0) now_so.2
           (was.time clock zero rising)).0;
       runs = (
-        onto (driver_view between was.history) was.trace,
+        over_trace (driver_view between was.history) was.trace,
         was.runs,
-        subst (λ l. Sweeps Records ticks config (onto (driver_view between was.history) was.trace) (onto
+        subst (λ l. Sweeps Records ticks config (over_trace (driver_view between was.history) was.trace) (over_trace
             (driver_view now now_so.0) l)) t.is t.sweeps,
       );
     }
-over hears notes config (Stimulated stimulus ∷ passed) start now stands (between, swept, accepted, goes) =
-    let was = over hears notes config passed start between stands swept in
+over_all_sweeps hears notes config (Stimulated stimulus ∷ passed) start now stands (between, swept, accepted, goes) =
+    let was = over_all_sweeps hears notes config passed start between stands swept in
     let now_so = goes start.journal config was.history was.stands in
     let k = stimulates hears Nothing config stimulus (driver_view between was.history) (driver_view now now_so.0) now_so.2 in
-    let none : k.piece ≡ [] = no_peers k.piece k.may in
+    let none : k.piece ≡ [] = asks_nothing_is_empty k.piece k.may in
     let same : k.piece ++ was.trace ≡ was.trace = ap (λ (l : List Heard). l ++ was.trace) none in
     record {
       trace = was.trace;
@@ -215,13 +219,13 @@ over hears notes config (Stimulated stimulus ∷ passed) start now stands (betwe
       through = subst (λ t. Through hears t start.wire now.wire) same
           (through_join hears was.trace k.piece start.wire between.wire now.wire was.through k.through);
       stands = now_so.1;
-      told = ap (filter is_outer) k.grown ∙ told_more k.events was.history k.piece was.trace k.told was.told
+      told = ap (filter is_outer) k.grown ∙ matching_append k.events was.history k.piece was.trace k.told was.told
           ∙ ap (flat_map event_of) same;
-      keeping = subst (λ t. Keeping config now_so.0 t) same (k.keeps was.trace was.keeping);
+      keeping = subst (λ t. BytesMatch config now_so.0 t) same (k.keeps was.trace was.keeping);
       once = was.once;
       reasons = subst (λ t. HasReasons config now_so.0 t) same (k.closing.reasons was.trace was.told was.reasons);
       hands = subst (λ t. HandsOver config now_so.0 t) same (k.hands was.trace was.told was.hands);
-      lets = subst (λ t. LetsGoRightly config now_so.0 t) same (k.lets was.trace was.told was.lets);
+      lets = subst (λ t. ClosesChannelsRightly config now_so.0 t) same (k.lets was.trace was.told was.lets);
       parts = (
         was.history,
         k.events,
@@ -235,7 +239,7 @@ over hears notes config (Stimulated stimulus ∷ passed) start now stands (betwe
       time = λ clock zero rising. (handed_in config (with_handed (last_clock - config.clock) passed start.ahead) (handed_ticks passed)
           (driver_view between was.history) (driver_view now now_so.0) stimulus accepted now_so.2 (was.time clock zero rising)).0;
       runs = (
-        onto (driver_view between was.history) was.trace,
+        over_trace (driver_view between was.history) was.trace,
         was.runs,
         stimulus_onto hears config stimulus (driver_view between was.history) (driver_view now now_so.0) was.trace now_so.2,
       );
@@ -243,7 +247,7 @@ over hears notes config (Stimulated stimulus ∷ passed) start now stands (betwe
 
 pub carried : {W J : Type 0} (hears : W → Heard → W → Type 0) (notes : J → List PlainEvent → J → Type 0) → Carried hears notes
 carried hears notes config passed start now stands swept =
-    let all = over hears notes config passed start now stands swept in
+    let all = over_all_sweeps hears notes config passed start now stands swept in
     (all.trace, all.history, all.through, all.stands, is_carried hears notes config passed start now swept all, all.parts)
 
 -- Two runs that are the same, or differ from some moment on, are the same until then.
@@ -257,20 +261,20 @@ start_at dialed ahead ticks = record { wire = []; history = []; dials = dialed; 
 pub determined : {W V J K : Type 0} (hears : W → Heard → W → Type 0) (notes : J → List PlainEvent → J → Type 0)
     (hearing : V → Heard → V → Type 0) (noting : K → List PlainEvent → K → Type 0) → Determined hears notes hearing noting
 determined hears notes hearing noting config handed start now begin end stands begun dialed ahead ticks swept sweeps =
-    let one = over hears notes config handed start now stands swept in
-    let two = over hearing noting config handed begin end begun sweeps in
-    let same : onto (driver_view start []) [] ≡ onto (driver_view begin []) [] =
+    let one = over_all_sweeps hears notes config handed start now stands swept in
+    let two = over_all_sweeps hearing noting config handed begin end begun sweeps in
+    let same : over_trace (driver_view start []) [] ≡ over_trace (driver_view begin []) [] =
     ap (λ (c : List (Option Dial)). start_at c start.ahead start.ticks) dialed
     ∙ ap (λ (l : List Entry). start_at begin.dials l start.ticks) ahead
     ∙ ap (λ (n : ℕ). start_at begin.dials begin.ahead n) ticks in
-    let end_one = onto (driver_view now one.history) one.trace in
-    let end_two = onto (driver_view end two.history) two.trace in (
+    let end_one = over_trace (driver_view now one.history) one.trace in
+    let end_two = over_trace (driver_view end two.history) two.trace in (
       one.trace,
       two.trace,
       one.history,
       two.history,
       (one.through, one.stands, is_carried hears notes config handed start now swept one, one.parts),
       (two.through, two.stands, is_carried hearing noting config handed begin end sweeps two, two.parts),
-      same_until end_one end_two (runs_alike config handed (onto (driver_view begin []) []) end_one end_two refl
+      same_until end_one end_two (runs_alike config handed (over_trace (driver_view begin []) []) end_one end_two refl
           (subst (λ (v : View). Runs config handed v end_one) same one.runs) two.runs),
     )

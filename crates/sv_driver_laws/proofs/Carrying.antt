@@ -18,7 +18,7 @@ use Rattle.sv_history.specs.Requests.{HearsOf}
 use Rattle.sv_history.specs.History.{IsLogOf}
 use Rattle.sv_history.specs.Print.{is_no_memory}
 use Rattle.sv_laws.proofs.OneLog.{one_log}
-use Rattle.sv_history.proofs.AlwaysTold.{some_told}
+use Rattle.sv_history.proofs.AlwaysTold.{channel_log_exists}
 use Rattle.sv_serve.specs.declared.wire.Answer.{Answer}
 use Rattle.sv_serve.specs.declared.wire.Answer.TheVariants.{Got, Pending, Failed}
 use Rattle.sv_serve.specs.Heard.{Heard, WasAccepted, WasRead, WasProbed, WasWritten, WasClosed, IsWithin, Through}
@@ -27,11 +27,11 @@ use Rattle.sv_serve.specs.Asked.{IsLowest}
 use Rattle.sv_serve.specs.Steps.{Opens, Accepts, Closes, ClosesIf, Comes, Drops, ProbesIf, ReadsFrom, RefusesIf, EndsTurn, TurnsIf, Turns, EndsWrite, WritesTo, EndsIf, Ends}
 use Rattle.sv_driver_laws.specs.Carried.{ClosesAtOnce}
 use Rattle.sv_history.specs.Queries.{WaitOn}
-use Rattle.sv_driver_laws.proofs.LettingGo.{LetsGoRightly, NoneHung, hung_same}
-use Rattle.sv_driver_laws.proofs.Handing.{HandsOver, Fits, AllFit, hands_silent}
-use Rattle.sv_driver_laws.proofs.Reasons.{IsCalm, IsReason, Reasons, closing_silent, closed_same, written_else}
-use Rattle.sv_driver_laws.proofs.Ports.{IsSilent, AreSilent, step_open, step_read, step_took, step_close, step_sent, Keeping, keeping_silent}
-use Rattle.sv_driver_laws.proofs.Keeps.{Subject, OfRead, OfConn, OfNone, about, AllMay, may_join, Keeps, through_join, keeps_none, keeps_then, silent_events, only_heard, hangs_up, happened, event_keeps, answer_keeps, inner_by}
+use Rattle.sv_driver_laws.proofs.LettingGo.{ClosesChannelsRightly, NoneClosesChannel, some_is_injective}
+use Rattle.sv_driver_laws.proofs.Handing.{HandsOver, WritesWaiting, AllWriteWaiting, hands_over_silent}
+use Rattle.sv_driver_laws.proofs.Reasons.{IsNoFailure, IsReason, Reasons, closing_silent, closed_conn_is_injective, written_else}
+use Rattle.sv_driver_laws.proofs.Ports.{IsSilent, AreSilent, step_open, step_read, step_took, step_close, step_sent, BytesMatch, keeping_silent}
+use Rattle.sv_driver_laws.proofs.Keeps.{Subject, OfRead, OfConn, OfNone, about, AllMay, all_may_append, Keeps, through_join, keeps_none, keeps_then, silent_events, only_heard, closes_channel_quiet, applied_adds_event, event_keeps, answer_keeps, inner_by}
 use Rattle.sv_driver_laws.proofs.Peers.{step_else}
 
 -- ---- connections are accepted
@@ -42,7 +42,7 @@ pub accept_by : {W : Type 0} (hears : W → Heard → W → Type 0) (May : Subje
     (WasAccepted role number answer) wire
     → between ≡ record before { wire = wire } → Opens role number answer config between after → Keeps hears May config before after
 accept_by hears May config may role (Some c) (Got all) wire before between after (lt, (log, was, answer), lower) heard is opens =
-    let channel_log = some_told (device_acts log) in
+    let channel_log = channel_log_exists (device_acts log) in
     answer_keeps hears May config (WasAccepted role (Some c) (Got all)) (may (OfConn c))
     (Open c role) wire before between after channel_log.0 log was channel_log.1
     heard (ap (λ m. m.wire) is) (ap (λ m. m.history) is) opens refl refl (λ d. refl) (λ p b a e. absurd cc) (λ n e. absurd cc)
@@ -70,20 +70,21 @@ abbrev pub closes : {W : Type 0} (hears : W → Heard → W → Type 0) (May : S
     → Type 0) (config : Config) (c : ℕ) (may : May OfNone × May (OfConn c)) (older : List Heard)
     (before between after : DriverView W) → Through hears older before.wire between.wire → between.history ≡ before.history
     → AreSilent older
-    → AllFit config before.history older → NoneHung older → AllMay May older → ClosesAtOnce (Some (WasClosed (Conn c))) older
+    → AllWriteWaiting config before.history older → NoneClosesChannel older → AllMay May older
+    → ClosesAtOnce (Some (WasClosed (Conn c))) older
     → Reasons config (Close (Conn c) ∷ before.history) before.history (WasClosed (Conn c)) older → Closes hears c config between after
     → Keeps hears May config before after
 closes hears May config c may older before between after so still silent fit old all_may once reason
     (first, (wire, heard, is), (second, hangs, (log, was, answers, to))) =
-    let q = hangs_up hears May config may.0 c first second hangs in
+    let q = closes_channel_quiet hears May config may.0 c first second hangs in
     let same : second.history ≡ before.history = q.same ∙ ap (λ m. m.history) is ∙ still in
-    let channel_log = some_told (device_acts log) in
+    let channel_log = channel_log_exists (device_acts log) in
     let shut : Through hears (WasClosed (Conn c) ∷ older) before.wire first.wire =
     subst (λ w. Through hears (WasClosed (Conn c) ∷ older) before.wire w) (sym (ap (λ m. m.wire) is)) (between.wire, so, heard) in
     event_keeps hears May config (WasClosed (Conn c)) (Close (Conn c)) q.piece older before after (record {
       hung = Some c;
       newer_adds = q.adds;
-      newer_ends = λ d e. eq-eqb c d (hung_same c d e);
+      newer_ends = λ d e. eq-eqb c d (some_is_injective c d e);
       unhung = (λ n e. absurd cc);
       older_unhung = old;
       log = log;
@@ -102,15 +103,15 @@ closes hears May config c may older before between after so still silent fit old
       older_once = once;
       calm = λ d. refl;
       reason = reason;
-      may = may_join May q.piece (WasClosed (Conn c) ∷ older) q.may (may.1, all_may);
+      may = all_may_append May q.piece (WasClosed (Conn c) ∷ older) q.may (may.1, all_may);
       outer = refl;
       same = refl;
       step = λ trace d. step_close c trace d (of d log) channel_log.0;
     })
 
 -- The connection that failed is the one that is closed next.
-pub failed_next : (c d : ℕ) → eqb c d ≡ true → Some (WasClosed (Conn c)) ≡ Some (WasClosed (Conn d))
-failed_next c d e = ap (λ (n : ℕ). Some (WasClosed (Conn n))) (eqb-true c d e)
+pub failed_conn_is_closed : (c d : ℕ) → eqb c d ≡ true → Some (WasClosed (Conn c)) ≡ Some (WasClosed (Conn d))
+failed_conn_is_closed c d e = ap (λ (n : ℕ). Some (WasClosed (Conn n))) (eqb-true c d e)
 
 -- ---- connections are read
 
@@ -120,7 +121,7 @@ pub read_by : {W : Type 0} (hears : W → Heard → W → Type 0) (May : Subject
     → hears before.wire (WasRead c most answer) wire → between ≡ record before { wire = wire }
     → Comes hears c answer config between after → Keeps hears May config before after
 read_by hears May config c may read_may most (Got bytes) wire before between after log was heard is applied =
-    let channel_log = some_told (device_acts log) in
+    let channel_log = channel_log_exists (device_acts log) in
     answer_keeps hears May config (WasRead c most (Got bytes)) read_may
     (Bytes c bytes) wire before between after channel_log.0 log was channel_log.1
     heard (ap (λ m. m.wire) is) (ap (λ m. m.history) is) applied refl refl (λ d. refl) (λ p b a e. absurd cc) (λ n e. absurd cc)
@@ -133,8 +134,8 @@ read_by hears May config c may read_may most Failed wire before between after lo
     closes hears May config c may (WasRead c most Failed ∷ []) before between after
     (before.wire, refl, subst (λ w. hears before.wire (WasRead c most Failed) w) (sym (ap (λ m. m.wire) is)) heard) (ap (λ m. m.history) is)
     ((refl, (λ port. refl), (λ port. refl), (λ port. refl)), tt) ((λ p b a e. absurd cc), tt) ((λ n e. absurd cc), tt) (read_may, tt)
-    ((λ d e. failed_next c d e), tt)
-    (λ trace so d e. inl (WasRead c most Failed, trace, refl, eq-eqb c d (closed_same c d e))) shuts
+    ((λ d e. failed_conn_is_closed c d e), tt)
+    (λ trace so d e. inl (WasRead c most Failed, trace, refl, eq-eqb c d (closed_conn_is_injective c d e))) shuts
 
 pub drops_gone : {W : Type 0} (hears : W → Heard → W → Type 0) (May : Subject
     → Type 0) (config : Config) (c : ℕ) (may : May OfNone × May (OfConn c)) (drops : Bool)
@@ -151,8 +152,8 @@ drops_gone hears May config c may drops Failed wire before between after heard i
     (before.wire, refl, subst (λ w. hears before.wire (WasProbed c drops Failed) w) (sym (ap (λ m. m.wire) is)) heard) (ap
     (λ m. m.history) is)
     ((refl, (λ port. refl), (λ port. refl), (λ port. refl)), tt) ((λ p b a e. absurd cc), tt) ((λ n e. absurd cc), tt) (may.1, tt)
-    ((λ d e. failed_next c d e), tt)
-    (λ trace so d e. inl (WasProbed c drops Failed, trace, refl, eq-eqb c d (closed_same c d e))) shuts
+    ((λ d e. failed_conn_is_closed c d e), tt)
+    (λ trace so d e. inl (WasProbed c drops Failed, trace, refl, eq-eqb c d (closed_conn_is_injective c d e))) shuts
 
 pub probes_if : {W : Type 0} (hears : W → Heard → W → Type 0) (May : Subject
     → Type 0) (config : Config) (c : ℕ) (may : May OfNone × May (OfConn c)) (opened : Bool)
@@ -219,7 +220,7 @@ written_same port other bytes more answer also e = (cc, cc)
 
 pub written_fits : (port : Port) (bytes : List ℕ) (answer : Answer ℕ) (config : Config) (history : List PlainEvent)
     → WaitOn port config history bytes
-    → Fits config history (WasWritten port bytes answer)
+    → WritesWaiting config history (WasWritten port bytes answer)
 written_fits port bytes answer config history waits other more also e =
     let same = written_same port other bytes more answer also e in
     subst (λ (p : Port). WaitOn p config history more) same.0 (subst (λ (l : List ℕ). WaitOn port config history l) same.1 waits)
@@ -229,7 +230,7 @@ abbrev pub pending_keeps : {W : Type 0} (hears : W → Heard → W → Type 0) (
     (may : May (about (WasWritten port bytes Pending))) (wire : W) (before between after : DriverView W)
     → hears before.wire (WasWritten port bytes Pending) wire → between ≡ record before { wire = wire }
     → IsSilent (WasWritten port bytes Pending)
-    → IsCalm (WasWritten port bytes Pending) → WaitOn port config before.history bytes → after ≡ between
+    → IsNoFailure (WasWritten port bytes Pending) → WaitOn port config before.history bytes → after ≡ between
     → Keeps hears May config before after
 pending_keeps hears May config port bytes may wire before between after was is silent calm waits same =
     let still : after.history ≡ before.history = ap (λ m. m.history) same ∙ ap (λ m. m.history) is in
@@ -246,12 +247,12 @@ pending_keeps hears May config port bytes may wire before between after was is s
       told = sym (silent_events piece (silent, tt));
       may = (may, tt);
       keeps = λ trace keeping. keeping_silent config after.history piece trace (silent, tt)
-          (subst (λ h. Keeping config h trace) (sym still) keeping);
+          (subst (λ h. BytesMatch config h trace) (sym still) keeping);
       closing = closing_silent config before.history after.history piece still (silent, tt) (calm, tt);
       hands = λ trace so h. subst (λ l. HandsOver config l (piece ++ trace)) (sym still)
-          (hands_silent config before.history piece trace (silent, tt)
+          (hands_over_silent config before.history piece trace (silent, tt)
           (written_fits port bytes Pending config before.history waits, tt) so h);
-      lets = λ trace so h. subst (λ l. LetsGoRightly config l (piece ++ trace)) (sym still) ((λ n e. absurd cc), h);
+      lets = λ trace so h. subst (λ l. ClosesChannelsRightly config l (piece ++ trace)) (sym still) ((λ n e. absurd cc), h);
     }
 
 abbrev pub write_by : {W : Type 0} (hears : W → Heard → W → Type 0) (May : Subject
@@ -287,18 +288,18 @@ write_by hears May config (Conn c) may bytes Failed wire before between after lo
     (before.wire, refl, subst (λ w. hears before.wire (WasWritten (Conn c) bytes Failed) w) (sym (ap (λ m. m.wire) is)) heard)
     (ap (λ m. m.history) is) ((refl, (λ other. refl), (λ other. refl), (λ other. refl)), tt)
     (written_fits (Conn c) bytes Failed config before.history (log, channel_log, was, tells_so, waits), tt) ((λ n e. absurd cc), tt)
-    (may.1, tt) ((λ d e. failed_next c d e), tt)
-    (λ trace so d e. inl (WasWritten (Conn c) bytes Failed, trace, refl, eq-eqb c d (closed_same c d e)))
+    (may.1, tt) ((λ d e. failed_conn_is_closed c d e), tt)
+    (λ trace so d e. inl (WasWritten (Conn c) bytes Failed, trace, refl, eq-eqb c d (closed_conn_is_injective c d e)))
     shuts
 write_by hears May config (Intr c) may bytes Failed wire before between after log channel_log was tells_so waits few heard is
     (hung, hangs, applied) =
-    let q = hangs_up hears May config may.0 c between hung hangs in
+    let q = closes_channel_quiet hears May config may.0 c between hung hangs in
     let same : hung.history ≡ before.history = q.same ∙ ap (λ m. m.history) is in
-    let done = happened (Close (Intr c)) config hung after applied in
+    let done = applied_adds_event (Close (Intr c)) config hung after applied in
     event_keeps hears May config (WasWritten (Intr c) bytes Failed) (Close (Intr c)) q.piece [] before after (record {
       hung = Some c;
       newer_adds = q.adds;
-      newer_ends = λ d e. eq-eqb c d (hung_same c d e);
+      newer_ends = λ d e. eq-eqb c d (some_is_injective c d e);
       unhung = (λ n e. absurd cc);
       older_unhung = tt;
       log = log;
@@ -322,7 +323,7 @@ write_by hears May config (Intr c) may bytes Failed wire before between after lo
       older_once = tt;
       calm = λ d. refl;
       reason = λ trace so d e. written_else (Intr c) bytes Failed d e;
-      may = may_join May q.piece (WasWritten (Intr c) bytes Failed ∷ []) q.may (may.0, tt);
+      may = all_may_append May q.piece (WasWritten (Intr c) bytes Failed ∷ []) q.may (may.0, tt);
       outer = refl;
       same = refl;
       step = step_else (Close (Intr c)) (WasWritten (Intr c) bytes Failed) log channel_log (λ d. refl) refl (λ port. refl) (λ d. refl)
@@ -346,7 +347,7 @@ pub closes_if : {W : Type 0} (hears : W → Heard → W → Type 0) (May : Subje
     → ClosesIf hears c so config before after → Keeps hears May config before after
 closes_if hears May config c may true before after log was faulted none h =
     closes hears May config c may [] before before after refl refl tt tt tt tt tt
-    (λ trace so d e. subst (λ (n : ℕ). IsReason n config (Close (Conn c) ∷ before.history) trace) (closed_same c d e)
+    (λ trace so d e. subst (λ (n : ℕ). IsReason n config (Close (Conn c) ∷ before.history) trace) (closed_conn_is_injective c d e)
     (inr (Close (Conn c) ∷ [], before.history, refl, so, (log, was, faulted, none refl)))) h
 closes_if hears May config c may false before after log was faulted none same = keeps_none hears May config before after same
 

@@ -14,7 +14,7 @@ use Rattle.sv_history.specs.Event.{PlainEvent, Open, Bytes, Turn, Refuse, Took, 
 use Rattle.sv_history.specs.Act.{Act, ConnAct, Opened, Piece, CallTaken, Faulted, Replied, BytesTaken, PortClosed, of}
 use Rattle.sv_history.specs.Connection.{is_open, bytes_left, waiting, free, bytes_sent, bytes_taken}
 use Rattle.sv_history.specs.History.{refusal, is_shut, IsLogOf}
-use Rattle.sv_laws.proofs.Brought.{brings, AreCalls}
+use Rattle.sv_laws.proofs.Brought.{brings, AreCallActs}
 use Rattle.sv_laws.proofs.OneLog.{one_log}
 use Rattle.sv_laws.proofs.OnlyCalls.{only_calls}
 use Rattle.sv_serve.specs.declared.wire.Answer.TheVariants.{Got, Pending, Failed}
@@ -29,55 +29,56 @@ is_bytes _ = false
 abbrev pub IsNoRead : PlainEvent → Type 0
 IsNoRead event = (c : ℕ) (bytes : List ℕ) → event ≡ Bytes c bytes → ⊥
 
-pub none_read : (events : List PlainEvent) → filter is_bytes events ≡ [] → AllByRecursion IsNoRead events
-none_read [] none = tt
-none_read (Bytes d piece ∷ events) none = absurd cc
-none_read (Open d role ∷ events) none = ((λ c bytes e. absurd cc), none_read events none)
-none_read (Took port n ∷ events) none = ((λ c bytes e. absurd cc), none_read events none)
-none_read (Close port ∷ events) none = ((λ c bytes e. absurd cc), none_read events none)
-none_read (Dialed d ok ∷ events) none = ((λ c bytes e. absurd cc), none_read events none)
-none_read (Turn d ∷ events) none = ((λ c bytes e. absurd cc), none_read events none)
-none_read (Refuse d ∷ events) none = ((λ c bytes e. absurd cc), none_read events none)
-none_read (Input channel microvolts ∷ events) none = ((λ c bytes e. absurd cc), none_read events none)
-none_read (External ∷ events) none = ((λ c bytes e. absurd cc), none_read events none)
-none_read (Tick ∷ events) none = ((λ c bytes e. absurd cc), none_read events none)
+pub none_is_read : (events : List PlainEvent) → filter is_bytes events ≡ [] → AllByRecursion IsNoRead events
+none_is_read [] none = tt
+none_is_read (Bytes d piece ∷ events) none = absurd cc
+none_is_read (Open d role ∷ events) none = ((λ c bytes e. absurd cc), none_is_read events none)
+none_is_read (Took port n ∷ events) none = ((λ c bytes e. absurd cc), none_is_read events none)
+none_is_read (Close port ∷ events) none = ((λ c bytes e. absurd cc), none_is_read events none)
+none_is_read (Dialed d ok ∷ events) none = ((λ c bytes e. absurd cc), none_is_read events none)
+none_is_read (Turn d ∷ events) none = ((λ c bytes e. absurd cc), none_is_read events none)
+none_is_read (Refuse d ∷ events) none = ((λ c bytes e. absurd cc), none_is_read events none)
+none_is_read (Input channel microvolts ∷ events) none = ((λ c bytes e. absurd cc), none_is_read events none)
+none_is_read (External ∷ events) none = ((λ c bytes e. absurd cc), none_is_read events none)
+none_is_read (Tick ∷ events) none = ((λ c bytes e. absurd cc), none_is_read events none)
 
 -- ---- the logs of a history and of its continuation
 
-abbrev pub brought : ℕ → List PlainEvent → List ConnAct
-brought c events = flat_map (brings c) events
+abbrev pub acts_brought : ℕ → List PlainEvent → List ConnAct
+acts_brought c events = flat_map (brings c) events
 
 -- The history before some events has a log of its own.
-pub front_log : (config : Config) (events history : List PlainEvent) (log : List Act) → IsLogOf config (events ++ history) log
+pub log_before_events : (config : Config) (events history : List PlainEvent) (log : List Act) → IsLogOf config (events ++ history) log
     → (front : List Act) × IsLogOf config history front
-front_log config [] history log is = (log, is)
-front_log config (event ∷ events) history log is = front_log config events history is.0 is.4
+log_before_events config [] history log is = (log, is)
+log_before_events config (event ∷ events) history log is = log_before_events config events history is.0 is.4
 
-pub none_left : (xs ys : List ConnAct) → xs ++ ys ≡ [] → (xs ≡ []) × (ys ≡ [])
-none_left [] ys e = (refl, e)
-none_left (x ∷ xs) ys e = absurd cc
+pub empty_append_both : (xs ys : List ConnAct) → xs ++ ys ≡ [] → (xs ≡ []) × (ys ≡ [])
+empty_append_both [] ys e = (refl, e)
+empty_append_both (x ∷ xs) ys e = absurd cc
 
-pub calls_both : (one other : List ConnAct) → AreCalls one → AreCalls other → AreCalls (one ++ other)
-calls_both [] other h k = k
-calls_both (CallTaken call ∷ one) other h k = calls_both one other h k
-calls_both (Faulted ∷ one) other h k = calls_both one other h k
-calls_both (Replied bytes ∷ one) other h k = calls_both one other h k
-calls_both (Opened role ∷ one) other h k = absurd h
-calls_both (Piece bytes ∷ one) other h k = absurd h
-calls_both (BytesTaken count ∷ one) other h k = absurd h
-calls_both (PortClosed ∷ one) other h k = absurd h
+pub append_of_calls : (one other : List ConnAct) → AreCallActs one → AreCallActs other → AreCallActs (one ++ other)
+append_of_calls [] other h k = k
+append_of_calls (CallTaken call ∷ one) other h k = append_of_calls one other h k
+append_of_calls (Faulted ∷ one) other h k = append_of_calls one other h k
+append_of_calls (Replied bytes ∷ one) other h k = append_of_calls one other h k
+append_of_calls (Opened role ∷ one) other h k = absurd h
+append_of_calls (Piece bytes ∷ one) other h k = absurd h
+append_of_calls (BytesTaken count ∷ one) other h k = absurd h
+append_of_calls (PortClosed ∷ one) other h k = absurd h
 
 -- Events that don't open, read, write or close a connection add only acts of calls to it.
-pub calls_over : (config : Config) (events history : List PlainEvent) (front log : List Act) (c : ℕ) → brought c events ≡ []
+pub only_calls_over_events : (config : Config) (events history : List PlainEvent) (front log : List Act) (c : ℕ)
+    → acts_brought c events ≡ []
     → IsLogOf config history front → IsLogOf config (events ++ history) log
-    → (calls : List ConnAct) × AreCalls calls × (of c log ≡ calls ++ of c front)
-calls_over config [] history front log c none was is = ([], tt, ap (of c) (one_log config history log front is was))
-calls_over config (event ∷ events) history front log c none was is =
-    let parts = none_left (brings c event) (brought c events) none in
-    let rest = calls_over config events history front is.0 c parts.1 was is.4 in
+    → (calls : List ConnAct) × AreCallActs calls × (of c log ≡ calls ++ of c front)
+only_calls_over_events config [] history front log c none was is = ([], tt, ap (of c) (one_log config history log front is was))
+only_calls_over_events config (event ∷ events) history front log c none was is =
+    let parts = empty_append_both (brings c event) (acts_brought c events) none in
+    let rest = only_calls_over_events config events history front is.0 c parts.1 was is.4 in
     let one = only_calls config event (events ++ history) is.0 log c is.4 is in (
       one.0 ++ rest.0,
-      calls_both one.0 rest.0 one.1 rest.1,
+      append_of_calls one.0 rest.0 one.1 rest.1,
       one.2 ∙ ap (λ (l : List ConnAct). one.0 ++ (l ++ of c is.0)) parts.0 ∙ ap (λ (l : List ConnAct). one.0 ++ l) rest.2
           ∙ sym (append_assoc one.0 rest.0 (of c front)),
     )
@@ -87,35 +88,35 @@ calls_over config (event ∷ events) history front log c none was is =
 abbrev pub IsWithin : List ConnAct → Type 0
 IsWithin acts = is_open acts ≡ true → bytes_taken acts ≤ length (bytes_sent acts)
 
-pub within_calls : (adds acts : List ConnAct) → AreCalls adds → IsWithin acts → IsWithin (adds ++ acts)
-within_calls [] acts h k = k
-within_calls (CallTaken call ∷ adds) acts h k = within_calls adds acts h k
-within_calls (Faulted ∷ adds) acts h k = within_calls adds acts h k
-within_calls (Replied bytes ∷ adds) acts h k = λ opened.
-    let le = within_calls adds acts h k opened in
+pub within_after_calls : (adds acts : List ConnAct) → AreCallActs adds → IsWithin acts → IsWithin (adds ++ acts)
+within_after_calls [] acts h k = k
+within_after_calls (CallTaken call ∷ adds) acts h k = within_after_calls adds acts h k
+within_after_calls (Faulted ∷ adds) acts h k = within_after_calls adds acts h k
+within_after_calls (Replied bytes ∷ adds) acts h k = λ opened.
+    let le = within_after_calls adds acts h k opened in
     let sum = length-append (bytes_sent (adds ++ acts)) bytes in omega (arith, le, sum)
-within_calls (Opened role ∷ adds) acts h k = absurd h
-within_calls (Piece bytes ∷ adds) acts h k = absurd h
-within_calls (BytesTaken count ∷ adds) acts h k = absurd h
-within_calls (PortClosed ∷ adds) acts h k = absurd h
+within_after_calls (Opened role ∷ adds) acts h k = absurd h
+within_after_calls (Piece bytes ∷ adds) acts h k = absurd h
+within_after_calls (BytesTaken count ∷ adds) acts h k = absurd h
+within_after_calls (PortClosed ∷ adds) acts h k = absurd h
 
-pub took_few : (shut few : Bool) → cond shut (Some NoConn) (cond few (Some NotSent) None) ≡ None → few ≡ false
-took_few true few e = absurd cc
-took_few false true e = absurd cc
-took_few false false e = refl
+pub took_not_too_many : (shut few : Bool) → cond shut (Some NoConn) (cond few (Some NotSent) None) ≡ None → few ≡ false
+took_not_too_many true few e = absurd cc
+took_not_too_many false true e = absurd cc
+took_not_too_many false false e = refl
 
-pub within_event : (config : Config) (channel_log : List ChannelAct) (event : PlainEvent) (log : List Act) (c : ℕ)
+pub within_after_event : (config : Config) (channel_log : List ChannelAct) (event : PlainEvent) (log : List Act) (c : ℕ)
     → refusal config channel_log event log ≡ None
     → IsWithin (of c log) → IsWithin (brings c event ++ of c log)
-within_event config channel_log (Open d role) log c free h = elim (cases_Bool (eqb d c)) [
+within_after_event config channel_log (Open d role) log c free h = elim (cases_Bool (eqb d c)) [
   | inl e ↦ rw e (λ opened. omega arith)
   | inr e ↦ rw e h
 ]
-within_event config channel_log (Bytes d piece) log c free h = elim (cases_Bool (eqb d c)) [ inl e ↦ rw e h | inr e ↦ rw e h ]
-within_event config channel_log (Took (Conn d) n) log c free h = elim (cases_Bool (eqb d c)) [
+within_after_event config channel_log (Bytes d piece) log c free h = elim (cases_Bool (eqb d c)) [ inl e ↦ rw e h | inr e ↦ rw e h ]
+within_after_event config channel_log (Took (Conn d) n) log c free h = elim (cases_Bool (eqb d c)) [
   | inl e ↦ rw e (λ opened.
       let few : n ≤ length (waiting (of d log)) =
-      ltb-false (length (waiting (of d log))) n (took_few (is_shut d log) (nat_lt (length (waiting (of d log))) n) free) in
+      ltb-false (length (waiting (of d log))) n (took_not_too_many (is_shut d log) (nat_lt (length (waiting (of d log))) n) free) in
       let same : of d log ≡ of c log = ap (λ (m : ℕ). of m log) (eqb-true d c e) in
       let all : waiting (of d log) ≡ bytes_left (of c log) = ap waiting same ∙ rw opened refl in
       let left = length-drop (bytes_taken (of c log)) (bytes_sent (of c log)) in
@@ -123,57 +124,59 @@ within_event config channel_log (Took (Conn d) n) log c free h = elim (cases_Boo
       let le = h opened in omega (arith, few, left, long, le))
   | inr e ↦ rw e h
 ]
-within_event config channel_log (Close (Conn d)) log c free h = elim (cases_Bool (eqb d c)) [
+within_after_event config channel_log (Close (Conn d)) log c free h = elim (cases_Bool (eqb d c)) [
   | inl e ↦ rw e (λ opened. absurd cc)
   | inr e ↦ rw e h
 ]
-within_event config channel_log (Took (Intr d) n) log c free h = h
-within_event config channel_log (Close (Intr d)) log c free h = h
-within_event config channel_log (Turn d) log c free h = h
-within_event config channel_log (Refuse d) log c free h = h
-within_event config channel_log (Dialed d ok) log c free h = h
-within_event config channel_log (Input channel microvolts) log c free h = h
-within_event config channel_log External log c free h = h
-within_event config channel_log Tick log c free h = h
+within_after_event config channel_log (Took (Intr d) n) log c free h = h
+within_after_event config channel_log (Close (Intr d)) log c free h = h
+within_after_event config channel_log (Turn d) log c free h = h
+within_after_event config channel_log (Refuse d) log c free h = h
+within_after_event config channel_log (Dialed d ok) log c free h = h
+within_after_event config channel_log (Input channel microvolts) log c free h = h
+within_after_event config channel_log External log c free h = h
+within_after_event config channel_log Tick log c free h = h
 
-pub within_log : (config : Config) (history : List PlainEvent) (log : List Act) (c : ℕ) → IsLogOf config history log → IsWithin (of c log)
-within_log config [] log c (bytes_taken, none) = subst (λ (l : List Act). IsWithin (of c l)) (sym none) (λ opened. absurd cc)
-within_log config (event ∷ history) log c is =
+pub taken_within_sent : (config : Config) (history : List PlainEvent) (log : List Act) (c : ℕ) → IsLogOf config history log
+    → IsWithin (of c log)
+taken_within_sent config [] log c (bytes_taken, none) = subst (λ (l : List Act). IsWithin (of c l)) (sym none) (λ opened. absurd cc)
+taken_within_sent config (event ∷ history) log c is =
     let grown = only_calls config event history is.0 log c is.4 is in
-    subst IsWithin (sym grown.2) (within_calls grown.0 (brings c event ++ of c is.0) grown.1
-    (within_event config is.2 event is.0 c is.6 (within_log config history is.0 c is.4)))
+    subst IsWithin (sym grown.2) (within_after_calls grown.0 (brings c event ++ of c is.0) grown.1
+    (within_after_event config is.2 event is.0 c is.6 (taken_within_sent config history is.0 c is.4)))
 
 -- Acts of calls neither open nor close a connection, and append to the bytes that wait on it.
-pub calls_open : (adds acts : List ConnAct) → AreCalls adds → is_open (adds ++ acts) ≡ is_open acts
-calls_open [] acts h = refl
-calls_open (CallTaken call ∷ adds) acts h = calls_open adds acts h
-calls_open (Faulted ∷ adds) acts h = calls_open adds acts h
-calls_open (Replied bytes ∷ adds) acts h = calls_open adds acts h
-calls_open (Opened role ∷ adds) acts h = absurd h
-calls_open (Piece bytes ∷ adds) acts h = absurd h
-calls_open (BytesTaken count ∷ adds) acts h = absurd h
-calls_open (PortClosed ∷ adds) acts h = absurd h
+pub is_open_after_calls : (adds acts : List ConnAct) → AreCallActs adds → is_open (adds ++ acts) ≡ is_open acts
+is_open_after_calls [] acts h = refl
+is_open_after_calls (CallTaken call ∷ adds) acts h = is_open_after_calls adds acts h
+is_open_after_calls (Faulted ∷ adds) acts h = is_open_after_calls adds acts h
+is_open_after_calls (Replied bytes ∷ adds) acts h = is_open_after_calls adds acts h
+is_open_after_calls (Opened role ∷ adds) acts h = absurd h
+is_open_after_calls (Piece bytes ∷ adds) acts h = absurd h
+is_open_after_calls (BytesTaken count ∷ adds) acts h = absurd h
+is_open_after_calls (PortClosed ∷ adds) acts h = absurd h
 
-pub sent_calls : (adds acts : List ConnAct) → AreCalls adds
+pub sent_after_calls : (adds acts : List ConnAct) → AreCallActs adds
     → (bytes_taken (adds ++ acts) ≡ bytes_taken acts) × (more : List ℕ) × (bytes_sent (adds ++ acts) ≡ bytes_sent acts ++ more)
-sent_calls [] acts h = (refl, [], sym (append-nil (bytes_sent acts)))
-sent_calls (CallTaken call ∷ adds) acts h = sent_calls adds acts h
-sent_calls (Faulted ∷ adds) acts h = sent_calls adds acts h
-sent_calls (Replied bytes ∷ adds) acts h =
-    let rest = sent_calls adds acts h in
+sent_after_calls [] acts h = (refl, [], sym (append-nil (bytes_sent acts)))
+sent_after_calls (CallTaken call ∷ adds) acts h = sent_after_calls adds acts h
+sent_after_calls (Faulted ∷ adds) acts h = sent_after_calls adds acts h
+sent_after_calls (Replied bytes ∷ adds) acts h =
+    let rest = sent_after_calls adds acts h in
     (rest.0, rest.1 ++ bytes, ap (λ (l : List ℕ). l ++ bytes) rest.2 ∙ append_assoc (bytes_sent acts) rest.1 bytes)
-sent_calls (Opened role ∷ adds) acts h = absurd h
-sent_calls (Piece bytes ∷ adds) acts h = absurd h
-sent_calls (BytesTaken count ∷ adds) acts h = absurd h
-sent_calls (PortClosed ∷ adds) acts h = absurd h
+sent_after_calls (Opened role ∷ adds) acts h = absurd h
+sent_after_calls (Piece bytes ∷ adds) acts h = absurd h
+sent_after_calls (BytesTaken count ∷ adds) acts h = absurd h
+sent_after_calls (PortClosed ∷ adds) acts h = absurd h
 
-pub waits_calls : (adds acts : List ConnAct) → AreCalls adds → IsWithin acts
+pub waiting_after_calls : (adds acts : List ConnAct) → AreCallActs adds → IsWithin acts
     → (more : List ℕ) × (waiting (adds ++ acts) ≡ waiting acts ++ more)
-waits_calls adds acts h within = elim (cases_Bool (is_open acts)) [
+waiting_after_calls adds acts h within = elim (cases_Bool (is_open acts)) [
   | inl e ↦
-      let grown = sent_calls adds acts h in
-      (grown.1, rw (calls_open adds acts h, e, grown.0, grown.2) (drop-append-le (bytes_taken acts) (bytes_sent acts) grown.1 (within e)))
-  | inr e ↦ ([], rw (calls_open adds acts h, e) refl)
+      let grown = sent_after_calls adds acts h in
+      (grown.1, rw (is_open_after_calls adds acts h, e, grown.0, grown.2)
+          (drop-append-le (bytes_taken acts) (bytes_sent acts) grown.1 (within e)))
+  | inr e ↦ ([], rw (is_open_after_calls adds acts h, e) refl)
 ]
 
 -- ---- what steps leave alone
@@ -188,7 +191,7 @@ Unread (OfRead d) = ⊥
 Unread (OfConn d) = ⊤
 Unread OfNone = ⊤
 
-pub brought_outer : (c : ℕ) (events : List PlainEvent) → brought c events ≡ brought c (filter is_outer events)
+pub brought_outer : (c : ℕ) (events : List PlainEvent) → acts_brought c events ≡ acts_brought c (filter is_outer events)
 brought_outer c [] = refl
 brought_outer c (Open d role ∷ events) = ap (λ (l : List ConnAct). brings c (Open d role) ++ l) (brought_outer c events)
 brought_outer c (Bytes d piece ∷ events) = ap (λ (l : List ConnAct). brings c (Bytes d piece) ++ l) (brought_outer c events)
@@ -201,7 +204,7 @@ brought_outer c (Input channel microvolts ∷ events) = brought_outer c events
 brought_outer c (External ∷ events) = brought_outer c events
 brought_outer c (Tick ∷ events) = brought_outer c events
 
-pub brought_heard : (c : ℕ) (heard : Heard) → Elsewhere c (about heard) → brought c (event_of heard) ≡ []
+pub brought_heard : (c : ℕ) (heard : Heard) → Elsewhere c (about heard) → acts_brought c (event_of heard) ≡ []
 brought_heard c (WasAccepted role (Some d) (Got all)) ne = rw (ne_eqb d c ne) refl
 brought_heard c (WasAccepted role (Some d) Pending) ne = refl
 brought_heard c (WasAccepted role (Some d) Failed) ne = refl
@@ -223,10 +226,10 @@ brought_heard c (PeerAnswered d Failed) ne = refl
 brought_heard c (WasClosed (Conn d)) ne = rw (ne_eqb d c ne) refl
 brought_heard c (WasClosed (Intr d)) ne = refl
 
-pub brought_piece : (c : ℕ) (piece : List Heard) → AllMay (Elsewhere c) piece → brought c (flat_map event_of piece) ≡ []
+pub brought_piece : (c : ℕ) (piece : List Heard) → AllMay (Elsewhere c) piece → acts_brought c (flat_map event_of piece) ≡ []
 brought_piece c [] all = refl
 brought_piece c (heard ∷ piece) all = flat_map-append (brings c) (event_of heard) (flat_map event_of piece)
-    ∙ ap (λ (l : List ConnAct). l ++ brought c (flat_map event_of piece)) (brought_heard c heard all.0) ∙ brought_piece c piece all.1
+    ∙ ap (λ (l : List ConnAct). l ++ acts_brought c (flat_map event_of piece)) (brought_heard c heard all.0) ∙ brought_piece c piece all.1
 
 pub bytes_outer : (events : List PlainEvent) → filter is_bytes events ≡ filter is_bytes (filter is_outer events)
 bytes_outer [] = refl

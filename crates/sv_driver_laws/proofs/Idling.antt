@@ -25,17 +25,17 @@ abbrev pub Idles : {W : Type 0} → DriverView W → DriverView W → Type 0
 Idles a b = (b.ahead ≡ a.ahead) × (b.ticks ≡ a.ticks) × (filter is_timed b.history ≡ filter is_timed a.history)
     × (filter is_tick b.history ≡ filter is_tick a.history)
 
-pub idles_same : {W : Type 0} (a b : DriverView W) → b ≡ a → Idles a b
-idles_same a b is =
+pub idles_refl : {W : Type 0} (a b : DriverView W) → b ≡ a → Idles a b
+idles_refl a b is =
     (ap (λ m. m.ahead) is, ap (λ m. m.ticks) is, ap (λ m. filter is_timed m.history) is, ap (λ m. filter is_tick m.history) is)
 
-pub idles_then : {W : Type 0} (a b c : DriverView W) → Idles a b → Idles b c → Idles a c
-idles_then a b c x y = (y.0 ∙ x.0, y.1 ∙ x.1, y.2 ∙ x.2, y.3 ∙ x.3)
+pub idles_trans : {W : Type 0} (a b c : DriverView W) → Idles a b → Idles b c → Idles a c
+idles_trans a b c x y = (y.0 ∙ x.0, y.1 ∙ x.1, y.2 ∙ x.2, y.3 ∙ x.3)
 
 pub idles_each : {W : Type 0} (config : Config) (step : ℕ → Config → DriverView W → DriverView W → Type 0) (n : ℕ)
     → ((c : ℕ) (a b : DriverView W) → step c config a b → Idles a b) → (a b : DriverView W) → ForEach n step config a b → Idles a b
-idles_each config step zero each a b is = idles_same a b is
-idles_each config step (suc n) each a b (m, front, last) = idles_then a m b (idles_each config step n each a m front) (each n m b last)
+idles_each config step zero each a b is = idles_refl a b is
+idles_each config step (suc n) each a b (m, front, last) = idles_trans a m b (idles_each config step n each a m front) (each n m b last)
 
 hears_idles : {W : Type 0} (hears : W → Heard → W → Type 0) (heard : Heard) (config : Config) (a b : DriverView W)
     → Hears hears heard config a b
@@ -43,14 +43,14 @@ hears_idles : {W : Type 0} (hears : W → Heard → W → Type 0) (heard : Heard
 hears_idles hears heard config a b (wire, was, is) =
     (ap (λ m. m.ahead) is, ap (λ m. m.ticks) is, ap (λ m. filter is_timed m.history) is, ap (λ m. filter is_tick m.history) is)
 
-notes_idles : {W : Type 0} (c : ℕ) (dial : Option Dial) (config : Config) (a b : DriverView W) → Remembers c dial config a b → Idles a b
-notes_idles c dial config a b is =
+remembers_idles : {W : Type 0} (c : ℕ) (dial : Option Dial) (config : Config) (a b : DriverView W) → Remembers c dial config a b → Idles a b
+remembers_idles c dial config a b is =
     (ap (λ m. m.ahead) is, ap (λ m. m.ticks) is, ap (λ m. filter is_timed m.history) is, ap (λ m. filter is_tick m.history) is)
 
 given_idles : {W : Type 0} (event : PlainEvent) (result : Result Did Refused) (config : Config) (a b : DriverView W) → is_timed event
     ≡ false
     → is_tick event ≡ false → Given event result config a b → Idles a b
-given_idles event (Err refused) config a b e k (log, was, answers, is) = idles_same a b is
+given_idles event (Err refused) config a b e k (log, was, answers, is) = idles_refl a b is
 given_idles event (Ok what) config a b e k (log, was, answers, is) = (
   ap (λ m. m.ahead) is,
   ap (λ m. m.ticks) is,
@@ -58,48 +58,50 @@ given_idles event (Ok what) config a b e k (log, was, answers, is) = (
   ap (λ m. filter is_tick m.history) is ∙ rw k refl,
 )
 
-happens_idles : {W : Type 0} (event : PlainEvent) (config : Config) (a b : DriverView W) → is_timed event ≡ false → is_tick event ≡ false
+applied_idles : {W : Type 0} (event : PlainEvent) (config : Config) (a b : DriverView W) → is_timed event ≡ false → is_tick event ≡ false
     → IsApplied event config a b → Idles a b
-happens_idles event config a b e k given = given_idles event (Ok Done) config a b e k given
+applied_idles event config a b e k given = given_idles event (Ok Done) config a b e k given
 
 opens_idles : {W : Type 0} (role : Role) (number : Option ℕ) (answer : Answer ⊤) (config : Config) (a b : DriverView W)
     → Opens role number answer config a b → Idles a b
-opens_idles role (Some c) (Got all) config a b h = happens_idles (Open c role) config a b refl refl h
-opens_idles role (Some c) Pending config a b is = idles_same a b is
-opens_idles role (Some c) Failed config a b is = idles_same a b is
-opens_idles role None answer config a b is = idles_same a b is
+opens_idles role (Some c) (Got all) config a b h = applied_idles (Open c role) config a b refl refl h
+opens_idles role (Some c) Pending config a b is = idles_refl a b is
+opens_idles role (Some c) Failed config a b is = idles_refl a b is
+opens_idles role None answer config a b is = idles_refl a b is
 
 pub accepts_idles : {W : Type 0} (hears : W → Heard → W → Type 0) (role : Role) (config : Config) (a b : DriverView W)
     → Accepts hears role config a b → Idles a b
 accepts_idles hears role config a b (number, answer, low, (m, heard, opens)) =
-    idles_then a m b (hears_idles hears _ config a m heard) (opens_idles role number answer config m b opens)
+    idles_trans a m b (hears_idles hears _ config a m heard) (opens_idles role number answer config m b opens)
 
-hangs_idles : {W : Type 0} (hears : W → Heard → W → Type 0) (c : ℕ) (found : Option Dial) (config : Config) (a b : DriverView W)
+closes_channel_on_idles : {W : Type 0} (hears : W → Heard → W → Type 0) (c : ℕ) (found : Option Dial) (config : Config) (a b : DriverView W)
     → ClosesChannelOn hears c found config a b → Idles a b
-hangs_idles hears c None config a b is = idles_same a b is
-hangs_idles hears c (Some dial) config a b (m, heard, notes) =
-    idles_then a m b (hears_idles hears (WasClosed (Intr c)) config a m heard) (notes_idles c None config m b notes)
+closes_channel_on_idles hears c None config a b is = idles_refl a b is
+closes_channel_on_idles hears c (Some dial) config a b (m, heard, notes) =
+    idles_trans a m b (hears_idles hears (WasClosed (Intr c)) config a m heard) (remembers_idles c None config m b notes)
 
 closes_idles : {W : Type 0} (hears : W → Heard → W → Type 0) (c : ℕ) (config : Config) (a b : DriverView W) → Closes hears c config a b
     → Idles a b
-closes_idles hears c config a b (m, heard, (n, hangs, applies)) = idles_then a m b (hears_idles hears (WasClosed (Conn c)) config a m heard)
-    (idles_then m n b (hangs_idles hears c (dialed_of c m) config m n hangs) (happens_idles (Close (Conn c)) config n b refl refl applies))
+closes_idles hears c config a b (m, heard, (n, hangs, applies)) = idles_trans a m b
+    (hears_idles hears (WasClosed (Conn c)) config a m heard)
+    (idles_trans m n b (closes_channel_on_idles hears c (dialed_of c m) config m n hangs)
+        (applied_idles (Close (Conn c)) config n b refl refl applies))
 
 comes_idles : {W : Type 0} (hears : W → Heard → W → Type 0) (c : ℕ) (answer : Answer (List ℕ)) (config : Config) (a b : DriverView W)
     → Comes hears c answer config a b → Idles a b
-comes_idles hears c (Got bytes) config a b h = happens_idles (Bytes c bytes) config a b refl refl h
-comes_idles hears c Pending config a b is = idles_same a b is
+comes_idles hears c (Got bytes) config a b h = applied_idles (Bytes c bytes) config a b refl refl h
+comes_idles hears c Pending config a b is = idles_refl a b is
 comes_idles hears c Failed config a b h = closes_idles hears c config a b h
 
 probes_idles : {W : Type 0} (hears : W → Heard → W → Type 0) (c : ℕ) (opened : Bool) (config : Config) (a b : DriverView W)
     → ProbesIf hears c opened config a b → Idles a b
-probes_idles hears c false config a b is = idles_same a b is
+probes_idles hears c false config a b is = idles_refl a b is
 probes_idles hears c true config a b (drops, answer, overlong, (m, heard, gone)) =
-    idles_then a m b (hears_idles hears _ config a m heard) (by answer gone)
+    idles_trans a m b (hears_idles hears _ config a m heard) (by answer gone)
   where
     by : (answer : Answer ⊤) → Drops hears c answer config m b → Idles m b
-    by (Got all) is = idles_same m b is
-    by Pending is = idles_same m b is
+    by (Got all) is = idles_refl m b is
+    by Pending is = idles_refl m b is
     by Failed h = closes_idles hears c config m b h
 
 pub reads_idles : {W : Type 0} (hears : W → Heard → W → Type 0) (c : ℕ) (config : Config) (a b : DriverView W)
@@ -107,85 +109,88 @@ pub reads_idles : {W : Type 0} (hears : W → Heard → W → Type 0) (c : ℕ) 
     → Idles a b
 reads_idles hears c config a b (most, room, inl (none, (opened, is_open, probes))) = probes_idles hears c opened config a b probes
 reads_idles hears c config a b (most, room, inr (some, answer, few, (m, heard, comes))) =
-    idles_then a m b (hears_idles hears _ config a m heard) (comes_idles hears c answer config m b comes)
+    idles_trans a m b (hears_idles hears _ config a m heard) (comes_idles hears c answer config m b comes)
 
 refuses_idles : {W : Type 0} (c : ℕ) (so : Bool) (config : Config) (a b : DriverView W) → RefusesIf c so config a b → Idles a b
-refuses_idles c true config a b h = happens_idles (Refuse c) config a b refl refl h
-refuses_idles c false config a b is = idles_same a b is
+refuses_idles c true config a b h = applied_idles (Refuse c) config a b refl refl h
+refuses_idles c false config a b is = idles_refl a b is
 
 ends_turn_idles : {W : Type 0} (c : ℕ) (result : Result Did Refused) (config : Config) (a b : DriverView W) → EndsTurn c result config a b
     → Idles a b
-ends_turn_idles c (Ok did) config a b is = idles_same a b is
+ends_turn_idles c (Ok did) config a b is = idles_refl a b is
 ends_turn_idles c (Err refused) config a b h = refuses_idles c (is_no_memory refused) config a b h
 
 turns_if_idles : {W : Type 0} (c : ℕ) (ready : Bool) (config : Config) (a b : DriverView W) → TurnsIf c ready config a b → Idles a b
-turns_if_idles c false config a b is = idles_same a b is
+turns_if_idles c false config a b is = idles_refl a b is
 turns_if_idles c true config a b (result, (m, given, ends)) =
-    idles_then a m b (given_idles (Turn c) result config a m refl refl given) (ends_turn_idles c result config m b ends)
+    idles_trans a m b (given_idles (Turn c) result config a m refl refl given) (ends_turn_idles c result config m b ends)
 
 pub turns_idles : {W : Type 0} (c : ℕ) (config : Config) (a b : DriverView W) → Turns c config a b → Idles a b
 turns_idles c config a b (ready, is, h) = turns_if_idles c ready config a b h
 
-keeps_call_idles : {W : Type 0} (hears : W → Heard → W → Type 0) (c : ℕ) (so : Bool) (config : Config) (a b : DriverView W)
+keeps_dial_idles : {W : Type 0} (hears : W → Heard → W → Type 0) (c : ℕ) (so : Bool) (config : Config) (a b : DriverView W)
     → KeepsDial hears c so config a b → Idles a b
-keeps_call_idles hears c true config a b is = idles_same a b is
-keeps_call_idles hears c false config a b h = hangs_idles hears c (dialed_of c a) config a b h
+keeps_dial_idles hears c true config a b is = idles_refl a b is
+keeps_dial_idles hears c false config a b h = closes_channel_on_idles hears c (dialed_of c a) config a b h
 
-lets_go_idles : {W : Type 0} (hears : W → Heard → W → Type 0) (c : ℕ) (dialed : Option Dial) (config : Config) (a b : DriverView W)
+cancels_unwanted_idles : {W : Type 0} (hears : W → Heard → W → Type 0) (c : ℕ) (dialed : Option Dial) (config : Config) (a b : DriverView W)
     → CancelsUnwanted hears c dialed config a b → Idles a b
-lets_go_idles hears c None config a b is = idles_same a b is
-lets_go_idles hears c (Some dialed) config a b (channel, wanted, opened, wants, h) = keeps_call_idles hears c _ config a b h
+cancels_unwanted_idles hears c None config a b is = idles_refl a b is
+cancels_unwanted_idles hears c (Some dialed) config a b (channel, wanted, opened, wants, h) = keeps_dial_idles hears c _ config a b h
 
-rings_idles : {W : Type 0} (c : ℕ) (dial : Dial) (answer : Answer ⊤) (config : Config) (a b : DriverView W)
+connect_result_idles : {W : Type 0} (c : ℕ) (dial : Dial) (answer : Answer ⊤) (config : Config) (a b : DriverView W)
     → ConnectResult c dial answer config a b → Idles a b
-rings_idles c dial (Got all) config a b (m, notes, applies) =
-    idles_then a m b (notes_idles c (Some dial) config a m notes) (happens_idles (Dialed c true) config m b refl refl applies)
-rings_idles c dial Pending config a b notes = notes_idles c (Some dial) config a b notes
-rings_idles c dial Failed config a b applies = happens_idles (Dialed c false) config a b refl refl applies
+connect_result_idles c dial (Got all) config a b (m, notes, applies) =
+    idles_trans a m b (remembers_idles c (Some dial) config a m notes) (applied_idles (Dialed c true) config m b refl refl applies)
+connect_result_idles c dial Pending config a b notes = remembers_idles c (Some dial) config a b notes
+connect_result_idles c dial Failed config a b applies = applied_idles (Dialed c false) config a b refl refl applies
 
-picks_idles : {W : Type 0} (hears : W → Heard → W → Type 0) (c : ℕ) (answer : Answer ⊤) (config : Config) (a b : DriverView W)
+poll_result_idles : {W : Type 0} (hears : W → Heard → W → Type 0) (c : ℕ) (answer : Answer ⊤) (config : Config) (a b : DriverView W)
     → PollResult hears c answer config a b → Idles a b
-picks_idles hears c (Got all) config a b applies = happens_idles (Dialed c true) config a b refl refl applies
-picks_idles hears c Pending config a b is = idles_same a b is
-picks_idles hears c Failed config a b (m, hangs, applies) =
-    idles_then a m b (hangs_idles hears c (dialed_of c a) config a m hangs) (happens_idles (Dialed c false) config m b refl refl applies)
+poll_result_idles hears c (Got all) config a b applies = applied_idles (Dialed c true) config a b refl refl applies
+poll_result_idles hears c Pending config a b is = idles_refl a b is
+poll_result_idles hears c Failed config a b (m, hangs, applies) =
+    idles_trans a m b (closes_channel_on_idles hears c (dialed_of c a) config a m hangs)
+        (applied_idles (Dialed c false) config m b refl refl applies)
 
-calls_idles : {W : Type 0} (hears : W → Heard → W → Type 0) (c : ℕ) (wanted dialed : Option Dial) (config : Config) (a b : DriverView W)
+dials_for_idles : {W : Type 0} (hears : W → Heard → W → Type 0) (c : ℕ) (wanted dialed : Option Dial) (config : Config) (a b : DriverView W)
     → DialsFor hears c wanted dialed config a b → Idles a b
-calls_idles hears c None dialed config a b is = idles_same a b is
-calls_idles hears c (Some dial) None config a b (answer, (m, heard, h)) =
-    idles_then a m b (hears_idles hears _ config a m heard) (rings_idles c dial answer config m b h)
-calls_idles hears c (Some dial) (Some dialed) config a b (answer, (m, heard, h)) =
-    idles_then a m b (hears_idles hears _ config a m heard) (picks_idles hears c answer config m b h)
+dials_for_idles hears c None dialed config a b is = idles_refl a b is
+dials_for_idles hears c (Some dial) None config a b (answer, (m, heard, h)) =
+    idles_trans a m b (hears_idles hears _ config a m heard) (connect_result_idles c dial answer config m b h)
+dials_for_idles hears c (Some dial) (Some dialed) config a b (answer, (m, heard, h)) =
+    idles_trans a m b (hears_idles hears _ config a m heard) (poll_result_idles hears c answer config m b h)
 
 pub dials_idles : {W : Type 0} (hears : W → Heard → W → Type 0) (c : ℕ) (config : Config) (a b : DriverView W) → Dials hears c config a b
     → Idles a b
-dials_idles hears c config a b (m, goes, (wanted, wants, h)) = idles_then a m b (lets_go_idles hears c (dialed_of c a) config a m goes)
-    (calls_idles hears c wanted (dialed_of c m) config m b h)
+dials_idles hears c config a b (m, goes, (wanted, wants, h)) = idles_trans a m b
+    (cancels_unwanted_idles hears c (dialed_of c a) config a m goes)
+    (dials_for_idles hears c wanted (dialed_of c m) config m b h)
 
 ends_write_idles : {W : Type 0} (hears : W → Heard → W → Type 0) (port : Port) (answer : Answer ℕ) (config : Config) (a b : DriverView W)
     → EndsWrite hears port answer config a b → Idles a b
-ends_write_idles hears port (Got n) config a b h = happens_idles (Took port n) config a b refl refl h
-ends_write_idles hears port Pending config a b is = idles_same a b is
+ends_write_idles hears port (Got n) config a b h = applied_idles (Took port n) config a b refl refl h
+ends_write_idles hears port Pending config a b is = idles_refl a b is
 ends_write_idles hears (Conn c) Failed config a b h = closes_idles hears c config a b h
 ends_write_idles hears (Intr c) Failed config a b (m, hangs, applies) =
-    idles_then a m b (hangs_idles hears c (dialed_of c a) config a m hangs) (happens_idles (Close (Intr c)) config m b refl refl applies)
+    idles_trans a m b (closes_channel_on_idles hears c (dialed_of c a) config a m hangs)
+        (applied_idles (Close (Intr c)) config m b refl refl applies)
 
 pub writes_idles : {W : Type 0} (hears : W → Heard → W → Type 0) (port : Port) (config : Config) (a b : DriverView W)
     → WritesTo hears port config a b
     → Idles a b
-writes_idles hears port config a b (bytes, waits, inl (none, is)) = idles_same a b is
+writes_idles hears port config a b (bytes, waits, inl (none, is)) = idles_refl a b is
 writes_idles hears port config a b (bytes, waits, inr (some, answer, few, (m, heard, ends))) =
-    idles_then a m b (hears_idles hears _ config a m heard) (ends_write_idles hears port answer config m b ends)
+    idles_trans a m b (hears_idles hears _ config a m heard) (ends_write_idles hears port answer config m b ends)
 
 closes_if_idles : {W : Type 0} (hears : W → Heard → W → Type 0) (c : ℕ) (so : Bool) (config : Config) (a b : DriverView W)
     → ClosesIf hears c so config a b → Idles a b
 closes_if_idles hears c true config a b h = closes_idles hears c config a b h
-closes_if_idles hears c false config a b is = idles_same a b is
+closes_if_idles hears c false config a b is = idles_refl a b is
 
 ends_if_idles : {W : Type 0} (hears : W → Heard → W → Type 0) (c : ℕ) (so : Bool) (config : Config) (a b : DriverView W)
     → EndsIf hears c so config a b → Idles a b
-ends_if_idles hears c false config a b is = idles_same a b is
+ends_if_idles hears c false config a b is = idles_refl a b is
 ends_if_idles hears c true config a b (bytes, waits, h) = closes_if_idles hears c (length bytes == 0) config a b h
 
 pub ends_idles : {W : Type 0} (hears : W → Heard → W → Type 0) (c : ℕ) (config : Config) (a b : DriverView W) → Ends hears c config a b

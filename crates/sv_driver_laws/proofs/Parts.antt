@@ -34,42 +34,43 @@ all_join P (x ∷ a) b h k = (h.0, all_join P a b h.1 k)
 abbrev pub Grows : {W : Type 0} → (PlainEvent → Type 0) → DriverView W → DriverView W → Type 0
 Grows P a b = (events : List PlainEvent) × (b.history ≡ events ++ a.history) × AllByRecursion P events
 
-pub grows_as : {W : Type 0} (P : PlainEvent → Type 0) (a b : DriverView W) → b.history ≡ a.history → Grows P a b
-grows_as P a b is = ([], is, tt)
+pub grows_same_history : {W : Type 0} (P : PlainEvent → Type 0) (a b : DriverView W) → b.history ≡ a.history → Grows P a b
+grows_same_history P a b is = ([], is, tt)
 
-pub grows_same : {W : Type 0} (P : PlainEvent → Type 0) (a b : DriverView W) → b ≡ a → Grows P a b
-grows_same P a b is = ([], ap (λ m. m.history) is, tt)
+pub grows_refl : {W : Type 0} (P : PlainEvent → Type 0) (a b : DriverView W) → b ≡ a → Grows P a b
+grows_refl P a b is = ([], ap (λ m. m.history) is, tt)
 
-pub grows_then : {W : Type 0} (P : PlainEvent → Type 0) (a b c : DriverView W) → Grows P a b → Grows P b c → Grows P a c
-grows_then P a b c (xs, x, h) (ys, y, k) =
+pub grows_trans : {W : Type 0} (P : PlainEvent → Type 0) (a b c : DriverView W) → Grows P a b → Grows P b c → Grows P a c
+grows_trans P a b c (xs, x, h) (ys, y, k) =
     (ys ++ xs, y ∙ ap (λ (l : List PlainEvent). ys ++ l) x ∙ sym (append_assoc ys xs a.history), all_join P ys xs k h)
 
 pub grows_each : {W : Type 0} (P : PlainEvent → Type 0) (config : Config) (step : ℕ → Config → DriverView W → DriverView W → Type 0) (n : ℕ)
     → ((c : ℕ) (a b : DriverView W) → step c config a b → Grows P a b) → (a b : DriverView W) → ForEach n step config a b → Grows P a b
-grows_each P config step zero each a b is = grows_same P a b is
+grows_each P config step zero each a b is = grows_refl P a b is
 grows_each P config step (suc n) each a b (m, front, last) =
-    grows_then P a m b (grows_each P config step n each a m front) (each n m b last)
+    grows_trans P a m b (grows_each P config step n each a m front) (each n m b last)
 
-pub grows_map : {W : Type 0} (P Q : PlainEvent → Type 0) (a b : DriverView W) → ((event : PlainEvent) → P event → Q event) → Grows P a b
+pub grows_weaker : {W : Type 0} (P Q : PlainEvent → Type 0) (a b : DriverView W) → ((event : PlainEvent) → P event → Q event) → Grows P a b
     → Grows Q a b
-grows_map P Q a b so (events, grown, all) = (events, grown, each events all)
+grows_weaker P Q a b so (events, grown, all) = (events, grown, each events all)
   where
     each : (events : List PlainEvent) → AllByRecursion P events → AllByRecursion Q events
     each [] h = tt
     each (event ∷ events) h = (so event h.0, each events h.1)
 
 -- If the added events are these, each of them satisfies `P`.
-pub grows_by : {W : Type 0} (P : PlainEvent → Type 0) (a b : DriverView W) (events : List PlainEvent) → b.history ≡ events ++ a.history
+pub grown_events_satisfy : {W : Type 0} (P : PlainEvent → Type 0) (a b : DriverView W) (events : List PlainEvent)
+    → b.history ≡ events ++ a.history
     → Grows P a b → AllByRecursion P events
-grows_by P a b events grown (xs, x, h) = subst (AllByRecursion P) (append_cancel_right xs events a.history (sym x ∙ grown)) h
+grown_events_satisfy P a b events grown (xs, x, h) = subst (AllByRecursion P) (append_cancel_right xs events a.history (sym x ∙ grown)) h
 
 hears_grows : {W : Type 0} (P : PlainEvent → Type 0) (hears : W → Heard → W → Type 0) (heard : Heard) (config : Config) (a b : DriverView W)
     → Hears hears heard config a b → Grows P a b
-hears_grows P hears heard config a b (wire, was, is) = grows_as P a b (ap (λ m. m.history) is)
+hears_grows P hears heard config a b (wire, was, is) = grows_same_history P a b (ap (λ m. m.history) is)
 
 given_grows : {W : Type 0} (P : PlainEvent → Type 0) (event : PlainEvent) (result : Result Did Refused) (config : Config)
     (a b : DriverView W) → P event → Given event result config a b → Grows P a b
-given_grows P event (Err refused) config a b so (log, was, answers, is) = grows_as P a b (ap (λ m. m.history) is)
+given_grows P event (Err refused) config a b so (log, was, answers, is) = grows_same_history P a b (ap (λ m. m.history) is)
 given_grows P event (Ok what) config a b so (log, was, answers, is) = (event ∷ [], ap (λ m. m.history) is, (so, tt))
 
 happens_grows : {W : Type 0} (P : PlainEvent → Type 0) (event : PlainEvent) (config : Config) (a b : DriverView W) → P event
@@ -79,154 +80,160 @@ happens_grows P event config a b so given = given_grows P event (Ok Done) config
 pub opens_grows : {W : Type 0} (P : PlainEvent → Type 0) (role : Role) (number : Option ℕ) (answer : Answer ⊤) (config : Config)
     (a b : DriverView W) → ((c : ℕ) → P (Open c role)) → Opens role number answer config a b → Grows P a b
 opens_grows P role (Some c) (Got all) config a b so h = happens_grows P (Open c role) config a b (so c) h
-opens_grows P role (Some c) Pending config a b so is = grows_same P a b is
-opens_grows P role (Some c) Failed config a b so is = grows_same P a b is
-opens_grows P role None answer config a b so is = grows_same P a b is
+opens_grows P role (Some c) Pending config a b so is = grows_refl P a b is
+opens_grows P role (Some c) Failed config a b so is = grows_refl P a b is
+opens_grows P role None answer config a b so is = grows_refl P a b is
 
 pub accepts_grows : {W : Type 0} (P : PlainEvent → Type 0) (hears : W → Heard → W → Type 0) (role : Role) (config : Config)
     (a b : DriverView W) → ((c : ℕ) → P (Open c role)) → Accepts hears role config a b → Grows P a b
 accepts_grows P hears role config a b so (number, answer, low, (m, heard, opens)) =
-    grows_then P a m b (hears_grows P hears _ config a m heard) (opens_grows P role number answer config m b so opens)
+    grows_trans P a m b (hears_grows P hears _ config a m heard) (opens_grows P role number answer config m b so opens)
 
-hangs_grows : {W : Type 0} (P : PlainEvent → Type 0) (hears : W → Heard → W → Type 0) (c : ℕ) (found : Option Dial) (config : Config)
+closes_channel_on_grows : {W : Type 0} (P : PlainEvent → Type 0) (hears : W → Heard → W → Type 0) (c : ℕ) (found : Option Dial)
+    (config : Config)
     (a b : DriverView W) → ClosesChannelOn hears c found config a b → Grows P a b
-hangs_grows P hears c None config a b is = grows_same P a b is
-hangs_grows P hears c (Some dial) config a b (m, heard, notes) =
-    grows_then P a m b (hears_grows P hears (WasClosed (Intr c)) config a m heard) (grows_as P m b (ap (λ m. m.history) notes))
+closes_channel_on_grows P hears c None config a b is = grows_refl P a b is
+closes_channel_on_grows P hears c (Some dial) config a b (m, heard, notes) =
+    grows_trans P a m b (hears_grows P hears (WasClosed (Intr c)) config a m heard) (grows_same_history P m b (ap (λ m. m.history) notes))
 
 closes_grows : {W : Type 0} (P : PlainEvent → Type 0) (hears : W → Heard → W → Type 0) (c : ℕ) (config : Config) (a b : DriverView W)
     → P (Close (Conn c)) → Closes hears c config a b → Grows P a b
 closes_grows P hears c config a b so (m, heard, (n, hangs, applies)) =
-    grows_then P a m b (hears_grows P hears (WasClosed (Conn c)) config a m heard)
-    (grows_then P m n b (hangs_grows P hears c (dialed_of c m) config m n hangs) (happens_grows P (Close (Conn c)) config n b so applies))
+    grows_trans P a m b (hears_grows P hears (WasClosed (Conn c)) config a m heard)
+    (grows_trans P m n b (closes_channel_on_grows P hears c (dialed_of c m) config m n hangs)
+        (happens_grows P (Close (Conn c)) config n b so applies))
 
 pub comes_grows : {W : Type 0} (P : PlainEvent → Type 0) (hears : W → Heard → W
     → Type 0) (c : ℕ) (answer : Answer (List ℕ)) (config : Config)
     (a b : DriverView W) → ((bytes : List ℕ) → P (Bytes c bytes)) → P (Close (Conn c)) → Comes hears c answer config a b → Grows P a b
 comes_grows P hears c (Got bytes) config a b so close h = happens_grows P (Bytes c bytes) config a b (so bytes) h
-comes_grows P hears c Pending config a b so close is = grows_same P a b is
+comes_grows P hears c Pending config a b so close is = grows_refl P a b is
 comes_grows P hears c Failed config a b so close h = closes_grows P hears c config a b close h
 
 pub drops_grows : {W : Type 0} (P : PlainEvent → Type 0) (hears : W → Heard → W → Type 0) (c : ℕ) (answer : Answer ⊤) (config : Config)
     (a b : DriverView W) → P (Close (Conn c)) → Drops hears c answer config a b → Grows P a b
-drops_grows P hears c (Got all) config a b close is = grows_same P a b is
-drops_grows P hears c Pending config a b close is = grows_same P a b is
+drops_grows P hears c (Got all) config a b close is = grows_refl P a b is
+drops_grows P hears c Pending config a b close is = grows_refl P a b is
 drops_grows P hears c Failed config a b close h = closes_grows P hears c config a b close h
 
 probes_grows : {W : Type 0} (P : PlainEvent → Type 0) (hears : W → Heard → W → Type 0) (c : ℕ) (opened : Bool) (config : Config)
     (a b : DriverView W) → P (Close (Conn c)) → ProbesIf hears c opened config a b → Grows P a b
-probes_grows P hears c false config a b close is = grows_same P a b is
+probes_grows P hears c false config a b close is = grows_refl P a b is
 probes_grows P hears c true config a b close (drops, answer, overlong, (m, heard, gone)) =
-    grows_then P a m b (hears_grows P hears _ config a m heard) (drops_grows P hears c answer config m b close gone)
+    grows_trans P a m b (hears_grows P hears _ config a m heard) (drops_grows P hears c answer config m b close gone)
 
 pub reads_grows : {W : Type 0} (P : PlainEvent → Type 0) (hears : W → Heard → W → Type 0) (c : ℕ) (config : Config) (a b : DriverView W)
     → ((bytes : List ℕ) → P (Bytes c bytes)) → P (Close (Conn c)) → ReadsFrom hears c config a b → Grows P a b
 reads_grows P hears c config a b so close (most, room, inl (none, (opened, is_open, probes))) =
     probes_grows P hears c opened config a b close probes
 reads_grows P hears c config a b so close (most, room, inr (some, answer, few, (m, heard, comes))) =
-    grows_then P a m b (hears_grows P hears _ config a m heard) (comes_grows P hears c answer config m b so close comes)
+    grows_trans P a m b (hears_grows P hears _ config a m heard) (comes_grows P hears c answer config m b so close comes)
 
-keeps_call_grows : {W : Type 0} (P : PlainEvent → Type 0) (hears : W → Heard → W → Type 0) (c : ℕ) (so : Bool) (config : Config)
+keeps_dial_grows : {W : Type 0} (P : PlainEvent → Type 0) (hears : W → Heard → W → Type 0) (c : ℕ) (so : Bool) (config : Config)
     (a b : DriverView W) → KeepsDial hears c so config a b → Grows P a b
-keeps_call_grows P hears c true config a b is = grows_same P a b is
-keeps_call_grows P hears c false config a b h = hangs_grows P hears c (dialed_of c a) config a b h
+keeps_dial_grows P hears c true config a b is = grows_refl P a b is
+keeps_dial_grows P hears c false config a b h = closes_channel_on_grows P hears c (dialed_of c a) config a b h
 
-pub lets_go_grows : {W : Type 0} (P : PlainEvent → Type 0) (hears : W → Heard → W → Type 0) (c : ℕ) (dialed : Option Dial) (config : Config)
+pub cancels_unwanted_grows : {W : Type 0} (P : PlainEvent → Type 0) (hears : W → Heard → W → Type 0) (c : ℕ) (dialed : Option Dial)
+    (config : Config)
     (a b : DriverView W) → CancelsUnwanted hears c dialed config a b → Grows P a b
-lets_go_grows P hears c None config a b is = grows_same P a b is
-lets_go_grows P hears c (Some dialed) config a b (channel, wanted, opened, wants, h) = keeps_call_grows P hears c _ config a b h
+cancels_unwanted_grows P hears c None config a b is = grows_refl P a b is
+cancels_unwanted_grows P hears c (Some dialed) config a b (channel, wanted, opened, wants, h) = keeps_dial_grows P hears c _ config a b h
 
-pub rings_grows : {W : Type 0} (P : PlainEvent → Type 0) (c : ℕ) (dial : Dial) (answer : Answer ⊤) (config : Config) (a b : DriverView W)
+pub connect_result_grows : {W : Type 0} (P : PlainEvent → Type 0) (c : ℕ) (dial : Dial) (answer : Answer ⊤) (config : Config)
+    (a b : DriverView W)
     → ((ok : Bool) → P (Dialed c ok)) → ConnectResult c dial answer config a b → Grows P a b
-rings_grows P c dial (Got all) config a b so (m, notes, applies) = grows_then P a m b
-    (grows_as P a m (ap (λ m. m.history) notes)) (happens_grows P (Dialed c true) config m b (so true) applies)
-rings_grows P c dial Pending config a b so notes = grows_as P a b (ap (λ m. m.history) notes)
-rings_grows P c dial Failed config a b so applies = happens_grows P (Dialed c false) config a b (so false) applies
+connect_result_grows P c dial (Got all) config a b so (m, notes, applies) = grows_trans P a m b
+    (grows_same_history P a m (ap (λ m. m.history) notes)) (happens_grows P (Dialed c true) config m b (so true) applies)
+connect_result_grows P c dial Pending config a b so notes = grows_same_history P a b (ap (λ m. m.history) notes)
+connect_result_grows P c dial Failed config a b so applies = happens_grows P (Dialed c false) config a b (so false) applies
 
-pub picks_grows : {W : Type 0} (P : PlainEvent → Type 0) (hears : W → Heard → W → Type 0) (c : ℕ) (answer : Answer ⊤) (config : Config)
+pub poll_result_grows : {W : Type 0} (P : PlainEvent → Type 0) (hears : W → Heard → W → Type 0) (c : ℕ) (answer : Answer ⊤)
+    (config : Config)
     (a b : DriverView W) → ((ok : Bool) → P (Dialed c ok)) → PollResult hears c answer config a b → Grows P a b
-picks_grows P hears c (Got all) config a b so applies = happens_grows P (Dialed c true) config a b (so true) applies
-picks_grows P hears c Pending config a b so is = grows_same P a b is
-picks_grows P hears c Failed config a b so (m, hangs, applies) = grows_then P a m b
-    (hangs_grows P hears c (dialed_of c a) config a m hangs) (happens_grows P (Dialed c false) config m b (so false) applies)
+poll_result_grows P hears c (Got all) config a b so applies = happens_grows P (Dialed c true) config a b (so true) applies
+poll_result_grows P hears c Pending config a b so is = grows_refl P a b is
+poll_result_grows P hears c Failed config a b so (m, hangs, applies) = grows_trans P a m b
+    (closes_channel_on_grows P hears c (dialed_of c a) config a m hangs) (happens_grows P (Dialed c false) config m b (so false) applies)
 
-pub calls_grows : {W : Type 0} (P : PlainEvent → Type 0) (hears : W → Heard → W → Type 0) (c : ℕ) (wanted dialed : Option Dial)
+pub dials_for_grows : {W : Type 0} (P : PlainEvent → Type 0) (hears : W → Heard → W → Type 0) (c : ℕ) (wanted dialed : Option Dial)
     (config : Config) (a b : DriverView W) → ((ok : Bool) → P (Dialed c ok)) → DialsFor hears c wanted dialed config a b → Grows P a b
-calls_grows P hears c None dialed config a b so is = grows_same P a b is
-calls_grows P hears c (Some dial) None config a b so (answer, (m, heard, h)) =
-    grows_then P a m b (hears_grows P hears _ config a m heard) (rings_grows P c dial answer config m b so h)
-calls_grows P hears c (Some dial) (Some dialed) config a b so (answer, (m, heard, h)) =
-    grows_then P a m b (hears_grows P hears _ config a m heard) (picks_grows P hears c answer config m b so h)
+dials_for_grows P hears c None dialed config a b so is = grows_refl P a b is
+dials_for_grows P hears c (Some dial) None config a b so (answer, (m, heard, h)) =
+    grows_trans P a m b (hears_grows P hears _ config a m heard) (connect_result_grows P c dial answer config m b so h)
+dials_for_grows P hears c (Some dial) (Some dialed) config a b so (answer, (m, heard, h)) =
+    grows_trans P a m b (hears_grows P hears _ config a m heard) (poll_result_grows P hears c answer config m b so h)
 
 pub dials_grows : {W : Type 0} (P : PlainEvent → Type 0) (hears : W → Heard → W → Type 0) (c : ℕ) (config : Config) (a b : DriverView W)
     → ((ok : Bool) → P (Dialed c ok)) → Dials hears c config a b → Grows P a b
 dials_grows P hears c config a b so (m, goes, (wanted, wants, h)) =
-    grows_then P a m b (lets_go_grows P hears c (dialed_of c a) config a m goes)
-    (calls_grows P hears c wanted (dialed_of c m) config m b so h)
+    grows_trans P a m b (cancels_unwanted_grows P hears c (dialed_of c a) config a m goes)
+    (dials_for_grows P hears c wanted (dialed_of c m) config m b so h)
 
 -- ---- time passes
 
 -- Each timed event satisfies `P`.
-abbrev pub OfTime : (PlainEvent → Type 0) → Type 0
-OfTime P = ((channel : ℕ) (microvolts : ℤ) → P (Input channel microvolts)) × P External × P Tick
+abbrev pub OnTimedEvents : (PlainEvent → Type 0) → Type 0
+OnTimedEvents P = ((channel : ℕ) (microvolts : ℤ) → P (Input channel microvolts)) × P External × P Tick
 
-plays_grows : {W : Type 0} (P : PlainEvent → Type 0) (config : Config) (a b : DriverView W) → OfTime P → PlaysOne config a b → Grows P a b
+plays_grows : {W : Type 0} (P : PlainEvent → Type 0) (config : Config) (a b : DriverView W) → OnTimedEvents P → PlaysOne config a b
+    → Grows P a b
 plays_grows P config a b so (entry, others, m, first, due, (result, given), is) =
-    grows_then P a m b (given_grows P (stimulus_event entry.stimulus) result config a m (such entry.stimulus) given)
-    (grows_as P m b (ap (λ m. m.history) is))
+    grows_trans P a m b (given_grows P (stimulus_event entry.stimulus) result config a m (such entry.stimulus) given)
+    (grows_same_history P m b (ap (λ m. m.history) is))
   where
     such : (stimulus : Stimulus) → P (stimulus_event stimulus)
     such (stimuli.Input channel microvolts) = so.0 channel microvolts
     such stimuli.External = so.1
 
-all_plays : {W : Type 0} (P : PlainEvent → Type 0) (config : Config) (a b : DriverView W) → OfTime P → Plays config a b → Grows P a b
+all_plays : {W : Type 0} (P : PlainEvent → Type 0) (config : Config) (a b : DriverView W) → OnTimedEvents P → Plays config a b → Grows P a b
 all_plays P config a b so (n, each, none) =
     grows_each P config (λ i. PlaysOne) n (λ c a b. plays_grows P config a b so) a b each
 
 counts_grows : {W : Type 0} (P : PlainEvent → Type 0) (config : Config) (result : Result Did Refused) (a b : DriverView W)
     → Counts result config a b → Grows P a b
-counts_grows P config (Ok did) a b is = grows_as P a b (ap (λ m. m.history) is)
-counts_grows P config (Err refused) a b is = grows_same P a b is
+counts_grows P config (Ok did) a b is = grows_same_history P a b (ap (λ m. m.history) is)
+counts_grows P config (Err refused) a b is = grows_refl P a b is
 
-tick_grows : {W : Type 0} (P : PlainEvent → Type 0) (config : Config) (a b : DriverView W) → OfTime P
+tick_grows : {W : Type 0} (P : PlainEvent → Type 0) (config : Config) (a b : DriverView W) → OnTimedEvents P
     → (Plays then TicksOnce) config a b → Grows P a b
-tick_grows P config a b so (m, plays, (result, (n, given, counts))) = grows_then P a m b (all_plays P config a m so plays)
-    (grows_then P m n b (given_grows P Tick result config m n so.2 given) (counts_grows P config result n b counts))
+tick_grows P config a b so (m, plays, (result, (n, given, counts))) = grows_trans P a m b (all_plays P config a m so plays)
+    (grows_trans P m n b (given_grows P Tick result config m n so.2 given) (counts_grows P config result n b counts))
 
-pub passes_grows : {W : Type 0} (P : PlainEvent → Type 0) (ticks : ℕ) (config : Config) (a b : DriverView W) → OfTime P
+pub passes_grows : {W : Type 0} (P : PlainEvent → Type 0) (ticks : ℕ) (config : Config) (a b : DriverView W) → OnTimedEvents P
     → Passes ticks config a b → Grows P a b
-passes_grows P ticks config a b so (m, each, last) = grows_then P a m b
+passes_grows P ticks config a b so (m, each, last) = grows_trans P a m b
     (grows_each P config (λ i. Plays then TicksOnce) ticks (λ c a b. tick_grows P config a b so) a m each) (all_plays P config m b so last)
 
 -- ---- writes
 
 -- Each Took and each Close of the port satisfies `P`.
-abbrev pub OfPort : (PlainEvent → Type 0) → Port → Type 0
-OfPort P port = ((n : ℕ) → P (Took port n)) × P (Close port)
+abbrev pub OnPortEvents : (PlainEvent → Type 0) → Port → Type 0
+OnPortEvents P port = ((n : ℕ) → P (Took port n)) × P (Close port)
 
 pub ends_write_grows : {W : Type 0} (P : PlainEvent → Type 0) (hears : W → Heard → W → Type 0) (port : Port) (answer : Answer ℕ)
-    (config : Config) (a b : DriverView W) → OfPort P port → EndsWrite hears port answer config a b → Grows P a b
+    (config : Config) (a b : DriverView W) → OnPortEvents P port → EndsWrite hears port answer config a b → Grows P a b
 ends_write_grows P hears port (Got n) config a b so h = happens_grows P (Took port n) config a b (so.0 n) h
-ends_write_grows P hears port Pending config a b so is = grows_same P a b is
+ends_write_grows P hears port Pending config a b so is = grows_refl P a b is
 ends_write_grows P hears (Conn c) Failed config a b so h = closes_grows P hears c config a b so.1 h
 ends_write_grows P hears (Intr c) Failed config a b so (m, hangs, applies) =
-    grows_then P a m b (hangs_grows P hears c (dialed_of c a) config a m hangs)
+    grows_trans P a m b (closes_channel_on_grows P hears c (dialed_of c a) config a m hangs)
     (happens_grows P (Close (Intr c)) config m b so.1 applies)
 
 pub writes_grows : {W : Type 0} (P : PlainEvent → Type 0) (hears : W → Heard → W → Type 0) (port : Port) (config : Config)
-    (a b : DriverView W) → OfPort P port → WritesTo hears port config a b → Grows P a b
-writes_grows P hears port config a b so (bytes, waits, inl (none, is)) = grows_same P a b is
+    (a b : DriverView W) → OnPortEvents P port → WritesTo hears port config a b → Grows P a b
+writes_grows P hears port config a b so (bytes, waits, inl (none, is)) = grows_refl P a b is
 writes_grows P hears port config a b so (bytes, waits, inr (some, answer, few, (m, heard, ends))) =
-    grows_then P a m b (hears_grows P hears _ config a m heard) (ends_write_grows P hears port answer config m b so ends)
+    grows_trans P a m b (hears_grows P hears _ config a m heard) (ends_write_grows P hears port answer config m b so ends)
 
 ends_if_grows : {W : Type 0} (P : PlainEvent → Type 0) (hears : W → Heard → W → Type 0) (c : ℕ) (so : Bool) (config : Config)
     (a b : DriverView W) → P (Close (Conn c)) → EndsIf hears c so config a b → Grows P a b
-ends_if_grows P hears c false config a b close is = grows_same P a b is
+ends_if_grows P hears c false config a b close is = grows_refl P a b is
 ends_if_grows P hears c true config a b close (bytes, waits, h) = by (length bytes == 0) h
   where
     by : (so : Bool) → ClosesIf hears c so config a b → Grows P a b
     by true h = closes_grows P hears c config a b close h
-    by false is = grows_same P a b is
+    by false is = grows_refl P a b is
 
 pub ends_grows : {W : Type 0} (P : PlainEvent → Type 0) (hears : W → Heard → W → Type 0) (c : ℕ) (config : Config) (a b : DriverView W)
     → P (Close (Conn c)) → Ends hears c config a b → Grows P a b
@@ -236,21 +243,21 @@ ends_grows P hears c config a b close (faulted, is, h) = ends_if_grows P hears c
 
 turn_grows : {W : Type 0} (P : PlainEvent → Type 0) (c : ℕ) (result : Result Did Refused) (config : Config) (a b : DriverView W)
     → P (Refuse c) → EndsTurn c result config a b → Grows P a b
-turn_grows P c (Ok did) config a b so is = grows_same P a b is
+turn_grows P c (Ok did) config a b so is = grows_refl P a b is
 turn_grows P c (Err refused) config a b so h = by (is_no_memory refused) h
   where
     by : (so : Bool) → RefusesIf c so config a b → Grows P a b
     by true h = happens_grows P (Refuse c) config a b so h
-    by false is = grows_same P a b is
+    by false is = grows_refl P a b is
 
 pub turns_grows : {W : Type 0} (P : PlainEvent → Type 0) (c : ℕ) (config : Config) (a b : DriverView W) → P (Turn c) → P (Refuse c)
     → Turns c config a b → Grows P a b
 turns_grows P c config a b turn refuse (ready, is, h) = by ready h
   where
     by : (ready : Bool) → TurnsIf c ready config a b → Grows P a b
-    by false is = grows_same P a b is
+    by false is = grows_refl P a b is
     by true (result, (m, given, ends)) =
-        grows_then P a m b (given_grows P (Turn c) result config a m turn given) (turn_grows P c result config m b refuse ends)
+        grows_trans P a m b (given_grows P (Turn c) result config a m turn given) (turn_grows P c result config m b refuse ends)
 
 -- At most one call is taken, and it is one of this connection.
 abbrev pub Takes : {W : Type 0} → ℕ → DriverView W → DriverView W → Type 0

@@ -14,12 +14,12 @@ use Rattle.sv_history.specs.Event.{PlainEvent, Dialed, Tick}
 use Rattle.sv_history.specs.Act.{Act, of, device_acts, wait_acts}
 use Rattle.sv_history.specs.Connection.{is_open, pending_call}
 use Rattle.sv_history.specs.Interrupts.{is_dialing, dial_by, dial_in, dial_of}
-use Rattle.sv_history.proofs.Dialing.{peer_by}
+use Rattle.sv_history.proofs.Dialing.{peer_named_by}
 use Rattle.sv_history.specs.CoreCall.{CoreCall}
 use Rattle.sv_history.specs.Request.{core_call_in}
 use Rattle.sv_vxi.specs.Arguments.{Arguments, CreateIntrChan}
 use Rattle.sv_history.specs.History.{is_port_shut, IsLogOf}
-use Rattle.sv_history.proofs.AlwaysTold.{some_told}
+use Rattle.sv_history.proofs.AlwaysTold.{channel_log_exists}
 use Rattle.sv_replay.specs.Entry.{stimulus_event}
 use Rattle.sv_replay.specs.declared.entry.Stimulus.{Stimulus}
 use Rattle.sv_replay.specs.declared.entry.Stimulus.TheVariants as stimuli
@@ -33,11 +33,11 @@ use Rattle.sv_serve.specs.Sweep.{PlaysOne, Plays, Counts, TicksOnce, Passes, Sti
 use Rattle.sv_driver_laws.specs.Served.{event_of, is_outer}
 use Rattle.sv_driver_laws.specs.Carried.{begins, read, taken_bytes}
 use Rattle.sv_driver_laws.specs.Carried.{ends_port}
-use Rattle.sv_driver_laws.proofs.LettingGo.{LetsGoRightly, IsNoHang, Adds, adds_nothing, none_hung, end_shut, cancel_unwanted, hung_same}
+use Rattle.sv_driver_laws.proofs.LettingGo.{ClosesChannelsRightly, ClosesNoChannel, MayCloseChannel, may_close_none, none_not_some, shut_is_reason, unwanted_is_shut, some_is_injective}
 use Rattle.sv_driver_laws.proofs.Handing.{HandsOver, IsNoWrite, NoneWritten, fits_none}
-use Rattle.sv_driver_laws.proofs.Reasons.{IsCalm, AreCalm, closing_silent}
-use Rattle.sv_driver_laws.proofs.Ports.{Both, AreSilent, holds_silent, step_opened, Keeping}
-use Rattle.sv_driver_laws.proofs.Keeps.{Subject, OfNone, about, AllMay, may_join, Keeps, through_join, keeps_none, keeps_then, keeps_each, quiet_keeps, quiet_one, only_heard, hangs_up, happened, event_keeps, inner_by, inner_applies}
+use Rattle.sv_driver_laws.proofs.Reasons.{IsNoFailure, NoneIsFailure, closing_silent}
+use Rattle.sv_driver_laws.proofs.Ports.{PortBytes, AreSilent, holds_silent, step_opened, BytesMatch}
+use Rattle.sv_driver_laws.proofs.Keeps.{Subject, OfNone, about, AllMay, all_may_append, Keeps, through_join, keeps_none, keeps_then, keeps_each, quiet_keeps, quiet_one, only_heard, closes_channel_quiet, applied_adds_event, event_keeps, inner_by, inner_applies}
 
 -- ---- peers are dialed
 
@@ -45,17 +45,17 @@ use Rattle.sv_driver_laws.proofs.Keeps.{Subject, OfNone, about, AllMay, may_join
 -- alone.
 pub step_else : (event : PlainEvent) (heard : Heard) (log : List Act) (channel_log : List ChannelAct) → ((c : ℕ) → brings c event ≡ [])
     → tells event log ≡ [] → ((port : Port) → begins port heard ≡ false) → ((c : ℕ) → read (Conn c) heard ≡ [])
-    → ((port : Port) → taken_bytes port heard ≡ []) → (trace : List Heard) (c : ℕ) → Both c (of c log) channel_log trace
-    → Both c (brings c event ++ of c log) (tells event log ++ channel_log) (heard ∷ trace)
+    → ((port : Port) → taken_bytes port heard ≡ []) → (trace : List Heard) (c : ℕ) → PortBytes c (of c log) channel_log trace
+    → PortBytes c (brings c event ++ of c log) (tells event log ++ channel_log) (heard ∷ trace)
 step_else event heard log channel_log none untold still unread untaken trace c h =
     rw (none c, untold) (holds_silent c heard trace (of c log) channel_log still (unread c) untaken h)
 
 -- A create_intr_chan that waits for a peer names one.
-pub peer_there : (call : Option CoreCall) (dial : Dial) → dial_in call ≡ Some dial → (one : Peer) × (peer_in call ≡ Some one)
-peer_there None dial e = absurd cc
-peer_there (Some call) dial e = by call.arguments e
+pub dialing_call_has_peer : (call : Option CoreCall) (dial : Dial) → dial_in call ≡ Some dial → (one : Peer) × (peer_in call ≡ Some one)
+dialing_call_has_peer None dial e = absurd cc
+dialing_call_has_peer (Some call) dial e = by call.arguments e
   where
-    by : (arguments : Arguments) → dial_by arguments ≡ Some dial → (one : Peer) × (peer_by arguments ≡ Some one)
+    by : (arguments : Arguments) → dial_by arguments ≡ Some dial → (one : Peer) × (peer_named_by arguments ≡ Some one)
     by (CreateIntrChan host_addr host_port prog_num prog_vers prog_family) e = (record { prog = prog_num; vers = prog_vers }, refl)
     by _ e = absurd cc
 
@@ -66,12 +66,12 @@ dials_call false found dial e = absurd cc
 -- When the peer is connected, the interrupt channel opens, and its bytes are counted anew.
 pub step_dialed : (c : ℕ) (dial : Dial) (heard : Heard) (log : List Act) (channel_log : List ChannelAct) → Some dial ≡ dial_of c log
     → ((d : ℕ) → begins (Conn d) heard ≡ false) → ((d : ℕ) → read (Conn d) heard ≡ []) → ((port : Port) → taken_bytes port heard ≡ [])
-    → ((d : ℕ) → begins (Intr d) heard ≡ eqb c d) → (trace : List Heard) (d : ℕ) → Both d (of d log) channel_log trace
-    → Both d (brings d (Dialed c true) ++ of d log) (tells (Dialed c true) log ++ channel_log) (heard ∷ trace)
+    → ((d : ℕ) → begins (Intr d) heard ≡ eqb c d) → (trace : List Heard) (d : ℕ) → PortBytes d (of d log) channel_log trace
+    → PortBytes d (brings d (Dialed c true) ++ of d log) (tells (Dialed c true) log ++ channel_log) (heard ∷ trace)
 step_dialed c dial heard log channel_log wanted still unread untaken opens trace d h =
-    let one = peer_there (core_call_in (pending_call (of c log))) dial
+    let one = dialing_call_has_peer (core_call_in (pending_call (of c log))) dial
     (dials_call (is_dialing c (wait_acts (device_acts log))) (dial_in (core_call_in (pending_call (of c log)))) dial wanted) in
-    subst (λ (found : Option Peer). Both d (of d log) (opened_to c found ++ channel_log) (heard ∷ trace)) (sym one.1)
+    subst (λ (found : Option Peer). PortBytes d (of d log) (opened_to c found ++ channel_log) (heard ∷ trace)) (sym one.1)
     (step_opened c one.0 heard trace d (of d log) channel_log (still d) (unread d) (untaken (Conn d)) (opens d) (untaken (Intr d)) h)
 
 -- Telling the server that a peer was connected, or couldn't be, satisfies `Keeps`.
@@ -79,17 +79,17 @@ abbrev pub dialed_keeps : {W : Type 0} (hears : W → Heard → W → Type 0) (M
     → Type 0) (config : Config) (c : ℕ) (may : May OfNone) (ok : Bool) (heard : Heard)
     (mine : about heard ≡ OfNone) (newer : List Heard) (all_may : AllMay May newer) (before between after : DriverView W) (log : List Act)
     → IsLogOf config before.history log → Through hears (newer ++ heard ∷ []) before.wire between.wire
-    → AreSilent newer → AreCalm newer → NoneWritten newer → IsNoWrite heard → (hung : Option ℕ) → Adds hung newer
-    → ((n : ℕ) → hung ≡ Some n → ends_port (Intr n) heard ≡ true) → IsNoHang heard → between.history ≡ before.history
-    → event_of heard ≡ Dialed c ok ∷ [] → IsCalm heard
+    → AreSilent newer → NoneIsFailure newer → NoneWritten newer → IsNoWrite heard → (hung : Option ℕ) → MayCloseChannel hung newer
+    → ((n : ℕ) → hung ≡ Some n → ends_port (Intr n) heard ≡ true) → ClosesNoChannel heard → between.history ≡ before.history
+    → event_of heard ≡ Dialed c ok ∷ [] → IsNoFailure heard
     → ((d : ℕ) → heard ≡ WasClosed (Conn d) → ⊥)
-    → ((channel_log : List ChannelAct) (trace : List Heard) (d : ℕ) → Both d (of d log) channel_log trace
-    → Both d (brings d (Dialed c ok) ++ of d log) (tells (Dialed c ok) log ++ channel_log) (heard ∷ trace))
+    → ((channel_log : List ChannelAct) (trace : List Heard) (d : ℕ) → PortBytes d (of d log) channel_log trace
+    → PortBytes d (brings d (Dialed c ok) ++ of d log) (tells (Dialed c ok) log ++ channel_log) (heard ∷ trace))
     → IsApplied (Dialed c ok) config between after → Keeps hears May config before after
 dialed_keeps hears May config c may ok heard mine newer all_may before between after log was through silent calm unwritten none hung adds
     ends unhung same event itself stays step applied =
-    let channel_log = some_told (device_acts log) in
-    let done = happened (Dialed c ok) config between after applied in
+    let channel_log = channel_log_exists (device_acts log) in
+    let done = applied_adds_event (Dialed c ok) config between after applied in
     event_keeps hears May config heard (Dialed c ok) newer [] before after (record {
       hung = hung;
       newer_adds = adds;
@@ -111,101 +111,102 @@ dialed_keeps hears May config c may ok heard mine newer all_may before between a
       older_once = tt;
       calm = itself;
       reason = λ trace so d e. absurd (stays d e);
-      may = may_join May newer (heard ∷ []) all_may (subst May (sym mine) may, tt);
+      may = all_may_append May newer (heard ∷ []) all_may (subst May (sym mine) may, tt);
       outer = refl;
       same = event;
       step = step channel_log.0;
     })
 
-abbrev pub rings : {W : Type 0} (hears : W → Heard → W → Type 0) (May : Subject
+abbrev pub connect_result_keeps : {W : Type 0} (hears : W → Heard → W → Type 0) (May : Subject
     → Type 0) (config : Config) (c : ℕ) (may : May OfNone) (dial : Dial) (answer : Answer ⊤) (wire : W)
     (before between after : DriverView W) (log : List Act) → IsLogOf config before.history log → Some dial ≡ dial_of c log
     → hears before.wire (WasDialed c dial answer) wire → between ≡ record before { wire = wire }
     → ConnectResult c dial answer config between after
     → Keeps hears May config before after
-rings hears May config c may dial (Got all) wire before between after log was wanted heard is (noted, notes, applied) =
+connect_result_keeps hears May config c may dial (Got all) wire before between after log was wanted heard is (noted, notes, applied) =
     dialed_keeps hears May config c may true (WasDialed c dial (Got all)) refl [] tt before noted after log was (
       before.wire,
       refl,
       subst (λ w. hears before.wire (WasDialed c dial (Got all)) w) (sym (ap (λ m. m.wire) notes ∙ ap
           (λ m. m.wire) is)) heard,
     )
-    tt tt tt (λ p b a e. absurd cc) None (adds_nothing None) (λ n e. none_hung n e) (λ n e. absurd cc) (ap (λ m. m.history) notes ∙ ap
+    tt tt tt (λ p b a e. absurd cc) None (may_close_none None) (λ n e. none_not_some n e) (λ n e. absurd cc) (ap (λ m. m.history) notes ∙ ap
     (λ m. m.history) is) refl (λ d. refl) (λ d e. absurd cc)
     (λ channel_log. step_dialed c dial (WasDialed c dial (Got all)) log channel_log wanted (λ d. refl) (λ d. refl) (λ port. refl)
     (λ d. refl)) applied
-rings hears May config c may dial Pending wire before between after log was wanted heard is notes =
+connect_result_keeps hears May config c may dial Pending wire before between after log was wanted heard is notes =
     quiet_keeps hears May config None before after (quiet_one hears May None (WasDialed c dial Pending) may wire before after heard
     (ap (λ m. m.wire) notes ∙ ap (λ m. m.wire) is) (ap (λ m. m.history) notes ∙ ap (λ m. m.history) is)
     (refl, (λ port. refl), (λ port. refl), (λ port. refl)) (λ d. refl) (λ p b a e. absurd cc) (λ d e. absurd cc))
-    (λ trace so d e. none_hung d e)
-rings hears May config c may dial Failed wire before between after log was wanted heard is applied =
+    (λ trace so d e. none_not_some d e)
+connect_result_keeps hears May config c may dial Failed wire before between after log was wanted heard is applied =
     dialed_keeps hears May config c may false (WasDialed c dial Failed) refl [] tt before between after log was
     (before.wire, refl, subst (λ w. hears before.wire (WasDialed c dial Failed) w) (sym (ap (λ m. m.wire) is)) heard)
-    tt tt tt (λ p b a e. absurd cc) None (adds_nothing None) (λ n e. none_hung n e) (λ n e. absurd cc) (ap (λ m. m.history) is) refl
+    tt tt tt (λ p b a e. absurd cc) None (may_close_none None) (λ n e. none_not_some n e) (λ n e. absurd cc) (ap (λ m. m.history) is) refl
     (λ d. refl) (λ d e. absurd cc)
     (λ channel_log. step_else (Dialed c false) (WasDialed c dial Failed) log channel_log (λ d. refl) refl (λ port. refl) (λ d. refl)
     (λ port. refl)) applied
 
-abbrev pub picks : {W : Type 0} (hears : W → Heard → W → Type 0) (May : Subject
+abbrev pub poll_result_keeps : {W : Type 0} (hears : W → Heard → W → Type 0) (May : Subject
     → Type 0) (config : Config) (c : ℕ) (may : May OfNone) (dial : Dial) (answer : Answer ⊤) (wire : W)
     (before between after : DriverView W) (log : List Act) → IsLogOf config before.history log → Some dial ≡ dial_of c log
     → hears before.wire (PeerAnswered c answer) wire → between ≡ record before { wire = wire }
     → PollResult hears c answer config between after
     → Keeps hears May config before after
-picks hears May config c may dial (Got all) wire before between after log was wanted heard is applied =
+poll_result_keeps hears May config c may dial (Got all) wire before between after log was wanted heard is applied =
     dialed_keeps hears May config c may true (PeerAnswered c (Got all)) refl [] tt before between after log was
     (before.wire, refl, subst (λ w. hears before.wire (PeerAnswered c (Got all)) w) (sym (ap (λ m. m.wire) is)) heard)
-    tt tt tt (λ p b a e. absurd cc) None (adds_nothing None) (λ n e. none_hung n e) (λ n e. absurd cc) (ap (λ m. m.history) is) refl
+    tt tt tt (λ p b a e. absurd cc) None (may_close_none None) (λ n e. none_not_some n e) (λ n e. absurd cc) (ap (λ m. m.history) is) refl
     (λ d. refl) (λ d e. absurd cc)
     (λ channel_log. step_dialed c dial (PeerAnswered c (Got all)) log channel_log wanted (λ d. refl) (λ d. refl) (λ port. refl)
     (λ d. refl)) applied
-picks hears May config c may dial Pending wire before between after log was wanted heard is same =
+poll_result_keeps hears May config c may dial Pending wire before between after log was wanted heard is same =
     only_heard hears May config (PeerAnswered c Pending) may wire before between after heard is
     (refl, (λ port. refl), (λ port. refl), (λ port. refl)) (λ d. refl) (λ p b a e. absurd cc) (λ n e. absurd cc) same
-picks hears May config c may dial Failed wire before between after log was wanted heard is (hung, hangs, applied) =
-    let q = hangs_up hears May config may c between hung hangs in
+poll_result_keeps hears May config c may dial Failed wire before between after log was wanted heard is (hung, hangs, applied) =
+    let q = closes_channel_quiet hears May config may c between hung hangs in
     dialed_keeps hears May config c may false (PeerAnswered c Failed) refl q.piece q.may before hung after log was
     (through_join hears (PeerAnswered c Failed ∷ []) q.piece before.wire between.wire hung.wire
     (before.wire, refl, subst (λ w. hears before.wire (PeerAnswered c Failed) w) (sym (ap (λ m. m.wire) is)) heard) q.through)
-    q.silent q.calm q.unwritten (λ p b a e. absurd cc) (Some c) q.adds (λ n e. eq-eqb c n (hung_same c n e)) (λ n e. absurd cc)
+    q.silent q.calm q.unwritten (λ p b a e. absurd cc) (Some c) q.adds (λ n e. eq-eqb c n (some_is_injective c n e)) (λ n e. absurd cc)
     (q.same ∙ ap (λ m. m.history) is) refl (λ d. refl) (λ d e. absurd cc)
     (λ channel_log. step_else (Dialed c false) (PeerAnswered c Failed) log channel_log (λ d. refl) refl (λ port. refl) (λ d. refl)
     (λ port. refl)) applied
 
-abbrev pub calls_for : {W : Type 0} (hears : W → Heard → W → Type 0) (May : Subject
+abbrev pub dials_for_keeps : {W : Type 0} (hears : W → Heard → W → Type 0) (May : Subject
     → Type 0) (config : Config) (c : ℕ) (may : May OfNone) (wanted dialed : Option Dial)
     (before after : DriverView W) (log : List Act) → IsLogOf config before.history log → wanted ≡ dial_of c log
     → DialsFor hears c wanted dialed config before after → Keeps hears May config before after
-calls_for hears May config c may None dialed before after log was wants same = keeps_none hears May config before after same
-calls_for hears May config c may (Some dial) None before after log was wants (answer, (between, (wire, heard, is), h)) =
-    rings hears May config c may dial answer wire before between after log was wants heard is h
-calls_for hears May config c may (Some dial) (Some dialed) before after log was wants (answer, (between, (wire, heard, is), h)) =
-    picks hears May config c may dial answer wire before between after log was wants heard is h
+dials_for_keeps hears May config c may None dialed before after log was wants same = keeps_none hears May config before after same
+dials_for_keeps hears May config c may (Some dial) None before after log was wants (answer, (between, (wire, heard, is), h)) =
+    connect_result_keeps hears May config c may dial answer wire before between after log was wants heard is h
+dials_for_keeps hears May config c may (Some dial) (Some dialed) before after log was wants (answer, (between, (wire, heard, is), h)) =
+    poll_result_keeps hears May config c may dial answer wire before between after log was wants heard is h
 
-pub keeps_call : {W : Type 0} (hears : W → Heard → W → Type 0) (May : Subject
+pub keeps_dial_keeps : {W : Type 0} (hears : W → Heard → W → Type 0) (May : Subject
     → Type 0) (config : Config) (c : ℕ) (may : May OfNone) (so : Bool) (before after : DriverView W)
     → (so ≡ false → (log : List Act) × IsLogOf config before.history log × (is_port_shut (Intr c) log ≡ true))
     → KeepsDial hears c so config before after → Keeps hears May config before after
-keeps_call hears May config c may true before after shut same = keeps_none hears May config before after same
-keeps_call hears May config c may false before after shut hangs =
-    let at = shut refl in quiet_keeps hears May config (Some c) before after (hangs_up hears May config may c before after hangs)
-    (λ trace so d e. end_shut c d config before.history trace at.0 at.1 at.2 so e)
+keeps_dial_keeps hears May config c may true before after shut same = keeps_none hears May config before after same
+keeps_dial_keeps hears May config c may false before after shut hangs =
+    let at = shut refl in quiet_keeps hears May config (Some c) before after
+        (closes_channel_quiet hears May config may c before after hangs)
+    (λ trace so d e. shut_is_reason c d config before.history trace at.0 at.1 at.2 so e)
 
-pub lets_go_of : {W : Type 0} (hears : W → Heard → W → Type 0) (May : Subject
+pub cancels_unwanted_keeps : {W : Type 0} (hears : W → Heard → W → Type 0) (May : Subject
     → Type 0) (config : Config) (c : ℕ) (may : May OfNone) (dialed : Option Dial) (before after : DriverView W)
     → CancelsUnwanted hears c dialed config before after → Keeps hears May config before after
-lets_go_of hears May config c may None before after same = keeps_none hears May config before after same
-lets_go_of hears May config c may (Some dialed) before after (channel, wanted, is_open, wants, h) =
-    keeps_call hears May config c may _ before after
-    (λ e. (is_open.0, is_open.1, cancel_unwanted channel (is_wanted dialed wanted) (is_port_shut (Intr c) is_open.0) e is_open.2)) h
+cancels_unwanted_keeps hears May config c may None before after same = keeps_none hears May config before after same
+cancels_unwanted_keeps hears May config c may (Some dialed) before after (channel, wanted, is_open, wants, h) =
+    keeps_dial_keeps hears May config c may _ before after
+    (λ e. (is_open.0, is_open.1, unwanted_is_shut channel (is_wanted dialed wanted) (is_port_shut (Intr c) is_open.0) e is_open.2)) h
 
 pub dials : {W : Type 0} (hears : W → Heard → W → Type 0) (May : Subject
     → Type 0) (config : Config) (c : ℕ) (may : May OfNone) (before after : DriverView W)
     → Dials hears c config before after → Keeps hears May config before after
 dials hears May config c may before after (between, goes, (wanted, (log, was, wants), h)) = keeps_then hears May config before between after
-    (lets_go_of hears May config c may (dialed_of c before) before between goes)
-    (calls_for hears May config c may wanted (dialed_of c between) between after log was wants h)
+    (cancels_unwanted_keeps hears May config c may (dialed_of c before) before between goes)
+    (dials_for_keeps hears May config c may wanted (dialed_of c between) between after log was wants h)
 
 -- ---- time passes
 
@@ -232,10 +233,10 @@ keeps_else hears May config before after there same = record {
   grown = same;
   told = refl;
   may = tt;
-  keeps = λ trace keeping. subst (λ h. Keeping config h trace) (sym same) keeping;
+  keeps = λ trace keeping. subst (λ h. BytesMatch config h trace) (sym same) keeping;
   closing = closing_silent config before.history after.history [] same tt tt;
   hands = λ trace so h. subst (λ l. HandsOver config l trace) (sym same) h;
-  lets = λ trace so h. subst (λ l. LetsGoRightly config l trace) (sym same) h;
+  lets = λ trace so h. subst (λ l. ClosesChannelsRightly config l trace) (sym same) h;
 }
 
 pub plays_one : {W : Type 0} (hears : W → Heard → W → Type 0) (May : Subject → Type 0) (config : Config) (before after : DriverView W)

@@ -19,31 +19,32 @@ use Rattle.sv_driver_laws.proofs.Ports.{AreSilent}
 
 -- ---- answers that are no failure
 
-abbrev pub IsCalm : Heard → Type 0
-IsCalm heard = (c : ℕ) → ends_port (Conn c) heard ≡ false
+abbrev pub IsNoFailure : Heard → Type 0
+IsNoFailure heard = (c : ℕ) → ends_port (Conn c) heard ≡ false
 
-abbrev pub AreCalm : List Heard → Type 0
-AreCalm [] = ⊤
-AreCalm (heard ∷ piece) = IsCalm heard × AreCalm piece
+abbrev pub NoneIsFailure : List Heard → Type 0
+NoneIsFailure [] = ⊤
+NoneIsFailure (heard ∷ piece) = IsNoFailure heard × NoneIsFailure piece
 
 pub no_failure : {A : Type 0} (b : Bool) → b ≡ false → b ≡ true → A
 no_failure {A} b off on = absurd (let z : false ≡ true = sym off ∙ on in cc)
 
 -- If the newest answer isn't a failure, anything may come next.
-once_before : (next : Option Heard) (trace : List Heard) → ClosesAtOnce None trace → ClosesAtOnce next trace
-once_before next [] h = tt
-once_before next (heard ∷ trace) h = ((λ c e. absurd (let z = h.0 c e in cc)), h.1)
+closes_at_once_weaker : (next : Option Heard) (trace : List Heard) → ClosesAtOnce None trace → ClosesAtOnce next trace
+closes_at_once_weaker next [] h = tt
+closes_at_once_weaker next (heard ∷ trace) h = ((λ c e. absurd (let z = h.0 c e in cc)), h.1)
 
-pub once_join : (next : Option Heard) (one other : List Heard) → ClosesAtOnce next one → ClosesAtOnce None other
+pub closes_at_once_append : (next : Option Heard) (one other : List Heard) → ClosesAtOnce next one → ClosesAtOnce None other
     → ClosesAtOnce next (one ++ other)
-once_join next [] other h k = once_before next other k
-once_join next (heard ∷ one) other h k = (h.0, once_join (Some heard) one other h.1 k)
+closes_at_once_append next [] other h k = closes_at_once_weaker next other k
+closes_at_once_append next (heard ∷ one) other h k = (h.0, closes_at_once_append (Some heard) one other h.1 k)
 
-pub calm_once : (next : Option Heard) (piece rest : List Heard) → AreCalm piece → ((other : Option Heard) → ClosesAtOnce other rest)
+pub closes_at_once_no_failure : (next : Option Heard) (piece rest : List Heard) → NoneIsFailure piece
+    → ((other : Option Heard) → ClosesAtOnce other rest)
     → ClosesAtOnce next (piece ++ rest)
-calm_once next [] rest calm h = h next
-calm_once next (heard ∷ piece) rest calm h =
-    ((λ c e. no_failure (ends_port (Conn c) heard) (calm.0 c) e), calm_once (Some heard) piece rest calm.1 h)
+closes_at_once_no_failure next [] rest calm h = h next
+closes_at_once_no_failure next (heard ∷ piece) rest calm h =
+    ((λ c e. no_failure (ends_port (Conn c) heard) (calm.0 c) e), closes_at_once_no_failure (Some heard) piece rest calm.1 h)
 
 -- ---- reasons for closing a connection
 
@@ -57,9 +58,10 @@ abbrev pub HasReasons : Config → List PlainEvent → List Heard → Type 0
 HasReasons config history trace = EachHeard (λ heard older. (c : ℕ) → heard ≡ WasClosed (Conn c) → IsReason c config history older) trace
 
 -- What once held of a history once held of each longer history.
-pub once_more : (IsSo : List PlainEvent → Type 0) (history events : List PlainEvent) (trace : List Heard) → Once IsSo history trace
+pub once_in_longer_history : (IsSo : List PlainEvent → Type 0) (history events : List PlainEvent) (trace : List Heard)
+    → Once IsSo history trace
     → Once IsSo (events ++ history) trace
-once_more IsSo history events trace (later, earlier, is, so, then_so) =
+once_in_longer_history IsSo history events trace (later, earlier, is, so, then_so) =
     (events ++ later, earlier, ap (λ (l : List PlainEvent). events ++ l) is ∙ sym (append_assoc events later earlier), so, then_so)
 
 -- If this closes a connection, there is a reason for it, whatever the trace up to the history
@@ -74,7 +76,7 @@ reasons_more config history events [] h = tt
 reasons_more config history events (heard ∷ trace) h = (
   (λ c e. elim (h.0 c e) [
     | inl failed ↦ inl failed
-    | inr fault ↦ inr (once_more (IsAtFault c config) history events trace fault)
+    | inr fault ↦ inr (once_in_longer_history (IsAtFault c config) history events trace fault)
   ]),
   reasons_more config history events trace h.1,
 )
@@ -97,15 +99,15 @@ pub record Closing (config : Config) (before after : List PlainEvent) (piece : L
       → HasReasons config after (piece ++ trace)
 
 -- Events and answers that match, after others that match, match together.
-pub told_more : (one other : List PlainEvent) (piece trace : List Heard) → filter is_outer one ≡ flat_map event_of piece
+pub matching_append : (one other : List PlainEvent) (piece trace : List Heard) → filter is_outer one ≡ flat_map event_of piece
     → filter is_outer other ≡ flat_map event_of trace → filter is_outer (one ++ other) ≡ flat_map event_of (piece ++ trace)
-told_more one other piece trace h k = filter-append is_outer one other ∙ ap (λ (l : List PlainEvent). l ++ filter is_outer other) h
+matching_append one other piece trace h k = filter-append is_outer one other ∙ ap (λ (l : List PlainEvent). l ++ filter is_outer other) h
     ∙ ap (λ (l : List PlainEvent). flat_map event_of piece ++ l) k ∙ sym (flat_map-append event_of piece trace)
 
 abbrev pub closing_silent : (config : Config) (before after : List PlainEvent) (piece : List Heard) → after ≡ before → AreSilent piece
-    → AreCalm piece → Closing config before after piece
+    → NoneIsFailure piece → Closing config before after piece
 closing_silent config before after piece same silent calm = record {
-  once = subst (λ (l : List Heard). ClosesAtOnce None l) (append-nil piece) (calm_once None piece [] calm (λ other. tt));
+  once = subst (λ (l : List Heard). ClosesAtOnce None l) (append-nil piece) (closes_at_once_no_failure None piece [] calm (λ other. tt));
   reasons = λ trace so h. subst (λ (l : List PlainEvent). HasReasons config l (piece ++ trace)) (sym same)
       (silent_reasons config before piece trace silent h);
 }
@@ -121,17 +123,17 @@ closing_more config before after events grown = record {
 abbrev pub closing_then : (config : Config) (a b c events : List PlainEvent) (one other : List Heard) → b ≡ events ++ a
     → filter is_outer events ≡ flat_map event_of one → Closing config a b one → Closing config b c other → Closing config a c (other ++ one)
 closing_then config a b c events one other grown told x y = record {
-  once = once_join None other one y.once x.once;
+  once = closes_at_once_append None other one y.once x.once;
   reasons = λ trace so h. subst (λ (l : List Heard). HasReasons config c l) (sym (append_assoc other one trace))
-      (y.reasons (one ++ trace) (ap (filter is_outer) grown ∙ told_more events a one trace told so) (x.reasons trace so h));
+      (y.reasons (one ++ trace) (ap (filter is_outer) grown ∙ matching_append events a one trace told so) (x.reasons trace so h));
 }
 
 abbrev pub closing_event : (config : Config) (before after : List PlainEvent) (event : PlainEvent) (heard : Heard)
     (newer older : List Heard)
-    → after ≡ event ∷ before → AreSilent newer → AreCalm newer → AreSilent older → ClosesAtOnce (Some heard) older → IsCalm heard
+    → after ≡ event ∷ before → AreSilent newer → NoneIsFailure newer → AreSilent older → ClosesAtOnce (Some heard) older → IsNoFailure heard
     → Reasons config (event ∷ before) before heard older → Closing config before after (newer ++ heard ∷ older)
 closing_event config before after event heard newer older grown newer_silent newer_calm older_silent older_once calm reason = record {
-  once = calm_once None newer (heard ∷ older) newer_calm
+  once = closes_at_once_no_failure None newer (heard ∷ older) newer_calm
       (λ other. ((λ c e. no_failure (ends_port (Conn c) heard) (calm c) e), older_once));
   reasons = λ trace so h. subst (λ (l : List PlainEvent). HasReasons config l ((newer ++ heard ∷ older) ++ trace)) (sym grown)
       (subst (λ (l : List Heard). HasReasons config (event ∷ before) l) (sym (append_assoc newer (heard ∷ older) trace))
@@ -142,8 +144,8 @@ closing_event config before after event heard newer older grown newer_silent new
       )));
 }
 
-pub closed_same : (c d : ℕ) → WasClosed (Conn c) ≡ WasClosed (Conn d) → c ≡ d
-closed_same c d e = cc
+pub closed_conn_is_injective : (c d : ℕ) → WasClosed (Conn c) ≡ WasClosed (Conn d) → c ≡ d
+closed_conn_is_injective c d e = cc
 
 pub written_else : {A : Type 0} (port : Port) (bytes : List ℕ) (answer : Answer ℕ) (c : ℕ)
     → WasWritten port bytes answer ≡ WasClosed (Conn c) → A

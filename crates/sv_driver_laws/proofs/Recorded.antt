@@ -31,8 +31,8 @@ abbrev pub Step : Type 0 → Type 1
 Step W = Config → DriverView W → DriverView W → Type 0
 
 -- The state with this trace in place of the wire.
-abbrev pub onto : {W : Type 0} → DriverView W → List Heard → DriverView (List Heard)
-onto a trace = record { wire = trace; history = a.history; dials = a.dials; ahead = a.ahead; ticks = a.ticks }
+abbrev pub over_trace : {W : Type 0} → DriverView W → List Heard → DriverView (List Heard)
+over_trace a trace = record { wire = trace; history = a.history; dials = a.dials; ahead = a.ahead; ticks = a.ticks }
 
 -- The answers that lead from one state of the wire to the other lead from one trace to the other.
 abbrev pub Along : {W : Type 0} → (W → Heard → W → Type 0) → List Heard → W → List Heard → W → Type 0
@@ -40,7 +40,8 @@ Along hears trace from later to = (piece : List Heard) × (later ≡ piece ++ tr
 
 -- The step, taken over the recorded trace instead of the wire.
 abbrev pub Lifts : {W : Type 0} → (W → Heard → W → Type 0) → Step (List Heard) → Config → DriverView W → DriverView W → List Heard → Type 0
-Lifts hears step config a b trace = (later : List Heard) × Along hears trace a.wire later b.wire × step config (onto a trace) (onto b later)
+Lifts hears step config a b trace = (later : List Heard) × Along hears trace a.wire later b.wire
+    × step config (over_trace a trace) (over_trace b later)
 
 along_none : {W : Type 0} (hears : W → Heard → W → Type 0) (trace : List Heard) (from to : W) → to ≡ from → Along hears trace from trace to
 along_none hears trace from to is = ([], refl, is)
@@ -55,29 +56,29 @@ pub lift_then : {W : Type 0} (hears : W → Heard → W → Type 0) (one other :
     → Lifts hears (one then other) config a b trace
 lift_then hears one other config a m b trace (between, along, x) next =
     let last = next between in
-    (last.0, along_then hears trace between last.0 a.wire m.wire b.wire along last.1, (onto m between, x, last.2))
+    (last.0, along_then hears trace between last.0 a.wire m.wire b.wire along last.1, (over_trace m between, x, last.2))
 
 pub lift_each : {W : Type 0} (hears : W → Heard → W → Type 0) (step : ℕ → Step W) (on : ℕ → Step (List Heard)) (config : Config) (n : ℕ)
     → ((c : ℕ) (a b : DriverView W) (trace : List Heard) → step c config a b → Lifts hears (on c) config a b trace)
     → (a b : DriverView W) (trace : List Heard) → ForEach n step config a b → Lifts hears (ForEach n on) config a b trace
 lift_each hears step on config zero each a b trace is =
-    (trace, along_none hears trace a.wire b.wire (ap (λ m. m.wire) is), ap (λ m. onto m trace) is)
+    (trace, along_none hears trace a.wire b.wire (ap (λ m. m.wire) is), ap (λ m. over_trace m trace) is)
 lift_each hears step on config (suc n) each a b trace (m, front, last) =
     let (between, along, x) = lift_each hears step on config n each a m trace front in
     let (later, more, y) = each n m b between last in
-    (later, along_then hears trace between later a.wire m.wire b.wire along more, (onto m between, x, y))
+    (later, along_then hears trace between later a.wire m.wire b.wire along more, (over_trace m between, x, y))
 
 pub lift_same : {W : Type 0} (hears : W → Heard → W → Type 0) (config : Config) (a b : DriverView W) (trace : List Heard) → b ≡ a
     → Lifts hears (λ config x y. y ≡ x) config a b trace
 lift_same hears config a b trace is =
-    (trace, along_none hears trace a.wire b.wire (ap (λ m. m.wire) is), ap (λ m. onto m trace) is)
+    (trace, along_none hears trace a.wire b.wire (ap (λ m. m.wire) is), ap (λ m. over_trace m trace) is)
 
 pub lift_heard : {W : Type 0} (hears : W → Heard → W → Type 0) (heard : Heard) (config : Config) (a b : DriverView W) (trace : List Heard)
     → Hears hears heard config a b → Lifts hears (Hears Records heard) config a b trace
 lift_heard hears heard config a b trace (wire, was, is) = (
   heard ∷ trace,
   (heard ∷ [], refl, (a.wire, refl, subst (λ w. hears a.wire heard w) (sym (ap (λ m. m.wire) is)) was)),
-  (heard ∷ trace, refl, ap (λ m. onto m (heard ∷ trace)) is),
+  (heard ∷ trace, refl, ap (λ m. over_trace m (heard ∷ trace)) is),
 )
 
 pub lift_given : {W : Type 0} (hears : W → Heard → W → Type 0) (event : PlainEvent) (result : Result Did Refused) (config : Config)
@@ -85,13 +86,13 @@ pub lift_given : {W : Type 0} (hears : W → Heard → W → Type 0) (event : Pl
 lift_given hears event result config a b trace (log, was, answers, is) = (
   trace,
   along_none hears trace a.wire b.wire (ap (λ m. m.wire) is),
-  (log, was, answers, ap (λ m. onto m trace) is),
+  (log, was, answers, ap (λ m. over_trace m trace) is),
 )
 
-pub lift_notes : {W : Type 0} (hears : W → Heard → W → Type 0) (c : ℕ) (dial : Option Dial) (config : Config) (a b : DriverView W)
+pub lift_remembers : {W : Type 0} (hears : W → Heard → W → Type 0) (c : ℕ) (dial : Option Dial) (config : Config) (a b : DriverView W)
     (trace : List Heard) → Remembers c dial config a b → Lifts hears (Remembers c dial) config a b trace
-lift_notes hears c dial config a b trace is =
-    (trace, along_none hears trace a.wire b.wire (ap (λ m. m.wire) is), ap (λ m. onto m trace) is)
+lift_remembers hears c dial config a b trace is =
+    (trace, along_none hears trace a.wire b.wire (ap (λ m. m.wire) is), ap (λ m. over_trace m trace) is)
 
 pub lift_opens : {W : Type 0} (hears : W → Heard → W → Type 0) (role : Role) (number : Option ℕ) (answer : Answer ⊤) (config : Config)
     (a b : DriverView W) (trace : List Heard) → Opens role number answer config a b
@@ -108,16 +109,17 @@ lift_accepts hears role config a b trace (number, answer, low, (m, heard, opens)
     (lift_heard hears _ config a m trace heard) (λ t. lift_opens hears role number answer config m b t opens) in
     (later, along, (number, answer, lowest number low, h))
   where
-    lowest : (number : Option ℕ) → IsLowest number config a → IsLowest number config (onto a trace)
+    lowest : (number : Option ℕ) → IsLowest number config a → IsLowest number config (over_trace a trace)
     lowest (Some c) h = h
     lowest None h = h
 
-pub lift_hangs : {W : Type 0} (hears : W → Heard → W → Type 0) (c : ℕ) (found : Option Dial) (config : Config) (a b : DriverView W)
+pub lift_closes_channel_on : {W : Type 0} (hears : W → Heard → W → Type 0) (c : ℕ) (found : Option Dial) (config : Config)
+    (a b : DriverView W)
     (trace : List Heard) → ClosesChannelOn hears c found config a b → Lifts hears (ClosesChannelOn Records c found) config a b trace
-lift_hangs hears c None config a b trace is = lift_same hears config a b trace is
-lift_hangs hears c (Some dial) config a b trace (m, heard, notes) =
+lift_closes_channel_on hears c None config a b trace is = lift_same hears config a b trace is
+lift_closes_channel_on hears c (Some dial) config a b trace (m, heard, notes) =
     lift_then hears (Hears Records (WasClosed (Intr c))) (Remembers c None) config a m b trace
-    (lift_heard hears _ config a m trace heard) (λ t. lift_notes hears c None config m b t notes)
+    (lift_heard hears _ config a m trace heard) (λ t. lift_remembers hears c None config m b t notes)
 
 pub lift_closes : {W : Type 0} (hears : W → Heard → W → Type 0) (c : ℕ) (config : Config) (a b : DriverView W) (trace : List Heard)
     → Closes hears c config a b → Lifts hears (Closes Records c) config a b trace
@@ -125,7 +127,7 @@ lift_closes hears c config a b trace (m, heard, (n, hangs, applies)) =
     lift_then hears (Hears Records (WasClosed (Conn c))) (ClosesChannel Records c then IsApplied (Close (Conn c))) config a m b trace
     (lift_heard hears _ config a m trace heard)
     (λ t. lift_then hears (ClosesChannel Records c) (IsApplied (Close (Conn c))) config m n b t
-    (lift_hangs hears c (dialed_of c m) config m n t hangs) (λ u. lift_given hears _ (Ok Done) config n b u applies))
+    (lift_closes_channel_on hears c (dialed_of c m) config m n t hangs) (λ u. lift_given hears _ (Ok Done) config n b u applies))
 
 pub lift_comes : {W : Type 0} (hears : W → Heard → W → Type 0) (c : ℕ) (answer : Answer (List ℕ)) (config : Config) (a b : DriverView W)
     (trace : List Heard) → Comes hears c answer config a b → Lifts hears (Comes Records c answer) config a b trace
@@ -180,64 +182,64 @@ pub lift_turns : {W : Type 0} (hears : W → Heard → W → Type 0) (c : ℕ) (
 lift_turns hears c config a b trace (ready, is, h) =
     let (later, along, k) = lift_turns_if hears c ready config a b trace h in (later, along, (ready, is, k))
 
-pub lift_keeps_call : {W : Type 0} (hears : W → Heard → W → Type 0) (c : ℕ) (so : Bool) (config : Config) (a b : DriverView W)
+pub lift_keeps_dial : {W : Type 0} (hears : W → Heard → W → Type 0) (c : ℕ) (so : Bool) (config : Config) (a b : DriverView W)
     (trace : List Heard) → KeepsDial hears c so config a b → Lifts hears (KeepsDial Records c so) config a b trace
-lift_keeps_call hears c true config a b trace is = lift_same hears config a b trace is
-lift_keeps_call hears c false config a b trace h = lift_hangs hears c (dialed_of c a) config a b trace h
+lift_keeps_dial hears c true config a b trace is = lift_same hears config a b trace is
+lift_keeps_dial hears c false config a b trace h = lift_closes_channel_on hears c (dialed_of c a) config a b trace h
 
 pub lift_cancels : {W : Type 0} (hears : W → Heard → W → Type 0) (c : ℕ) (dialed : Option Dial) (config : Config) (a b : DriverView W)
     (trace : List Heard) → CancelsUnwanted hears c dialed config a b → Lifts hears (CancelsUnwanted Records c dialed) config a b trace
 lift_cancels hears c None config a b trace is = lift_same hears config a b trace is
 lift_cancels hears c (Some dialed) config a b trace (channel, wanted, opened, wants, h) =
-    let (later, along, k) = lift_keeps_call hears c (channel || is_wanted dialed wanted) config a b trace h in
+    let (later, along, k) = lift_keeps_dial hears c (channel || is_wanted dialed wanted) config a b trace h in
     (later, along, (channel, wanted, opened, wants, k))
 
-pub lift_rings : {W : Type 0} (hears : W → Heard → W → Type 0) (c : ℕ) (dial : Dial) (answer : Answer ⊤) (config : Config)
+pub lift_connect_result : {W : Type 0} (hears : W → Heard → W → Type 0) (c : ℕ) (dial : Dial) (answer : Answer ⊤) (config : Config)
     (a b : DriverView W) (trace : List Heard) → ConnectResult c dial answer config a b
     → Lifts hears (ConnectResult c dial answer) config a b trace
-lift_rings hears c dial (Got all) config a b trace (m, notes, applies) =
+lift_connect_result hears c dial (Got all) config a b trace (m, notes, applies) =
     lift_then hears (Remembers c (Some dial)) (IsApplied (Dialed c true)) config a m b trace
-    (lift_notes hears c (Some dial) config a m trace notes) (λ t. lift_given hears _ (Ok Done) config m b t applies)
-lift_rings hears c dial Pending config a b trace notes = lift_notes hears c (Some dial) config a b trace notes
-lift_rings hears c dial Failed config a b trace applies = lift_given hears _ (Ok Done) config a b trace applies
+    (lift_remembers hears c (Some dial) config a m trace notes) (λ t. lift_given hears _ (Ok Done) config m b t applies)
+lift_connect_result hears c dial Pending config a b trace notes = lift_remembers hears c (Some dial) config a b trace notes
+lift_connect_result hears c dial Failed config a b trace applies = lift_given hears _ (Ok Done) config a b trace applies
 
-pub lift_picks : {W : Type 0} (hears : W → Heard → W → Type 0) (c : ℕ) (answer : Answer ⊤) (config : Config) (a b : DriverView W)
+pub lift_poll_result : {W : Type 0} (hears : W → Heard → W → Type 0) (c : ℕ) (answer : Answer ⊤) (config : Config) (a b : DriverView W)
     (trace : List Heard) → PollResult hears c answer config a b → Lifts hears (PollResult Records c answer) config a b trace
-lift_picks hears c (Got all) config a b trace applies = lift_given hears _ (Ok Done) config a b trace applies
-lift_picks hears c Pending config a b trace is = lift_same hears config a b trace is
-lift_picks hears c Failed config a b trace (m, hangs, applies) =
+lift_poll_result hears c (Got all) config a b trace applies = lift_given hears _ (Ok Done) config a b trace applies
+lift_poll_result hears c Pending config a b trace is = lift_same hears config a b trace is
+lift_poll_result hears c Failed config a b trace (m, hangs, applies) =
     lift_then hears (ClosesChannel Records c) (IsApplied (Dialed c false)) config a m b trace
-    (lift_hangs hears c (dialed_of c a) config a m trace hangs) (λ t. lift_given hears _ (Ok Done) config m b t applies)
+    (lift_closes_channel_on hears c (dialed_of c a) config a m trace hangs) (λ t. lift_given hears _ (Ok Done) config m b t applies)
 
-pub lift_calls_for : {W : Type 0} (hears : W → Heard → W → Type 0) (c : ℕ) (wanted dialed : Option Dial) (config : Config)
+pub lift_dials_for : {W : Type 0} (hears : W → Heard → W → Type 0) (c : ℕ) (wanted dialed : Option Dial) (config : Config)
     (a b : DriverView W) (trace : List Heard) → DialsFor hears c wanted dialed config a b
     → Lifts hears (DialsFor Records c wanted dialed) config a b trace
-lift_calls_for hears c None dialed config a b trace is = lift_same hears config a b trace is
-lift_calls_for hears c (Some dial) None config a b trace (answer, (m, heard, h)) =
+lift_dials_for hears c None dialed config a b trace is = lift_same hears config a b trace is
+lift_dials_for hears c (Some dial) None config a b trace (answer, (m, heard, h)) =
     let (later, along, k) = lift_then hears (Hears Records _) (ConnectResult c dial answer) config a m b trace
-    (lift_heard hears _ config a m trace heard) (λ t. lift_rings hears c dial answer config m b t h) in
+    (lift_heard hears _ config a m trace heard) (λ t. lift_connect_result hears c dial answer config m b t h) in
     (later, along, (answer, k))
-lift_calls_for hears c (Some dial) (Some dialed) config a b trace (answer, (m, heard, h)) =
+lift_dials_for hears c (Some dial) (Some dialed) config a b trace (answer, (m, heard, h)) =
     let (later, along, k) = lift_then hears (Hears Records _) (PollResult Records c answer) config a m b trace
-    (lift_heard hears _ config a m trace heard) (λ t. lift_picks hears c answer config m b t h) in
+    (lift_heard hears _ config a m trace heard) (λ t. lift_poll_result hears c answer config m b t h) in
     (later, along, (answer, k))
 
-pub lift_calls : {W : Type 0} (hears : W → Heard → W → Type 0) (c : ℕ) (config : Config) (a b : DriverView W) (trace : List Heard)
+pub lift_connects : {W : Type 0} (hears : W → Heard → W → Type 0) (c : ℕ) (config : Config) (a b : DriverView W) (trace : List Heard)
     → Connects hears c config a b → Lifts hears (Connects Records c) config a b trace
-lift_calls hears c config a b trace (wanted, wants, h) =
-    let (later, along, k) = lift_calls_for hears c wanted (dialed_of c a) config a b trace h in (later, along, (wanted, wants, k))
+lift_connects hears c config a b trace (wanted, wants, h) =
+    let (later, along, k) = lift_dials_for hears c wanted (dialed_of c a) config a b trace h in (later, along, (wanted, wants, k))
 
 pub lift_dials : {W : Type 0} (hears : W → Heard → W → Type 0) (c : ℕ) (config : Config) (a b : DriverView W) (trace : List Heard)
     → Dials hears c config a b → Lifts hears (Dials Records c) config a b trace
 lift_dials hears c config a b trace (m, goes, calls) = lift_then hears (LetsGo Records c) (Connects Records c) config a m b trace
-    (lift_cancels hears c (dialed_of c a) config a m trace goes) (λ t. lift_calls hears c config m b t calls)
+    (lift_cancels hears c (dialed_of c a) config a m trace goes) (λ t. lift_connects hears c config m b t calls)
 
 pub lift_breaks : {W : Type 0} (hears : W → Heard → W → Type 0) (port : Port) (config : Config) (a b : DriverView W) (trace : List Heard)
     → BreaksOff hears port config a b → Lifts hears (BreaksOff Records port) config a b trace
 lift_breaks hears (Conn c) config a b trace h = lift_closes hears c config a b trace h
 lift_breaks hears (Intr c) config a b trace (m, hangs, applies) =
     lift_then hears (ClosesChannel Records c) (IsApplied (Close (Intr c))) config a m b trace
-    (lift_hangs hears c (dialed_of c a) config a m trace hangs) (λ t. lift_given hears _ (Ok Done) config m b t applies)
+    (lift_closes_channel_on hears c (dialed_of c a) config a m trace hangs) (λ t. lift_given hears _ (Ok Done) config m b t applies)
 
 pub lift_ends_write : {W : Type 0} (hears : W → Heard → W → Type 0) (port : Port) (answer : Answer ℕ) (config : Config) (a b : DriverView W)
     (trace : List Heard) → EndsWrite hears port answer config a b → Lifts hears (EndsWrite Records port answer) config a b trace
@@ -278,7 +280,7 @@ lift_plays_one hears config a b trace (entry, others, m, first, due, (result, gi
     let (later, along, k) = lift_given hears _ result config a m trace given in (
       later,
       subst (λ w. Along hears trace a.wire later w) (sym (ap (λ m. m.wire) is)) along,
-      (entry, others, onto m later, first, due, (result, k), ap (λ m. onto m later) is),
+      (entry, others, over_trace m later, first, due, (result, k), ap (λ m. over_trace m later) is),
     )
 
 lift_plays : {W : Type 0} (hears : W → Heard → W → Type 0) (config : Config) (a b : DriverView W) (trace : List Heard)
@@ -291,7 +293,7 @@ lift_plays hears config a b trace (n, each, none) =
 lift_counts : {W : Type 0} (hears : W → Heard → W → Type 0) (result : Result Did Refused) (config : Config) (a b : DriverView W)
     (trace : List Heard) → Counts result config a b → Lifts hears (Counts result) config a b trace
 lift_counts hears (Ok did) config a b trace is =
-    (trace, along_none hears trace a.wire b.wire (ap (λ m. m.wire) is), ap (λ m. onto m trace) is)
+    (trace, along_none hears trace a.wire b.wire (ap (λ m. m.wire) is), ap (λ m. over_trace m trace) is)
 lift_counts hears (Err refused) config a b trace is = lift_same hears config a b trace is
 
 lift_tick : {W : Type 0} (hears : W → Heard → W → Type 0) (config : Config) (a b : DriverView W) (trace : List Heard)
@@ -341,30 +343,30 @@ lift_sweep hears ticks config m0 m10 trace
           (follow t3 t4 m3 m4
           (follow t2 t3 m2 m3 (follow t1 t2 m1 m2 a1 a2) a3) a4) a5) a6) a7) a8) a9) a10,
       (
-        onto m1 t1,
+        over_trace m1 t1,
         k1,
         (
-          onto m2 t2,
+          over_trace m2 t2,
           k2,
           (
-            onto m3 t3,
+            over_trace m3 t3,
             k3,
             (
-              onto m4 t4,
+              over_trace m4 t4,
               k4,
               (
-                onto m5 t5,
+                over_trace m5 t5,
                 k5,
                 (
-                  onto m6 t6,
+                  over_trace m6 t6,
                   k6,
                   (
-                    onto m7 t7,
+                    over_trace m7 t7,
                     k7,
                     (
-                      onto m8 t8,
+                      over_trace m8 t8,
                       k8,
-                      (onto m9 t9, k9, k10),
+                      (over_trace m9 t9, k9, k10),
                     ),
                   ),
                 ),

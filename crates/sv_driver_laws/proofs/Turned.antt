@@ -29,7 +29,7 @@ use Rattle.sv_serve.specs.Steps.{Given, EndsTurn, TurnsIf, Turns}
 use Rattle.sv_driver_laws.specs.Served.{Takes, IsWritten}
 use Rattle.sv_driver_laws.proofs.Keeps.{Subject, Keeps, keeps_none, keeps_then, inner_by}
 use Rattle.sv_driver_laws.proofs.Carrying.{ends}
-use Rattle.sv_driver_laws.proofs.GoingOn.{is_bytes, brought, Elsewhere, Unread, brought_outer, brought_piece, bytes_outer, bytes_piece, may_all}
+use Rattle.sv_driver_laws.proofs.GoingOn.{is_bytes, acts_brought, Elsewhere, Unread, brought_outer, brought_piece, bytes_outer, bytes_piece, may_all}
 
 -- ---- a connection that had its turn
 
@@ -45,9 +45,9 @@ pub record HadTurn (config : Config) (c : ℕ) (history events : List PlainEvent
   pub takes : Takes config c before turn
 
 -- If no bytes come with them, further events may follow.
-abbrev pub had_more : (config : Config) (c : ℕ) (history events more : List PlainEvent) → filter is_bytes more ≡ []
+abbrev pub had_turn_more_events : (config : Config) (c : ℕ) (history events more : List PlainEvent) → filter is_bytes more ≡ []
     → HadTurn config c history events → HadTurn config c history (more ++ events)
-had_more config c history events more unread t = record {
+had_turn_more_events config c history events more unread t = record {
   first = t.first;
   turn = t.turn;
   behind = more ++ t.behind;
@@ -62,7 +62,7 @@ had_more config c history events more unread t = record {
 pub record Turned (config : Config) (c : ℕ) (history events : List PlainEvent) : Type 0 where
   pub had : HadTurn config c history events
   pub open had use *
-  pub untouched : brought c behind ≡ []
+  pub untouched : acts_brought c behind ≡ []
 
 -- The connection has its turn now.
 turned_by : (config : Config) (c : ℕ) (now history events turn : List PlainEvent) (log : List Act) → now ≡ events ++ history
@@ -81,10 +81,11 @@ turned_by config c now history events turn log is was takes = record {
   untouched = refl;
 }
 
-pub turned_more : (config : Config) (c : ℕ) (history events more : List PlainEvent) → filter is_bytes more ≡ [] → brought c more ≡ []
+pub turned_more_events : (config : Config) (c : ℕ) (history events more : List PlainEvent) → filter is_bytes more ≡ []
+    → acts_brought c more ≡ []
     → Turned config c history events → Turned config c history (more ++ events)
-turned_more config c history events more unread untouched t = record {
-  had = had_more config c history events more unread t.had;
+turned_more_events config c history events more unread untouched t = record {
+  had = had_turn_more_events config c history events more unread t.had;
   untouched = flat_map-append (brings c) more t.behind ∙ rw (untouched, t.untouched) refl;
 }
 
@@ -112,7 +113,7 @@ offers_more c log piece more (inr (bytes, answer, newer, older, is)) = inr (
 pub offered_more : (config : Config) (c : ℕ) (history events more : List PlainEvent) (piece later : List Heard) → filter is_bytes more ≡ []
     → Offered config c history events piece → Offered config c history (more ++ events) (later ++ piece)
 offered_more config c history events more piece later unread t = record {
-  had = had_more config c history events more unread t.had;
+  had = had_turn_more_events config c history events more unread t.had;
   offers = λ after is. offers_more c after piece later (t.offers after is);
 }
 
@@ -135,14 +136,14 @@ keeps_unread hears May config a b so k = bytes_outer k.events ∙ ap (filter is_
     ∙ bytes_piece k.piece (may_all May Unread k.piece so k.may)
 
 pub keeps_elsewhere : {W : Type 0} (hears : W → Heard → W → Type 0) (May : Subject → Type 0) (config : Config) (a b : DriverView W) (c : ℕ)
-    → ((s : Subject) → May s → Elsewhere c s) → (k : Keeps hears May config a b) → brought c k.events ≡ []
-keeps_elsewhere hears May config a b c so k = brought_outer c k.events ∙ ap (brought c) k.told
+    → ((s : Subject) → May s → Elsewhere c s) → (k : Keeps hears May config a b) → acts_brought c k.events ≡ []
+keeps_elsewhere hears May config a b c so k = brought_outer c k.events ∙ ap (acts_brought c) k.told
     ∙ brought_piece c k.piece (may_all May (Elsewhere c) k.piece so k.may)
 
 pub turned_keeps : {W : Type 0} (hears : W → Heard → W → Type 0) (May : Subject → Type 0) (config : Config) (a b : DriverView W) (c : ℕ)
     (history events : List PlainEvent) → ((s : Subject) → May s → Unread s) → ((s : Subject) → May s → Elsewhere c s)
     → (k : Keeps hears May config a b) → Turned config c history events → Turned config c history (k.events ++ events)
-turned_keeps hears May config a b c history events so also k t = turned_more config c history events k.events
+turned_keeps hears May config a b c history events so also k t = turned_more_events config c history events k.events
     (keeps_unread hears May config a b so k) (keeps_elsewhere hears May config a b c also k) t
 
 pub record TurnStep {W : Type 0} (hears : W → Heard → W
@@ -150,13 +151,13 @@ pub record TurnStep {W : Type 0} (hears : W → Heard → W
   pub k : Keeps hears Nobody config x y
   pub turned : Turned config c history (k.events ++ events)
 
-pub idle_so : (b : Bool) → false ≡ not b → b ≡ true
-idle_so true e = refl
-idle_so false e = absurd cc
+pub not_ready_is_idle : (b : Bool) → false ≡ not b → b ≡ true
+not_ready_is_idle true e = refl
+not_ready_is_idle false e = absurd cc
 
-pub busy_so : (b : Bool) → true ≡ not b → b ≡ false
-busy_so true e = absurd cc
-busy_so false e = refl
+pub ready_is_not_idle : (b : Bool) → true ≡ not b → b ≡ false
+ready_is_not_idle true e = absurd cc
+ready_is_not_idle false e = refl
 
 pub clear_idle : (acts : List ConnAct) → IsClear acts → false ≡ not (is_idle acts)
 clear_idle [] h = nothing_idle [] refl
@@ -172,27 +173,28 @@ pub role_none : (found : Option Role) → is_some found ≡ false → found ≡ 
 role_none (Some role) e = absurd cc
 role_none None e = refl
 
-pub short_by : (far opened idle few : Bool) (refused : Refused)
+pub refused_turn_has_no_room_by : (far opened idle few : Bool) (refused : Refused)
     → cond (far || not opened) (Some NoConn) (cond idle None (cond few (Some NoRoom) None)) ≡ Some refused
     → far ≡ false → idle ≡ false → (opened ≡ false → ⊥) → few ≡ true
-short_by true opened idle few refused h far busy some = absurd cc
-short_by false false idle few refused h far busy some = absurd (some refl)
-short_by false true true few refused h far busy some = absurd cc
-short_by false true false true refused h far busy some = refl
-short_by false true false false refused h far busy some = absurd cc
+refused_turn_has_no_room_by true opened idle few refused h far busy some = absurd cc
+refused_turn_has_no_room_by false false idle few refused h far busy some = absurd (some refl)
+refused_turn_has_no_room_by false true true few refused h far busy some = absurd cc
+refused_turn_has_no_room_by false true false true refused h far busy some = refl
+refused_turn_has_no_room_by false true false false refused h far busy some = absurd cc
 
 -- If a Turn is refused, though there is a call to take, and not for lack of memory, there is no
 -- room for the longest reply.
-pub short : (config : Config) (history : List PlainEvent) (log : List Act) (c : ℕ) (channel_log : List ChannelAct) (refused : Refused)
+pub refused_turn_has_no_room : (config : Config) (history : List PlainEvent) (log : List Act) (c : ℕ) (channel_log : List ChannelAct)
+    (refused : Refused)
     → c < 16
     → IsLogOf config history log → true ≡ not (is_idle (of c log)) → refusal config channel_log (Turn c) log ≡ Some refused
     → free (of c log) < longest_reply
-short config history log c channel_log refused lt was ready h =
-    let busy = busy_so (is_idle (of c log)) ready in
-    ltb-true (free (of c log)) longest_reply (short_by (nat_lt 15 c) (is_open (of c log)) (is_idle (of c log))
+refused_turn_has_no_room config history log c channel_log refused lt was ready h =
+    let busy = ready_is_not_idle (is_idle (of c log)) ready in
+    ltb-true (free (of c log)) longest_reply (refused_turn_has_no_room_by (nat_lt 15 c) (is_open (of c log)) (is_idle (of c log))
     (nat_lt (free (of c log)) longest_reply) refused h (le-ltb 15 c (omega (arith, lt))) busy
     (λ shut.
-    let idle = idle_so (is_idle (of c log)) (clear_idle (of c log) (shut_is_clear config history log c was
+    let idle = not_ready_is_idle (is_idle (of c log)) (clear_idle (of c log) (shut_is_clear config history log c was
     (role_none (open_role (of c log)) shut))) in
     let z : true ≡ false = sym idle ∙ busy in cc))
 
@@ -208,7 +210,7 @@ step_err hears config c NoMemory x between y history events log lt is was ready 
 step_err hears config c refused x between y history events log lt is was ready (channel_log, tells, says) same to = record {
   k = keeps_none hears Nobody config x y (to ∙ same);
   turned = turned_by config c x.history history events [] log is was
-      (inr (inr (refl, inr (short config x.history log c channel_log refused lt was ready says))));
+      (inr (inr (refl, inr (refused_turn_has_no_room config x.history log c channel_log refused lt was ready says))));
 }
 
 pub step_answer : {W : Type 0} (hears : W → Heard → W → Type 0) (config : Config) (c : ℕ) (result : Result Did Refused)
@@ -232,7 +234,7 @@ pub step_ready : {W : Type 0} (hears : W → Heard → W → Type 0) (config : C
     → TurnStep hears config c history events x y
 step_ready hears config c false x y history events log lt is was idle same = record {
   k = keeps_none hears Nobody config x y same;
-  turned = turned_by config c x.history history events [] log is was (inr (inr (refl, inl (idle_so (is_idle (of c log)) idle))));
+  turned = turned_by config c x.history history events [] log is was (inr (inr (refl, inl (not_ready_is_idle (is_idle (of c log)) idle))));
 }
 step_ready hears config c true x y history events log lt is was ready (result, (between, bytes_taken, ends)) =
     step_answer hears config c result x between y history events log lt is was ready bytes_taken ends

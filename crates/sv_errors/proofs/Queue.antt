@@ -21,9 +21,9 @@ reported acts = unwrap_or (newest_report acts) NoError
 -- ---- the admitted reports that weren't taken
 
 -- A report for which there is room is added as the newest.
-left_admitted : (before : Counted) (place : ℕ) → before.taken ≤ length before.admitted → length (left before) < most
+admitted_is_newest : (before : Counted) (place : ℕ) → before.taken ≤ length before.admitted → length (left before) < most
     → left (admit before place) ≡ left before ++ place ∷ []
-left_admitted before place few room = rw (lt-ltb (length (left before)) most room)
+admitted_is_newest before place few room = rw (lt-ltb (length (left before)) most room)
     (drop-append-le before.taken before.admitted (place ∷ []) few)
 
 -- A report to a full queue isn't admitted.
@@ -36,8 +36,8 @@ any_or_none [] = inr (refl, refl)
 any_or_none (place ∷ places) = inl (refl, omega arith)
 
 -- A take removes the oldest.
-left_taken : (before : Counted) → left (take_one before) ≡ drop 1 (left before)
-left_taken before = elim (any_or_none (left before)) [
+take_removes_oldest : (before : Counted) → left (take_one before) ≡ drop 1 (left before)
+take_removes_oldest before = elim (any_or_none (left before)) [
   | inl some ↦ rw some.0 (sym (drop-drop 1 before.taken before.admitted))
   | inr none ↦ rw none.0 (none.1 ∙ sym (ap (drop 1) none.1))
 ]
@@ -154,7 +154,7 @@ record IsValid (acts : List QueueAct) : Type 0 where
 
 entries_reported : (code : Code) (acts : List QueueAct) → IsValid acts → length (entries acts) < most
     → entries (Report code ∷ acts) ≡ entries acts ++ (length acts + 1) ∷ []
-entries_reported code acts is room = left_admitted (count_acts acts) (length acts + 1) is.taken room
+entries_reported code acts is room = admitted_is_newest (count_acts acts) (length acts + 1) is.taken room
 
 reported_full : (code : Code) (acts : List QueueAct) → IsValid acts → length (entries acts) < most
     → length (entries (Report code ∷ acts)) ≡ most
@@ -231,7 +231,7 @@ valid_overflowed code acts is full =
 -- ---- a take
 
 entries_taken : (acts : List QueueAct) → entries (Take ∷ acts) ≡ drop 1 (entries acts)
-entries_taken acts = left_taken (count_acts acts)
+entries_taken acts = take_removes_oldest (count_acts acts)
 
 valid_taken : (acts : List QueueAct) → IsValid acts → IsValid (Take ∷ acts)
 valid_taken acts is =
@@ -267,14 +267,14 @@ shown_entries : (act : QueueAct) (acts : List QueueAct) → (is_full acts && is_
 shown_entries act acts quiet = map_same (λ place. place ≤ length acts) (entry_code (act ∷ acts)) (entry_code acts) (entries acts)
     (λ place le. shown_same place act acts quiet le) (valid acts).within
 
-pub length_queued : (acts : List QueueAct) → length (queue_codes acts) ≡ length (entries acts)
-length_queued acts = length-map (entries acts) (entry_code acts)
+pub codes_per_entry : (acts : List QueueAct) → length (queue_codes acts) ≡ length (entries acts)
+codes_per_entry acts = length-map (entries acts) (entry_code acts)
 
 -- A report for which there is room adds its code as the newest.
-pub queued_reported : (code : Code) (acts : List QueueAct) → length (queue_codes acts) < most
+pub codes_after_report : (code : Code) (acts : List QueueAct) → length (queue_codes acts) < most
     → queue_codes (Report code ∷ acts) ≡ queue_codes acts ++ code ∷ []
-queued_reported code acts few =
-    let room : length (entries acts) < most = omega (arith, few, length_queued acts) in
+codes_after_report code acts few =
+    let room : length (entries acts) < most = omega (arith, few, codes_per_entry acts) in
     let quiet : (is_full acts && true) ≡ false = ap (λ (b : Bool). b && true) (ne_eqb (length (entries acts)) most (λ e. omega arith)) in
     ap (map (entry_code (Report code ∷ acts))) (entries_reported code acts (valid acts) room)
     ∙ map_push (entry_code (Report code ∷ acts)) (entries acts) (length acts + 1)
@@ -288,10 +288,10 @@ full_shown : (acts : List QueueAct) (now : List QueueAct) (is : IsFull acts)
 full_shown acts now is = ap (map (entry_code now)) is.split ∙ map_push (entry_code now) is.front is.last
 
 -- A report to a full queue replaces the newest code by the overflow code.
-pub queued_overflowed : (code : Code) (acts : List QueueAct) → length (queue_codes acts) ≡ most
+pub codes_after_overflow : (code : Code) (acts : List QueueAct) → length (queue_codes acts) ≡ most
     → queue_codes (Report code ∷ acts) ≡ take (most - 1) (queue_codes acts) ++ QueueOverflow ∷ []
-queued_overflowed code acts full =
-    let many = sym (length_queued acts) ∙ full in
+codes_after_overflow code acts full =
+    let many = sym (codes_per_entry acts) ∙ full in
     let is = (valid acts).full many in
     let front : take (most - 1) (queue_codes acts) ≡ map (entry_code acts) is.front =
     ap (take (most - 1)) (full_shown acts acts is) ∙ take_at (map (entry_code acts) is.front) (entry_code acts is.last ∷ []) (most - 1)
@@ -304,8 +304,8 @@ queued_overflowed code acts full =
     (λ place lt. shown_older place (Report code) acts lt) is.older ∙ sym front)
 
 -- A take removes the oldest code.
-pub queued_taken : (acts : List QueueAct) → queue_codes (Take ∷ acts) ≡ drop 1 (queue_codes acts)
-queued_taken acts =
+pub codes_after_take : (acts : List QueueAct) → queue_codes (Take ∷ acts) ≡ drop 1 (queue_codes acts)
+codes_after_take acts =
     ap (map (entry_code (Take ∷ acts))) (entries_taken acts) ∙ sym (drop-map (entry_code (Take ∷ acts)) 1 (entries acts))
     ∙ ap (drop 1) (shown_entries Take acts (and_right (is_full acts) false refl))
 
@@ -314,13 +314,13 @@ queued_taken acts =
 lost_reported : (code : Code) (acts : List QueueAct) → length (queue_codes acts) < most → lost (Report code ∷ acts) ≡ lost acts
 lost_reported code acts few =
     let room : (length (entries acts) == most) ≡ false =
-    ne_eqb (length (entries acts)) most (λ e. omega (arith, few, length_queued acts)) in
+    ne_eqb (length (entries acts)) most (λ e. omega (arith, few, codes_per_entry acts)) in
     let step : lost (Report code ∷ acts) ≡ lost acts + 0 = ap (λ (b : Bool). lost acts + cond b 1 0) room in
     omega (arith, step)
 
 lost_overflowed : (code : Code) (acts : List QueueAct) → length (queue_codes acts) ≡ most → lost (Report code ∷ acts) ≡ lost acts + 1
 lost_overflowed code acts full =
-    ap (λ (b : Bool). lost acts + cond b 1 0) (eq-eqb (length (entries acts)) most (sym (length_queued acts) ∙ full))
+    ap (λ (b : Bool). lost acts + cond b 1 0) (eq-eqb (length (entries acts)) most (sym (codes_per_entry acts) ∙ full))
 
 -- ---- the queue stands for the acts
 
@@ -330,7 +330,7 @@ pub stands_for_reported : (queue : Queue) (code : Code) (acts : List QueueAct) �
 stands_for_reported queue code acts room stands =
     let few : length (queue_codes acts) < most = omega (arith, room, ap length stands.codes) in
     record {
-      codes = ap (λ (cs : List Code). cs ++ code ∷ []) stands.codes ∙ sym (queued_reported code acts few);
+      codes = ap (λ (cs : List Code). cs ++ code ∷ []) stands.codes ∙ sym (codes_after_report code acts few);
       lost_count = stands.lost_count ∙ ap (λ (n : ℕ). min n most_lost) (sym (lost_reported code acts few));
     }
 
@@ -341,7 +341,7 @@ pub stands_for_overflowed : (queue : Queue) (code : Code) (acts : List QueueAct)
 stands_for_overflowed queue code acts full stands =
     let many : length (queue_codes acts) ≡ most = sym (ap length stands.codes) ∙ full in
     record {
-      codes = ap (λ (cs : List Code). take (most - 1) cs ++ QueueOverflow ∷ []) stands.codes ∙ sym (queued_overflowed code acts many);
+      codes = ap (λ (cs : List Code). take (most - 1) cs ++ QueueOverflow ∷ []) stands.codes ∙ sym (codes_after_overflow code acts many);
       lost_count = omega (arith, stands.lost_count, lost_overflowed code acts many);
     }
 
@@ -351,7 +351,7 @@ pub stands_for_taken : (queue : Queue) (acts : List QueueAct) → StandsFor queu
 stands_for_taken queue acts stands =
     let same : lost (Take ∷ acts) ≡ lost acts = omega arith in
     record {
-      codes = ap (drop 1) stands.codes ∙ sym (queued_taken acts);
+      codes = ap (drop 1) stands.codes ∙ sym (codes_after_take acts);
       lost_count = stands.lost_count ∙ ap (λ (n : ℕ). min n most_lost) (sym same);
     }
 

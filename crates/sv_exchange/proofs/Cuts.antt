@@ -24,44 +24,47 @@ messages_some (Byte b ∷ symbols) = at (b == 10)
     at false = onto_some b (messages symbols)
 
 -- The last part of `before` continues with the first part of `new`, and the others follow.
-abbrev GoesOn : List (List ℕ) → List (List ℕ) → List (List ℕ) → Type 0
-GoesOn before after new = (k : ℕ) (last first : List ℕ) (others : List (List ℕ)) → drop k before ≡ last ∷ [] → new ≡ first ∷ others
+abbrev ContinuesLast : List (List ℕ) → List (List ℕ) → List (List ℕ) → Type 0
+ContinuesLast before after new = (k : ℕ) (last first : List ℕ) (others : List (List ℕ)) → drop k before ≡ last ∷ [] → new ≡ first ∷ others
     → drop k after ≡ (last ++ first) ∷ others
 
 -- The same if an empty part comes before them.
-goes_on_behind : (before after new : List (List ℕ)) → HasFirst before → GoesOn before after new → GoesOn ([] ∷ before) ([] ∷ after) new
-goes_on_behind before after new some goes zero last first others h e = let f = some.2 in absurd cc
-goes_on_behind before after new some goes (suc k) last first others h e = goes k last first others h e
+continues_after_empty : (before after new : List (List ℕ)) → HasFirst before → ContinuesLast before after new
+    → ContinuesLast ([] ∷ before) ([] ∷ after) new
+continues_after_empty before after new some goes zero last first others h e = let f = some.2 in absurd cc
+continues_after_empty before after new some goes (suc k) last first others h e = goes k last first others h e
 
 -- The same if a byte comes before them.
-goes_on_onto : (b : ℕ) (before after new : List (List ℕ)) → HasFirst before → HasFirst after → GoesOn before after new
-    → GoesOn (onto b before) (onto b after) new
-goes_on_onto b before after new some more goes zero last first others h e =
+continues_with_byte : (b : ℕ) (before after new : List (List ℕ)) → HasFirst before → HasFirst after → ContinuesLast before after new
+    → ContinuesLast (onto b before) (onto b after) new
+continues_with_byte b before after new some more goes zero last first others h e =
     let o : onto b before ≡ (b ∷ some.0) ∷ some.1 = ap (onto b) some.2 in
     let none : some.1 ≡ [] = cc in
     let front : b ∷ some.0 ≡ last = cc in
     let f = some.2 in
     ap (onto b) (goes 0 some.0 first others (cc) e) ∙ ap (λ (l : List ℕ). (l ++ first) ∷ others) front
-goes_on_onto b before after new some more goes (suc k) last first others h e =
+continues_with_byte b before after new some more goes (suc k) last first others h e =
     let rest : drop k some.1 ≡ last ∷ [] = sym (ap (λ (ps : List (List ℕ)). drop (suc k) (onto b ps)) some.2) ∙ h in
     ap (λ (ps : List (List ℕ)). drop (suc k) (onto b ps)) more.2 ∙ sym (ap (drop (suc k)) more.2)
     ∙ goes (suc k) last first others (ap (drop (suc k)) some.2 ∙ rest) e
 
 -- Further text continues the last message.
-pub messages_append : (old new : List Symbol) → GoesOn (messages old) (messages (old ++ new)) (messages new)
-messages_append [] new zero last first others h e = let l : [] ≡ last = cc in e ∙ ap (λ (l : List ℕ). (l ++ first) ∷ others) l
-messages_append [] new (suc zero) last first others h e = absurd cc
-messages_append [] new (suc (suc k)) last first others h e = absurd cc
-messages_append (End ∷ old) new k last first others h e =
-    goes_on_behind (messages old) (messages (old ++ new)) (messages new) (messages_some old)
-    (messages_append old new) k last first others h e
-messages_append (Byte b ∷ old) new k last first others h e = at (b == 10) (messages_append old new) k last first others h e
+pub more_text_continues_last : (old new : List Symbol) → ContinuesLast (messages old) (messages (old ++ new)) (messages new)
+more_text_continues_last [] new zero last first others h e = let l : [] ≡ last = cc in e ∙ ap (λ (l : List ℕ). (l ++ first) ∷ others) l
+more_text_continues_last [] new (suc zero) last first others h e = absurd cc
+more_text_continues_last [] new (suc (suc k)) last first others h e = absurd cc
+more_text_continues_last (End ∷ old) new k last first others h e =
+    continues_after_empty (messages old) (messages (old ++ new)) (messages new) (messages_some old)
+    (more_text_continues_last old new) k last first others h e
+more_text_continues_last (Byte b ∷ old) new k last first others h e = at (b == 10) (more_text_continues_last old new) k last first others h
+    e
   where
-    at : (t : Bool) → GoesOn (messages old) (messages (old ++ new)) (messages new)
-        → GoesOn (cond t ([] ∷ messages old) (onto b (messages old))) (cond t ([] ∷ messages (old ++ new)) (onto b (messages (old ++ new))))
+    at : (t : Bool) → ContinuesLast (messages old) (messages (old ++ new)) (messages new)
+        → ContinuesLast (cond t ([] ∷ messages old) (onto b (messages old)))
+            (cond t ([] ∷ messages (old ++ new)) (onto b (messages (old ++ new))))
         (messages new)
-    at true goes = goes_on_behind (messages old) (messages (old ++ new)) (messages new) (messages_some old) goes
-    at false goes = goes_on_onto b (messages old) (messages (old ++ new)) (messages new) (messages_some old)
+    at true goes = continues_after_empty (messages old) (messages (old ++ new)) (messages new) (messages_some old) goes
+    at false goes = continues_with_byte b (messages old) (messages (old ++ new)) (messages new) (messages_some old)
         (messages_some (old ++ new)) goes
 
 -- The first message has the first `n` of the `size` bytes; a new line or END ends it.
@@ -80,12 +83,12 @@ cut_behind_cons b n m bytes mark e =
     ]
 
 -- The first message of a text, and those after it.
-pub first_cut : (bytes : List ℕ) (mark : Bool)
+pub first_message_is_cut : (bytes : List ℕ) (mark : Bool)
     → messages (symbols bytes mark) ≡ take (first_size bytes) bytes
     ∷ following (has_line bytes || mark) (drop (second_at bytes) bytes) (has_line bytes && mark)
-first_cut [] true = refl
-first_cut [] false = refl
-first_cut (b ∷ bytes) mark = at (b == 10) (first_cut bytes mark)
+first_message_is_cut [] true = refl
+first_message_is_cut [] false = refl
+first_message_is_cut (b ∷ bytes) mark = at (b == 10) (first_message_is_cut bytes mark)
   where
     at : (t : Bool) → messages (symbols bytes mark) ≡ cut_behind (first_size bytes) (length bytes) bytes mark
         → cond t ([] ∷ messages (symbols bytes mark)) (onto b (messages (symbols bytes mark)))

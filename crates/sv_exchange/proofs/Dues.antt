@@ -19,8 +19,8 @@ ended_by parts k message false later mark e =
     let size : length parts - k ≡ 1 = sym (length-drop k parts) ∙ ap length e in
     le-ltb (k + 1) (length parts) (omega arith)
 
-pub ended_is : (contents : Contents) (acts : List ExchangeAct) → StandsFor contents acts → has_ended acts ≡ contents.ended
-ended_is contents acts s =
+pub has_ended_by_contents : (contents : Contents) (acts : List ExchangeAct) → StandsFor contents acts → has_ended acts ≡ contents.ended
+has_ended_by_contents contents acts s =
     ended_by (messages (text acts)) (messages_finished acts) s.message contents.ended contents.later contents.end_pending s.text_left
 
 part_at : (parts : List (List ℕ)) (k : ℕ) (message : List ℕ) (others : List (List ℕ)) → drop k parts ≡ message ∷ others
@@ -29,11 +29,11 @@ part_at parts k message others e =
     let place : k + 0 ≡ k = omega arith in
     sym (ap (λ (n : ℕ). get_or parts n []) place) ∙ sym (get_or-drop k parts 0 []) ∙ ap (λ (ps : List (List ℕ)). get_or ps 0 []) e
 
-pub message_is : (contents : Contents) (acts : List ExchangeAct) (s : StandsFor contents acts) → message acts ≡ s.message
-message_is contents acts s = part_at (messages (text acts)) (messages_finished acts) s.message _ s.text_left
+pub message_by_contents : (contents : Contents) (acts : List ExchangeAct) (s : StandsFor contents acts) → message acts ≡ s.message
+message_by_contents contents acts s = part_at (messages (text acts)) (messages_finished acts) s.message _ s.text_left
 
-pub long_is : (contents : Contents) (acts : List ExchangeAct) → StandsFor contents acts → is_long acts ≡ contents.overlong
-long_is contents acts s = ap (λ (m : List ℕ). nat_lt max_message (length m)) (message_is contents acts s) ∙ sym s.size
+pub is_long_by_contents : (contents : Contents) (acts : List ExchangeAct) → StandsFor contents acts → is_long acts ≡ contents.overlong
+is_long_by_contents contents acts s = ap (λ (m : List ℕ). nat_lt max_message (length m)) (message_by_contents contents acts s) ∙ sym s.size
 
 -- The stored output determines what can be read.
 pub shown_is : (answering : Bool) (out : List ℕ) (given : List (List ℕ)) (readable : List ℕ) → IsShown answering out given readable
@@ -59,11 +59,11 @@ same_unit true false false x y h = h refl
 same_unit false long lost x y h = refl
 
 -- The next unit is the first one in the rest of the message.
-pub unit_is : (contents : Contents) (acts : List ExchangeAct) → StandsFor contents acts → next_unit acts ≡ unit_of contents
-unit_is contents acts s =
-    let ended = ended_is contents acts s in
-    let long = long_is contents acts s in
-    let message_here = message_is contents acts s in
+pub next_unit_by_contents : (contents : Contents) (acts : List ExchangeAct) → StandsFor contents acts → next_unit acts ≡ unit_of contents
+next_unit_by_contents contents acts s =
+    let ended = has_ended_by_contents contents acts s in
+    let long = is_long_by_contents contents acts s in
+    let message_here = message_by_contents contents acts s in
     let found : contents.overlong ≡ false
     → slice_get (units (message acts)) (units_done (current acts)) ≡ slice_get (units contents.rest) 0 =
     λ short. ap (λ (m : List ℕ). slice_get (units m) (units_done (current acts))) message_here
@@ -89,18 +89,19 @@ abbrev due_by : Bool → Bool → Option (List ℕ) → Bool → Bool → Due
 due_by long told unit interrupts ended = cond (long && not told) OverrunDue (due_unit unit interrupts ended)
 
 -- The contents and the acts determine the same step.
-pub due_is : (contents : Contents) (acts : List ExchangeAct) → StandsFor contents acts → next_of contents ≡ due acts
-due_is contents acts s =
+pub due_by_contents : (contents : Contents) (acts : List ExchangeAct) → StandsFor contents acts → next_of contents ≡ due acts
+due_by_contents contents acts s =
     let interrupts = interrupts_is (units_done (current acts) == 0) (response acts) s.no_response
     ∙ ap is_something (readable_is contents acts s) in
     let told = has_overrun (current acts) in
     let first = (units_done (current acts) == 0) && is_something (response acts) in
-    sym (ap (λ (b : Bool). due_by b told (next_unit acts) first (has_ended acts)) (long_is contents acts s)
+    sym (ap (λ (b : Bool). due_by b told (next_unit acts) first (has_ended acts)) (is_long_by_contents contents acts s)
     ∙ ap (λ (b : Bool). due_by contents.overlong b (next_unit acts) first (has_ended acts)) s.overrun_reported
-    ∙ ap (λ (u : Option (List ℕ)). due_by contents.overlong contents.overrun_reported u first (has_ended acts)) (unit_is contents acts s)
+    ∙ ap (λ (u : Option (List ℕ)). due_by contents.overlong contents.overrun_reported u first (has_ended acts))
+        (next_unit_by_contents contents acts s)
     ∙ ap (λ (b : Bool). due_by contents.overlong contents.overrun_reported (unit_of contents) b (has_ended acts)) interrupts
     ∙ ap (λ (b : Bool). due_by contents.overlong contents.overrun_reported (unit_of contents) (is_something (shown_by contents)) b)
-    (ended_is contents acts s))
+    (has_ended_by_contents contents acts s))
 
 -- If a unit is due, its message has ended, isn't too long, lost no answers, and no response is
 -- left.
@@ -110,8 +111,8 @@ pub record IsAtUnit (contents : Contents) : Type 0 where
   pub kept : contents.answers_dropped ≡ false
   pub no_response : is_something (shown_by contents) ≡ false
 
-pub at_unit : (contents : Contents) → IsUnitDue (next_of contents) → IsAtUnit contents
-at_unit contents due =
+pub unit_due_state : (contents : Contents) → IsUnitDue (next_of contents) → IsAtUnit contents
+unit_due_state contents due =
     at contents.ended contents.overlong contents.overrun_reported contents.answers_dropped (is_something (shown_by contents))
     (slice_get (units contents.rest) 0) refl refl refl refl due.1
   where
@@ -130,8 +131,8 @@ at_unit contents due =
     at true false told false false found e f g h is = record { ended = e; short = f; kept = g; no_response = h }
 
 -- A message is finished only after it has ended.
-pub at_finish : (contents : Contents) → next_of contents ≡ FinishDue → contents.ended ≡ true
-at_finish contents due =
+pub finish_due_has_ended : (contents : Contents) → next_of contents ≡ FinishDue → contents.ended ≡ true
+finish_due_has_ended contents due =
     at contents.ended contents.overlong contents.overrun_reported (is_something (shown_by contents)) (unit_of contents) refl due
   where
     at : (ended long told something : Bool) (found : Option (List ℕ)) → contents.ended ≡ ended
@@ -146,8 +147,9 @@ at_finish contents due =
     at false false told false (Some unit) e is = absurd cc
 
 -- After the response is dropped, the unit that interrupted it is due.
-pub at_interrupt : (contents : Contents) → next_of contents ≡ InterruptDue → IsUnitDue (next_of (record contents { output = [] }))
-at_interrupt contents due =
+pub unit_due_after_interrupt : (contents : Contents) → next_of contents ≡ InterruptDue
+    → IsUnitDue (next_of (record contents { output = [] }))
+unit_due_after_interrupt contents due =
     at contents.overlong contents.overrun_reported contents.answering (unit_of contents) (is_something (shown_by contents)) contents.ended
     due
   where
@@ -167,8 +169,8 @@ at_interrupt contents due =
     at false told false (Some unit) true ended is = (unit, refl)
 
 -- Only a response that can be read is interrupted.
-pub at_response : (contents : Contents) → next_of contents ≡ InterruptDue → is_something (shown_by contents) ≡ true
-at_response contents due =
+pub interrupt_due_has_response : (contents : Contents) → next_of contents ≡ InterruptDue → is_something (shown_by contents) ≡ true
+interrupt_due_has_response contents due =
     at contents.overlong contents.overrun_reported (unit_of contents) (is_something (shown_by contents)) contents.ended due
   where
     at : (long told : Bool) (found : Option (List ℕ)) (something ended : Bool) → due_by long told found something ended ≡ InterruptDue
@@ -195,7 +197,7 @@ same_size false false n m h = ap Some (h refl refl)
 pub unended_is : (contents : Contents) (acts : List ExchangeAct) → StandsFor contents acts
     → cond (has_ended acts || is_long acts) None (Some (length (message acts))) ≡ unended_in contents
 unended_is contents acts s =
-    ap (λ (b : Bool). cond (b || is_long acts) None (Some (length (message acts)))) (ended_is contents acts s)
-    ∙ ap (λ (b : Bool). cond (contents.ended || b) None (Some (length (message acts)))) (long_is contents acts s)
-    ∙ ap (λ (m : List ℕ). cond (contents.ended || contents.overlong) None (Some (length m))) (message_is contents acts s)
+    ap (λ (b : Bool). cond (b || is_long acts) None (Some (length (message acts)))) (has_ended_by_contents contents acts s)
+    ∙ ap (λ (b : Bool). cond (contents.ended || b) None (Some (length (message acts)))) (is_long_by_contents contents acts s)
+    ∙ ap (λ (m : List ℕ). cond (contents.ended || contents.overlong) None (Some (length m))) (message_by_contents contents acts s)
     ∙ same_size contents.ended contents.overlong _ _ (λ e l. ap (λ (m : List ℕ). length m) (s.whole e l))

@@ -8,23 +8,23 @@ use Rattle.sv_exchange.specs.Fields.{contents_of, IsText, IsOut, first_size, sec
 use Rattle.sv_exchange.specs.Limits.{max_message}
 
 -- The text after the current message is at most one write.
-pub few_later : (text : List ℕ) (at end behind : ℕ) (ended : Bool) → IsText ended (length text) at end behind
+pub later_is_one_write : (text : List ℕ) (at end behind : ℕ) (ended : Bool) → IsText ended (length text) at end behind
     → length (drop behind text) ≤ max_message
-few_later text at end behind true t = omega (arith, length-drop behind text)
-few_later text at end behind false t = omega (arith, length-drop behind text)
+later_is_one_write text at end behind true t = omega (arith, length-drop behind text)
+later_is_one_write text at end behind false t = omega (arith, length-drop behind text)
 
 pub rest_size : (text : List ℕ) (at end : ℕ) → at ≤ end → end ≤ length text → length (slice_range text at end) ≡ end - at
 rest_size text at end le within = length-take-le (end - at) (drop at text) (omega (arith, length-drop at text))
 
 -- Bytes of the current message were executed.
-pub done_holds : (text : List ℕ) (at end behind : ℕ) (ended mark long told lost answering : Bool) (response : List ℕ)
+pub contents_after_unit : (text : List ℕ) (at end behind : ℕ) (ended mark long told lost answering : Bool) (response : List ℕ)
     (taken executed count : ℕ) → at ≤ end → end ≤ length text → count ≤ length (slice_range text at end)
     → contents_of text (at + count) end behind ended mark long told lost answering response taken (executed + count)
     ≡ record (contents_of text at end behind ended mark long told lost answering response taken executed) {
       rest = drop count (slice_range text at end);
       place = executed + count;
     }
-done_holds text at end behind ended mark long told lost answering response taken executed count le within some =
+contents_after_unit text at end behind ended mark long told lost answering response taken executed count le within some =
     let size = rest_size text at end le within in
     let parts : end - at ≡ count + (end - (at + count)) = omega arith in
     let rest : slice_range text (at + count) end ≡ drop count (slice_range text at end) =
@@ -66,7 +66,7 @@ rest_with text bytes before size at false e f =
     rw (f, all) (take_over before size text bytes e)
 
 -- More text is accepted.
-pub accept_holds : (text text' bytes : List ℕ) (at at' end behind before size second : ℕ)
+pub contents_after_accept : (text text' bytes : List ℕ) (at at' end behind before size second : ℕ)
     (ended ended' mark mark' long told lost answering given : Bool) (response : List ℕ) (taken executed : ℕ)
     → end ≡ length text → text' ≡ drop at text ++ bytes → before ≡ length (drop at text) → size ≡ first_size bytes
     → second ≡ second_at bytes → ended' ≡ (has_line bytes || given)
@@ -74,7 +74,8 @@ pub accept_holds : (text text' bytes : List ℕ) (at at' end behind before size 
     → contents_of text' at' (before + size) (before + second) ended' mark'
     (long || nat_lt max_message (before + size)) told lost answering response taken 0
     ≡ after_accept (contents_of text at end behind ended mark long told lost answering response taken executed) bytes given
-accept_holds text text' bytes at at' end behind before size second ended ended' mark mark' long told lost answering given response taken
+contents_after_accept text text' bytes at at' end behind before size second ended ended' mark mark' long told lost answering given response
+    taken
     executed all text_is before_is size_is second_is ended_is mark_is at_is =
     let rest = rest_is_all text at end all in
     let before_rest : before ≡ length (slice_range text at end) = before_is ∙ sym (ap length rest) in
@@ -113,23 +114,23 @@ accept_holds text text' bytes at at' end behind before size second ended ended' 
     (drop (second_at bytes) bytes) (has_line bytes && given) n) long_is
 
 -- A message that hasn't ended extends to the end of the text.
-pub open_end : (ended : Bool) (size at end behind : ℕ) → ended ≡ false → IsText ended size at end behind → end ≡ size
-open_end true size at end behind e t = absurd cc
-open_end false size at end behind e t = t.0
+pub open_message_end : (ended : Bool) (size at end behind : ℕ) → ended ≡ false → IsText ended size at end behind → end ≡ size
+open_message_end true size at end behind e t = absurd cc
+open_message_end false size at end behind e t = t.0
 
 -- The length of the output with one more answer.
-pub size_with : (answering : Bool) (response answer : List ℕ) (taken before : ℕ) → IsOut answering (length response) taken
+pub output_size_with_answer : (answering : Bool) (response answer : List ℕ) (taken before : ℕ) → IsOut answering (length response) taken
     → before ≡ cond answering (length response + 1) 0
     → length (with_answer answering (drop taken response) answer) ≡ before + length answer
-size_with true response answer taken before out e =
+output_size_with_answer true response answer taken before out e =
     rw (out.1) (omega (arith, length-append response (59 ∷ answer)))
-size_with false response answer taken before out e = omega arith
+output_size_with_answer false response answer taken before out e = omega arith
 
 -- While answers are collected, none of their bytes were read.
-pub with_all : (answering : Bool) (response answer : List ℕ) (taken : ℕ) → IsOut answering (length response) taken
+pub answers_are_unread : (answering : Bool) (response answer : List ℕ) (taken : ℕ) → IsOut answering (length response) taken
     → with_answer answering response answer ≡ with_answer answering (drop taken response) answer
-with_all true response answer taken out = rw (out.1) refl
-with_all false response answer taken out = refl
+answers_are_unread true response answer taken out = rw (out.1) refl
+answers_are_unread false response answer taken out = refl
 
 -- What is left to read after the new line is appended to the answers.
 read_closed : (answering : Bool) (response closed : List ℕ) (read : ℕ) → closed ≡ (if answering then response ++ 10 ∷ [] else response)

@@ -11,7 +11,7 @@ use Rattle.sv_text.specs.White.{is_white, trim, trim_start, trim_end}
 use Rattle.sv_lexer.specs.Token.{StandsAt}
 use Rattle.sv_lexer.specs.Partial.{Progress, Reads}
 use Rattle.sv_lexer.proofs.Standing.{slice_stands}
-use Rattle.sv_lexer.proofs.Ends.{end_over, end_push}
+use Rattle.sv_lexer.proofs.Ends.{trim_end_over_white, trim_end_of_non_white}
 use Rattle.sv_exchange.specs.Exchange.{units, is_something}
 use Rattle.sv_exchange.specs.FirstUnit.{IsFirst}
 use Rattle.sv_exchange.specs.Ahead.{is_separator, IsOpen, IsFound, IsAhead, IsBegun, IsLooked, behind_semicolon, behind_space}
@@ -60,7 +60,7 @@ units_separator b more e = ap (λ (n : ℕ). units (n ∷ more)) e
 part_unit : (seen unit space : List ℕ) (parts : List (List ℕ)) → is_something unit ≡ true → IsOpen seen unit space
     → kept ((unit ++ space) ∷ parts) ≡ unit ∷ kept parts
 part_unit seen unit space parts some h =
-    let is : trim (unit ++ space) ≡ unit = ap trim_end (h.starts some space) ∙ end_over unit space h.white ∙ h.ends in
+    let is : trim (unit ++ space) ≡ unit = ap trim_end (h.starts some space) ∙ trim_end_over_white unit space h.white ∙ h.ends in
     ap (λ (u : List ℕ). cond (is_something u) (u ∷ kept parts) (kept parts)) is
     ∙ ap (λ (t : Bool). cond t (unit ∷ kept parts) (kept parts)) some
 
@@ -92,10 +92,10 @@ blank_open seen left = record {
 }
 
 -- A byte before the unit is skipped.
-pub stepped_over : (a new : Ahead) (seen : List ℕ) (b : ℕ) → a.closed ≡ false → a.end ≤ a.start
+pub byte_before_unit : (a new : Ahead) (seen : List ℕ) (b : ℕ) → a.closed ≡ false → a.end ≤ a.start
     → ((more : List ℕ) → units (b ∷ more) ≡ units more) → new.start ≡ a.looked + 1 → new.end ≡ a.looked + 1 → new.looked ≡ a.looked + 1
     → new.closed ≡ a.closed → new.partial ≡ a.partial → IsAhead a seen → IsAhead new (seen ++ b ∷ [])
-stepped_over a new seen b unclosed none skips s e l c p h =
+byte_before_unit a new seen b unclosed none skips s e l c p h =
     let o = opened a seen h unclosed in
     let unit : h.unit ≡ [] = nil_from_length h.unit (omega (arith, none, h.begins, h.closes)) in
     let space : h.space ≡ [] = o.unbegun (ap is_something unit) in
@@ -156,10 +156,11 @@ ended a new seen b unclosed lt is s e l c p h =
     (subst (λ (t : Bool). IsFound t (seen ++ b ∷ []) h.unit (h.space ++ b ∷ [])) (sym c) (some, left))
 
 -- White space may end the unit, or come within it.
-pub spaced : (a new : Ahead) (seen : List ℕ) (b : ℕ) → a.closed ≡ false → a.start < a.end → is_white b ≡ true → new.start ≡ a.start
+pub white_after_unit : (a new : Ahead) (seen : List ℕ) (b : ℕ) → a.closed ≡ false → a.start < a.end → is_white b ≡ true
+    → new.start ≡ a.start
     → new.end ≡ a.end → new.looked ≡ a.looked + 1 → new.closed ≡ a.closed → new.partial ≡ a.partial → IsAhead a seen
     → IsAhead new (seen ++ b ∷ [])
-spaced a new seen b unclosed lt w s e l c p h =
+white_after_unit a new seen b unclosed lt w s e l c p h =
     let o = opened a seen h unclosed in
     let some : is_something h.unit ≡ true = something h.unit (length h.before) (omega (arith, lt, h.begins, h.closes)) in
     let all : h.unit ++ (h.space ++ b ∷ []) ≡ (h.unit ++ h.space) ++ b ∷ [] = sym (append_assoc h.unit h.space (b ∷ [])) in
@@ -196,7 +197,7 @@ grown_open seen unit space b w k o =
       white = refl;
       unbegun = λ none. refl;
       starts = λ some more. at (is_something unit) refl more;
-      ends = end_push (unit ++ space) b w;
+      ends = trim_end_of_non_white (unit ++ space) b w;
     }
   where
     at : (t : Bool) → is_something unit ≡ t → (more : List ℕ)
@@ -284,9 +285,10 @@ pushed_slice a text b h lt is =
     (omega (arith, h.closes, h.size, size, inner, part))
 
 -- One more byte was read.
-pub seen_more : (a new : Ahead) (text : List ℕ) (b : ℕ) → a.looked < length text → b ≡ get_or text a.looked 0 → new.looked ≡ a.looked + 1
+pub looked_at_next : (a new : Ahead) (text : List ℕ) (b : ℕ) → a.looked < length text → b ≡ get_or text a.looked 0
+    → new.looked ≡ a.looked + 1
     → IsAhead new (take a.looked text ++ b ∷ []) → IsBegun new text
-seen_more a new text b lt is l h =
+looked_at_next a new text b lt is l h =
     let more : take new.looked text ≡ take a.looked text ++ b ∷ [] =
     ap (λ (n : ℕ). take n text) l ∙ take_more text a.looked 0 lt ∙ ap (λ (n : ℕ). take a.looked text ++ n ∷ []) (sym is) in
     record { within = omega (arith, l, lt); seen = subst (IsAhead new) (sym more) h }
@@ -303,13 +305,13 @@ semicolon_seen a new text lt is unclosed e h = at (nat_lt a.start a.end) refl e
         → new ≡ cond t (record a { looked = a.looked + 1; closed = true })
         (record a { start = a.looked + 1; end = a.looked + 1; looked = a.looked + 1 }) → IsBegun new text
     at true c e =
-        seen_more a new text b lt refl (ap (λ (x : Ahead). x.looked) e)
+        looked_at_next a new text b lt refl (ap (λ (x : Ahead). x.looked) e)
         (ended a new (take a.looked text) b unclosed (ltb-true a.start a.end c) is (ap (λ (x : Ahead). x.start) e)
         (ap (λ (x : Ahead). x.end) e) (ap (λ (x : Ahead). x.looked) e) (ap (λ (x : Ahead). x.closed) e)
         (ap (λ (x : Ahead). x.partial) e) h.seen)
     at false c e =
-        seen_more a new text b lt refl (ap (λ (x : Ahead). x.looked) e)
-        (stepped_over a new (take a.looked text) b unclosed (ltb-false a.start a.end c) (λ more. units_separator b more is)
+        looked_at_next a new text b lt refl (ap (λ (x : Ahead). x.looked) e)
+        (byte_before_unit a new (take a.looked text) b unclosed (ltb-false a.start a.end c) (λ more. units_separator b more is)
         (ap (λ (x : Ahead). x.start) e) (ap (λ (x : Ahead). x.end) e) (ap (λ (x : Ahead). x.looked) e)
         (ap (λ (x : Ahead). x.closed) e) (ap (λ (x : Ahead). x.partial) e) h.seen)
 
@@ -325,13 +327,13 @@ space_seen a new text lt w unclosed e h = at (nat_lt a.start a.end) refl e
         → new ≡ cond t (record a { looked = a.looked + 1 })
         (record a { start = a.looked + 1; end = a.looked + 1; looked = a.looked + 1 }) → IsBegun new text
     at true c e =
-        seen_more a new text b lt refl (ap (λ (x : Ahead). x.looked) e)
-        (spaced a new (take a.looked text) b unclosed (ltb-true a.start a.end c) w (ap (λ (x : Ahead). x.start) e)
+        looked_at_next a new text b lt refl (ap (λ (x : Ahead). x.looked) e)
+        (white_after_unit a new (take a.looked text) b unclosed (ltb-true a.start a.end c) w (ap (λ (x : Ahead). x.start) e)
         (ap (λ (x : Ahead). x.end) e) (ap (λ (x : Ahead). x.looked) e) (ap (λ (x : Ahead). x.closed) e)
         (ap (λ (x : Ahead). x.partial) e) h.seen)
     at false c e =
-        seen_more a new text b lt refl (ap (λ (x : Ahead). x.looked) e)
-        (stepped_over a new (take a.looked text) b unclosed (ltb-false a.start a.end c) (λ more. units_space b more w)
+        looked_at_next a new text b lt refl (ap (λ (x : Ahead). x.looked) e)
+        (byte_before_unit a new (take a.looked text) b unclosed (ltb-false a.start a.end c) (λ more. units_space b more w)
         (ap (λ (x : Ahead). x.start) e) (ap (λ (x : Ahead). x.end) e) (ap (λ (x : Ahead). x.looked) e)
         (ap (λ (x : Ahead). x.closed) e) (ap (λ (x : Ahead). x.partial) e) h.seen)
 
@@ -343,13 +345,13 @@ pub other_seen : (a new : Ahead) (text : List ℕ) → a.looked < length text �
     → IsBegun a text → IsBegun new text
 other_seen a new text lt k w unclosed s e l c reads h =
     let b : ℕ = get_or text a.looked 0 in
-    seen_more a new text b lt refl l
+    looked_at_next a new text b lt refl l
     (grown a new (take a.looked text) (slice_range text a.end (a.looked + 1)) b h.seen unclosed w k s e l c
     (pushed_slice a text b h.seen lt refl) reads)
 
 -- Bytes that are appended to the text change nothing of what was read.
-pub goes_on : (a : Ahead) (text more : List ℕ) → IsBegun a text → IsBegun a (text ++ more)
-goes_on a text more h =
+pub begun_in_longer_text : (a : Ahead) (text more : List ℕ) → IsBegun a text → IsBegun a (text ++ more)
+begun_in_longer_text a text more h =
     let long = length-append text more in
     record {
       within = omega (arith, h.within, long);
@@ -398,8 +400,8 @@ first_is a text h lt =
     })
 
 -- If no unit was found, the text has none.
-pub none_is : (a : Ahead) (text : List ℕ) → IsLooked a text → a.end ≤ a.start → units text ≡ []
-none_is a text h ge = at a.closed refl
+pub no_unit_found : (a : Ahead) (text : List ℕ) → IsLooked a text → a.end ≤ a.start → units text ≡ []
+no_unit_found a text h ge = at a.closed refl
   where
     unit : h.begun.seen.unit ≡ []
     unit = nil_from_length h.begun.seen.unit (omega (arith, ge, h.begun.seen.begins, h.begun.seen.closes))
@@ -416,9 +418,9 @@ none_is a text h ge = at a.closed refl
         ap units (sym all ∙ sym (append-nil (take a.looked text))) ∙ o.left [] ∙ ap (λ (l : List ℕ). units (l ++ [])) empty
 
 -- The unit that was read is the first unit of the text.
-pub read_is : (a : Ahead) (text unit : List ℕ) → IsLooked a text → slice_get (units text) 0 ≡ Some unit
+pub found_unit_is_first : (a : Ahead) (text unit : List ℕ) → IsLooked a text → slice_get (units text) 0 ≡ Some unit
     → slice_range text a.start a.end ≡ unit
-read_is a text unit h is =
+found_unit_is_first a text unit h is =
     elim (cases_lt a.start a.end) [
       | inl lt ↦
           let first = first_is a text h lt in
@@ -426,6 +428,6 @@ read_is a text unit h is =
           sym (ap (λ (us : List (List ℕ)). slice_get us 0) first.units) ∙ is in
           ap (λ (o : Option (List ℕ)). unwrap_or o []) same
       | inr ge ↦
-          let none : None ≡ Some unit = sym (ap (λ (us : List (List ℕ)). slice_get us 0) (none_is a text h ge)) ∙ is in
+          let none : None ≡ Some unit = sym (ap (λ (us : List (List ℕ)). slice_get us 0) (no_unit_found a text h ge)) ∙ is in
           absurd cc
     ]

@@ -5,7 +5,7 @@ use Rattle.std.proofs.lemmas.List.{length-drop, length-take-le}
 use Rattle.sv_exchange.specs.Exchange.{is_something}
 use Rattle.sv_exchange.specs.Contents.{Contents, readable_of, shown_by, bit, text_size, exchange_measure}
 use Rattle.sv_exchange.specs.Fields.{first_size, has_line, after_finish, after_answer}
-use Rattle.sv_text.proofs.Places.{place_within}
+use Rattle.sv_text.proofs.Places.{position_within_length}
 
 bit_small : (b : Bool) → bit b ≤ 1
 bit_small true = omega arith
@@ -17,7 +17,7 @@ next_size : (later : List ℕ) (line pending : Bool) → has_line later ≡ line
     (length (drop (cond line (first_size later + 1) (length later)) later)) (line && pending)
     ≤ length later + bit pending
 next_size later true pending e =
-    let within = place_within (λ b. b == 10) later in
+    let within = position_within_length (λ b. b == 10) later in
     omega (
       arith,
       ltb-true (first_size later) (length later) e,
@@ -25,10 +25,10 @@ next_size later true pending e =
       length-drop (first_size later + 1) later,
     )
 next_size later false true e =
-    let within = place_within (λ b. b == 10) later in
+    let within = position_within_length (λ b. b == 10) later in
     omega (arith, within, length-take-le (first_size later) later within, length-drop (length later) later)
 next_size later false false e =
-    let within = place_within (λ b. b == 10) later in
+    let within = position_within_length (λ b. b == 10) later in
     omega (arith, within, length-take-le (first_size later) later within)
 
 -- A message is finished.
@@ -39,14 +39,14 @@ finish_measure contents new ended is =
     let next = next_size contents.later (has_line contents.later) contents.end_pending refl in
     rw is (omega (arith, old, next, bit_small (is_something (shown_by (after_finish contents)))))
 
-nothing_shown : (answering : Bool) → is_something (readable_of answering []) ≡ false
-nothing_shown true = refl
-nothing_shown false = refl
+no_output_no_response : (answering : Bool) → is_something (readable_of answering []) ≡ false
+no_output_no_response true = refl
+no_output_no_response false = refl
 
 -- A response is interrupted.
 pub interrupt_measure : (contents new : Contents) → is_something (shown_by contents) ≡ true → new ≡ record contents { output = [] }
     → exchange_measure new < exchange_measure contents
-interrupt_measure contents new some is = rw is (omega (arith, ap bit some, ap bit (nothing_shown contents.answering)))
+interrupt_measure contents new some is = rw is (omega (arith, ap bit some, ap bit (no_output_no_response contents.answering)))
 
 -- An answer is appended, or all answers are dropped; the measure doesn't rise.
 pub answer_measure : (contents new : Contents) (answer : List ℕ) (fits : Bool) → new ≡ after_answer contents answer fits

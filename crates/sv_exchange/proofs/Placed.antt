@@ -6,8 +6,8 @@ use Rattle.sv_exchange.specs.Contents.{Contents, StandsFor}
 use Rattle.sv_exchange.specs.Ahead.{IsLooked}
 use Rattle.sv_exchange.specs.Place.{IsPlaceOf}
 use Rattle.sv_exchange.specs.declared.ahead.Ahead.{Ahead}
-use Rattle.sv_exchange.proofs.Dues.{message_is, unit_is}
-use Rattle.sv_exchange.proofs.Looking.{unit_parts, unit_slice, read_is}
+use Rattle.sv_exchange.proofs.Dues.{message_by_contents, next_unit_by_contents}
+use Rattle.sv_exchange.proofs.Looking.{unit_parts, unit_slice, found_unit_is_first}
 
 -- A message that has a next unit isn't too long.
 has_unit : (ended long lost : Bool) (found : Option (List ℕ)) (unit : List ℕ)
@@ -25,18 +25,20 @@ has_bytes rest unit e none =
 pub place_is : (contents : Contents) (acts : List ExchangeAct) (unit : List ℕ) (ahead : Ahead) → IsLooked ahead contents.rest
     → StandsFor contents acts → next_unit acts ≡ Some unit → IsPlaceOf (contents.place + ahead.start) unit acts
 place_is contents acts unit ahead looked s next =
-    let due = has_unit contents.ended contents.overlong contents.answers_dropped _ unit (sym (unit_is contents acts s) ∙ next) in
+    let due = has_unit contents.ended contents.overlong contents.answers_dropped _ unit (sym (next_unit_by_contents contents acts s) ∙ next)
+        in
     let placed = s.placed due.0 in
     let h = looked.begun.seen in
-    let same : h.unit ≡ unit = sym (unit_slice ahead contents.rest h) ∙ read_is ahead contents.rest unit looked due.1 in
+    let same : h.unit ≡ unit = sym (unit_slice ahead contents.rest h) ∙ found_unit_is_first ahead contents.rest unit looked due.1 in
     let behind : List ℕ = h.space ++ drop ahead.looked contents.rest in
     let rest : contents.rest ≡ h.before ++ (unit ++ behind) =
     unit_parts ahead contents.rest h ∙ ap (λ (l : List ℕ). h.before ++ (l ++ behind)) same in
     let none : units h.before ≡ [] = sym (ap units (append-nil h.before)) ∙ h.blank [] in
-    let all : units (message acts) ≡ s.executed ++ units contents.rest = ap units (message_is contents acts s) ∙ placed.units_left in (
+    let all : units (message acts) ≡ s.executed ++ units contents.rest =
+        ap units (message_by_contents contents acts s) ∙ placed.units_left in (
       placed.consumed ++ h.before,
       behind,
-      message_is contents acts s ∙ placed.joined ∙ ap (λ (l : List ℕ). placed.consumed ++ l) rest
+      message_by_contents contents acts s ∙ placed.joined ∙ ap (λ (l : List ℕ). placed.consumed ++ l) rest
           ∙ sym (append_assoc placed.consumed h.before (unit ++ behind)),
       omega (arith, placed.size, h.begins, length-append placed.consumed h.before),
       placed.behind (has_bytes contents.rest unit due.1) h.before ∙ ap (λ (us : List (List ℕ)). s.executed ++ us) none

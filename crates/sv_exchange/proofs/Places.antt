@@ -4,12 +4,12 @@ use Rattle.sv_exchange.specs.Read.{read_count}
 use Rattle.std.specs.List.{position_or_len}
 use Rattle.sv_exchange.specs.Limits.{max_read}
 
-pub place_take : (p : ℕ → Bool) (bytes : List ℕ) (k : ℕ)
+pub position_in_prefix : (p : ℕ → Bool) (bytes : List ℕ) (k : ℕ)
     → position_or_len p (take k bytes) ≡ min (position_or_len p bytes) (min k (length bytes))
-place_take p [] zero = refl
-place_take p [] (suc k) = omega arith
-place_take p (b ∷ bytes) zero = omega arith
-place_take p (b ∷ bytes) (suc k) = at (p b) (place_take p bytes k)
+position_in_prefix p [] zero = refl
+position_in_prefix p [] (suc k) = omega arith
+position_in_prefix p (b ∷ bytes) zero = omega arith
+position_in_prefix p (b ∷ bytes) (suc k) = at (p b) (position_in_prefix p bytes k)
   where
     at : (t : Bool) → position_or_len p (take k bytes) ≡ min (position_or_len p bytes) (min k (length bytes))
         → cond (not t) (1 + position_or_len p (take k bytes)) 0
@@ -18,8 +18,8 @@ place_take p (b ∷ bytes) (suc k) = at (p b) (place_take p bytes k)
     at false h = omega arith
 
 -- A read returns bytes up to the termination character, if that comes within its limit.
-pub count_by_place : (response : List ℕ) (most last limit place count : ℕ) → limit ≡ min most (min max_read (length response))
+pub read_count_by_position : (response : List ℕ) (most last limit place count : ℕ) → limit ≡ min most (min max_read (length response))
     → place ≡ position_or_len (λ b. b == last) (take limit response)
     → count ≡ min limit (place + 1) → count ≡ read_count response most (Some last)
-count_by_place response most last limit place count e f h =
-    omega (arith, place_take (λ b. b == last) response limit)
+read_count_by_position response most last limit place count e f h =
+    omega (arith, position_in_prefix (λ b. b == last) response limit)

@@ -6,10 +6,10 @@ use Rattle.sv_exchange.specs.Exchange.{ExchangeAct, Accepted, UnitDone, Answered
 use Rattle.sv_exchange.specs.Contents.{Contents, StandsFor, IsPlaced, IsShown, empty, IsUnitDue, symbols, following, readable_of, shown_by, next_of, is_open, may_respond}
 use Rattle.sv_exchange.specs.Fields.{first_size, has_line, second_at, after_accept, after_finish, with_answer}
 use Rattle.sv_exchange.specs.FirstUnit.{IsFirst}
-use Rattle.sv_text.proofs.Places.{place_within}
-use Rattle.sv_exchange.proofs.Cuts.{messages_append, first_cut}
+use Rattle.sv_text.proofs.Places.{position_within_length}
+use Rattle.sv_exchange.proofs.Cuts.{more_text_continues_last, first_message_is_cut}
 use Rattle.sv_exchange.proofs.Responses.{response_after, response_finished, response_read}
-use Rattle.sv_exchange.proofs.Dues.{at_unit, readable_is}
+use Rattle.sv_exchange.proofs.Dues.{unit_due_state, readable_is}
 use Rattle.sv_exchange.specs.Limits.{max_message, max_response}
 
 nothing_there : (bytes : List ℕ) → is_something bytes ≡ false → bytes ≡ []
@@ -17,9 +17,9 @@ nothing_there [] h = refl
 nothing_there (b ∷ bytes) h = absurd cc
 
 -- After a unit is executed, the message goes on with what follows it.
-placed_further : (place count : ℕ) (rest message unit : List ℕ) (executed : List (List ℕ)) → IsFirst rest unit count
+placed_after_unit : (place count : ℕ) (rest message unit : List ℕ) (executed : List (List ℕ)) → IsFirst rest unit count
     → IsPlaced place rest message executed → IsPlaced (place + count) (drop count rest) message (executed ++ unit ∷ [])
-placed_further place count rest message unit executed first is =
+placed_after_unit place count rest message unit executed first is =
     let some : rest ≢ [] = λ none. omega (arith, first.within, ap length none) in
     let size : length (take count rest) ≡ count = length-take-le count rest first.within.1 in
     record {
@@ -49,13 +49,13 @@ pub done_stands : (contents new : Contents) (acts : List ExchangeAct) (unit : Li
     → new ≡ record contents { rest = drop count contents.rest; place = contents.place + count } → StandsFor contents acts
     → StandsFor new (UnitDone ∷ acts)
 done_stands contents new acts unit count due first is s =
-    let at = at_unit contents due in
+    let at = unit_due_state contents due in
     rw is (record {
       message = s.message;
       executed = s.executed ++ unit ∷ [];
       text_left = s.text_left;
       size = s.size;
-      placed = λ short. placed_further contents.place count contents.rest s.message unit s.executed first (s.placed short);
+      placed = λ short. placed_after_unit contents.place count contents.rest s.message unit s.executed first (s.placed short);
       count = omega (arith, length-append s.executed (unit ∷ []), s.count);
       no_response = λ later. readable_is contents acts s ∙ nothing_there (shown_by contents) at.no_response;
       whole = λ unended. (let z : true ≡ false = sym at.ended ∙ unended in absurd cc);
@@ -76,24 +76,24 @@ following_open false later mark e = refl
 following_open true later mark e = absurd cc
 
 -- When a message is finished, its answers become the response.
-said_after : (answering : Bool) (out : List ℕ) (given : List (List ℕ)) (readable : List ℕ) → IsShown answering out given readable
+response_from_answers : (answering : Bool) (out : List ℕ) (given : List (List ℕ)) (readable : List ℕ) → IsShown answering out given readable
     → response_after given readable ≡ cond answering (out ++ 10 ∷ []) out
-said_after true out [] readable said = absurd (said.0 refl)
-said_after true out (answer ∷ others) readable said = ap (λ (l : List ℕ). l ++ 10 ∷ []) (sym said.1)
-said_after false out given readable said = ap (λ (g : List (List ℕ)). response_after g readable) said.0 ∙ said.1
+response_from_answers true out [] readable said = absurd (said.0 refl)
+response_from_answers true out (answer ∷ others) readable said = ap (λ (l : List ℕ). l ++ 10 ∷ []) (sym said.1)
+response_from_answers false out given readable said = ap (λ (g : List (List ℕ)). response_after g readable) said.0 ∙ said.1
 
 -- A message is finished.
 pub finish_stands : (contents new : Contents) (acts : List ExchangeAct) → contents.ended ≡ true → length contents.later ≤ max_message
     → new ≡ after_finish contents
     → StandsFor contents acts → StandsFor new (Finished ∷ acts)
 finish_stands contents new acts ended few is s =
-    let size = place_within (λ b. b == 10) contents.later in
+    let size = position_within_length (λ b. b == 10) contents.later in
     let first : List ℕ = take (first_size contents.later) contents.later in
     let behind : drop 1 (drop (messages_finished acts) (messages (text acts))) ≡ first
     ∷ following (has_line contents.later || contents.end_pending) (drop (second_at contents.later) contents.later)
     (has_line contents.later && contents.end_pending) =
     ap (drop 1) s.text_left ∙ following_ended contents.ended contents.later contents.end_pending ended
-    ∙ first_cut contents.later contents.end_pending in
+    ∙ first_message_is_cut contents.later contents.end_pending in
     let next : suc (messages_finished acts) ≡ messages_finished acts + 1 = omega arith in
     rw is (record {
       message = first;
@@ -109,15 +109,16 @@ finish_stands contents new acts ended few is s =
       no_answers = λ unended. refl;
       overrun_reported = refl;
       answers_dropped = refl;
-      shows = (refl, response_finished acts ∙ said_after contents.answering contents.output (answers acts) (response acts) s.shows);
+      shows = (refl, response_finished acts ∙ response_from_answers contents.answering contents.output (answers acts) (response acts)
+          s.shows);
     })
 
-pub may_parts : (ended lost something : Bool) → IsTrue (ended && (not lost && not something))
+pub may_respond_parts : (ended lost something : Bool) → IsTrue (ended && (not lost && not something))
     → (ended ≡ true) × (lost ≡ false) × (something ≡ false)
-may_parts true false false h = (refl, refl, refl)
-may_parts true true something h = absurd cc
-may_parts true false true h = absurd cc
-may_parts false lost something h = absurd cc
+may_respond_parts true false false h = (refl, refl, refl)
+may_respond_parts true true something h = absurd cc
+may_respond_parts true false true h = absurd cc
+may_respond_parts false lost something h = absurd cc
 
 joined_push : (given : List (List ℕ)) (answer : List ℕ) → given ≢ []
     → joined_answers (given ++ answer ∷ []) ≡ joined_answers given ++ 59 ∷ answer
@@ -176,7 +177,7 @@ pub answered_stands : (contents new : Contents) (acts : List ExchangeAct) (answe
     → new ≡ record contents { answering = true; output = with_answer contents.answering contents.output answer }
     → StandsFor contents acts → StandsFor new (Answered answer ∷ acts)
 answered_stands contents new acts answer may is s =
-    let parts = may_parts contents.ended contents.answers_dropped (is_something (shown_by contents)) may in
+    let parts = may_respond_parts contents.ended contents.answers_dropped (is_something (shown_by contents)) may in
     let kept : has_dropped (current acts) ≡ false = s.answers_dropped ∙ parts.1 in
     let now : answers (Answered answer ∷ acts) ≡ answers acts ++ answer ∷ [] = rw kept refl in
     output_stands contents new acts (Answered answer ∷ acts) _ _ _ is refl refl refl refl s.no_response
@@ -191,7 +192,7 @@ pub dropped_stands : (contents new : Contents) (acts : List ExchangeAct) → IsT
     → new ≡ record contents { answers_dropped = true; answering = false; output = [] }
     → StandsFor contents acts → StandsFor new (AnswersDropped ∷ acts)
 dropped_stands contents new acts may is s =
-    let parts = may_parts contents.ended contents.answers_dropped (is_something (shown_by contents)) may in
+    let parts = may_respond_parts contents.ended contents.answers_dropped (is_something (shown_by contents)) may in
     output_stands contents new acts (AnswersDropped ∷ acts) _ _ _ is refl refl refl refl s.no_response (λ unended. refl) refl
     (refl, readable_is contents acts s ∙ nothing_there (shown_by contents) parts.2) s
 
@@ -225,7 +226,7 @@ pub accept_stands : (contents new : Contents) (acts : List ExchangeAct) (bytes :
 accept_stands contents new acts bytes ended open_now is s =
     let unended : contents.ended ≡ false = not_true contents.ended open_now in
     let first : List ℕ = take (first_size bytes) bytes in
-    let size : length first ≡ first_size bytes = length-take-le (first_size bytes) bytes (place_within (λ b. b == 10) bytes) in
+    let size : length first ≡ first_size bytes = length-take-le (first_size bytes) bytes (position_within_length (λ b. b == 10) bytes) in
     let alone : drop (messages_finished acts) (messages (text acts)) ≡ s.message ∷ [] =
     s.text_left ∙ ap (λ (ms : List (List ℕ)). s.message ∷ ms) (following_open contents.ended contents.later contents.end_pending unended) in
     let more : Bool = nat_lt max_message (length contents.rest + first_size bytes) in
@@ -234,8 +235,8 @@ accept_stands contents new acts bytes ended open_now is s =
     rw is (record {
       message = s.message ++ first;
       executed = [];
-      text_left = messages_append (text acts) (symbols bytes ended) (messages_finished acts) s.message first _ alone
-          (first_cut bytes ended);
+      text_left = more_text_continues_last (text acts) (symbols bytes ended) (messages_finished acts) s.message first _ alone
+          (first_message_is_cut bytes ended);
       size = long_on contents.overlong s.message first contents.rest (first_size bytes) s.size size (s.whole unended);
       placed = λ short. placed_first _ _ _ (rest short) refl;
       count = sym (ap length (s.unbegun unended)) ∙ s.count;

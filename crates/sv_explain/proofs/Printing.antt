@@ -8,7 +8,7 @@ use Rattle.std.proofs.lemmas.List.{length-drop}
 use Rattle.std.proofs.lemmas.List.Folds.{concat-append}
 use Rattle.std.proofs.lemmas.List.FromFn.{map-range_with_len_more}
 use Rattle.sv_print.specs.Printed.{Prints}
-use Rattle.sv_print.proofs.Taking.{prints_then, prints_as, texts_all}
+use Rattle.sv_print.proofs.Taking.{prints_then, prints_equal_text, texts_all}
 use Rattle.sv_explain.specs.declared.value.Value.{Value}
 use Rattle.sv_explain.specs.declared.shown.Listed.{Listed}
 use Rattle.sv_explain.specs.Value.{same_value, value_text}
@@ -16,38 +16,38 @@ use Rattle.sv_explain.specs.Lines.{value_line, lines_of, has_link, links_without
 use Rattle.sv_explain.specs.Inside.Names.{texts_of}
 
 -- The pieces in which the line of a value is printed.
-pub line_text : (owner name text : List ℕ)
+pub value_line_text : (owner name text : List ℕ)
     → 61 ∷ 32 ∷ (owner ++ ((name ++ 32 ∷ []) ++ (text ++ 10 ∷ []))) ≡ value_line (owner ++ name) text
-line_text owner name text = ap (λ (l : List ℕ). 61 ∷ 32 ∷ l)
+value_line_text owner name text = ap (λ (l : List ℕ). 61 ∷ 32 ∷ l)
     (ap (λ (l : List ℕ). owner ++ l) (append_assoc name (32 ∷ []) (text ++ 10 ∷ []))
     ∙ sym (append_assoc owner name (32 ∷ (text ++ 10 ∷ []))))
 
 -- The pieces in which the line of a link is printed.
-pub link_text : (name same lid text : List ℕ) → same ≡ name
+pub link_line_text : (name same lid text : List ℕ) → same ≡ name
     → (61 ∷ 32 ∷ (same ++ (lid ++ 32 ∷ []))) ++ (text ++ 10 ∷ []) ≡ value_line (name ++ lid) text
-link_text name same lid text e = ap (λ (l : List ℕ). 61 ∷ 32 ∷ l)
+link_line_text name same lid text e = ap (λ (l : List ℕ). 61 ∷ 32 ∷ l)
     (ap (λ (l : List ℕ). (l ++ (lid ++ 32 ∷ [])) ++ (text ++ 10 ∷ [])) e
     ∙ ap (λ (l : List ℕ). l ++ (text ++ 10 ∷ [])) (sym (append_assoc name lid (32 ∷ [])))
     ∙ append_assoc (name ++ lid) (32 ∷ []) (text ++ 10 ∷ []))
 
 -- The pieces in which the line of a list of numbers is printed.
-pub list_text : (name numbers : List ℕ)
+pub numbers_line_text : (name numbers : List ℕ)
     → (61 ∷ 32 ∷ (name ++ [])) ++ (numbers ++ 10 ∷ []) ≡ 61 ∷ 32 ∷ (name ++ (numbers ++ 10 ∷ []))
-list_text name numbers = ap (λ (l : List ℕ). 61 ∷ 32 ∷ (l ++ (numbers ++ 10 ∷ []))) (append-nil name)
+numbers_line_text name numbers = ap (λ (l : List ℕ). 61 ∷ 32 ∷ (l ++ (numbers ++ 10 ∷ []))) (append-nil name)
 
 pub false_from_not : (b : Bool) → true ≡ not b → b ≡ false
 false_from_not true e = absurd cc
 false_from_not false e = refl
 
 -- The text of a change is printed if there is a change.
-pub prints_something : (old new : Option (List ℕ)) (f g : Bool) (b : Bool) (text : List ℕ) → b ≡ false → Prints old f new g text
+pub prints_if_changed : (old new : Option (List ℕ)) (f g : Bool) (b : Bool) (text : List ℕ) → b ≡ false → Prints old f new g text
     → Prints old f new g (if b then [] else text)
-prints_something old new f g false text e x = x
-prints_something old new f g true text e x = absurd cc
+prints_if_changed old new f g false text e x = x
+prints_if_changed old new f g true text e x = absurd cc
 
 pub prints_all : {X : Type 0} (f : X → List ℕ) (xs : List X) (i : ℕ) (old new : Option (List ℕ)) (a b : Bool) → length xs ≤ i
     → Prints old a new b (concat (map f (take i xs))) → Prints old a new b (concat (map f xs))
-prints_all f xs i old new a b h x = prints_as old new a b _ _ (texts_all f xs i h) x
+prints_all f xs i old new a b h x = prints_equal_text old new a b _ _ (texts_all f xs i h) x
 
 -- ---- the lines of changed values
 
@@ -105,7 +105,7 @@ module _ (owner : List ℕ) (names : List (Bor (List ℕ))) (olds news : List Va
       let least : n ≡ min (min (length names) (length olds)) (length news) = e ∙ ap (λ (k : ℕ). min k (length news)) d in
       let over : lines_from i ≡ [] = no_lines owner (drop i names) (drop i olds) (drop i news)
       (simp length-drop (least_less (length names) (length olds) (length news) i (subst (λ (k : ℕ). k ≤ i) least h))) in
-      prints_as old new f g _ _ (sym (x.1 ∙ ap (λ (l : List ℕ). x.0 ++ l) over ∙ append-nil x.0)) x.2
+      prints_equal_text old new f g _ _ (sym (x.1 ∙ ap (λ (l : List ℕ). x.0 ++ l) over ∙ append-nil x.0)) x.2
 
 -- ---- the lines of links
 
@@ -131,12 +131,12 @@ without_lines line other (link ∷ links) = step (has_link other link.lid) refl 
 pub prints_next : (f : ℕ → List ℕ) (n : ℕ) (old mid new : Option (List ℕ)) (a b c : Bool)
     → Prints old a mid b (concat (map f (range_with_len 0 n))) → Prints mid b new c (f n)
     → Prints old a new c (concat (map f (range_with_len 0 (n + 1))))
-prints_next f n old mid new a b c x y = prints_as old new a c _ _
+prints_next f n old mid new a b c x y = prints_equal_text old new a c _ _
     (sym (ap concat (map-range_with_len_more f 0 n n (omega arith)) ∙ concat-append (map f (range_with_len 0 n)) (f n ∷ [])
     ∙ ap (λ (l : List ℕ). concat (map f (range_with_len 0 n)) ++ l) (append-nil (f n))))
     (prints_then old mid new a b c (concat (map f (range_with_len 0 n))) (f n) x y)
 
-pub prints_of : {X : Type 0} (text : X → X → List ℕ) (a b c d : X) (old new : Option (List ℕ)) (f g : Bool) → a ≡ c → b ≡ d
+pub prints_of_equals : {X : Type 0} (text : X → X → List ℕ) (a b c d : X) (old new : Option (List ℕ)) (f g : Bool) → a ≡ c → b ≡ d
     → Prints old f new g (text a b) → Prints old f new g (text c d)
-prints_of {X = X} text a b c d old new f g x y = prints_as old new f g (text a b) (text c d)
+prints_of_equals {X = X} text a b c d old new f g x y = prints_equal_text old new f g (text a b) (text c d)
     (ap (λ (k : X). text k b) x ∙ ap (λ (k : X). text c k) y)

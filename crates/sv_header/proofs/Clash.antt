@@ -109,7 +109,8 @@ rows_clash r s =
       | false ↦ false
     ]
 
-rows_all_clash : (path : List (List ℕ)) (header : List ℕ) (r s : Row) → FitsRow path header r → FitsRow path header s → rows_clash r s ≡ true
+rows_all_clash : (path : List (List ℕ)) (header : List ℕ) (r s : Row) → FitsRow path header r → FitsRow path header s
+    → rows_clash r s ≡ true
 unfolding rows_clash
 rows_all_clash path header r s f g =
     where_both _ _ (agree_same _ r.common s.common f.0 g.0)

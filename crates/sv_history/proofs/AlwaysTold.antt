@@ -4,8 +4,8 @@ use Rattle.std.specs.Prelude.{◌↔◌, ◌&&◌, ◌||◌, not, bit_xor}
 use Rattle.std.specs.Int.{bit_at}
 use Rattle.std.proofs.lemmas.Bool.{cases_eq}
 use Rattle.std.proofs.lemmas.Nat.Bits.{bit_at-lt, bit_at-pow_other}
-use Rattle.sv_logs.proofs.Since.{since_empty, since_step, then_same, both_true, either_true}
-use Rattle.sv_status.proofs.Words.{both_bits, either_bit, not_zero, rose}
+use Rattle.sv_logs.proofs.Since.{since_empty, since_step, iff_transitive, both_true, either_true}
+use Rattle.sv_status.proofs.Words.{bit_of_and, bit_of_or, not_zero, bit_rises}
 use Rattle.sv_links.specs.Channels.{ChannelAct}
 use Rattle.sv_layers.specs.Act.{Act as InstrumentAct, Polled}
 use Rattle.sv_layers.specs.StatusByte.{SummaryBit, service, ServiceRequested, Master, Reason, Lasts, Request, IsRaised, PolledBit}
@@ -25,7 +25,7 @@ none_test : {P : Type 0} → (P → ⊥) → Test P
 none_test none = (false, ((λ e. absurd cc), (λ p. absurd (none p))))
 
 same_test : {P Q : Type 0} → Test P → P ↔ Q → Test Q
-same_test p same = (p.0, then_same p.1 same)
+same_test p same = (p.0, iff_transitive p.1 same)
 
 both_test : {P Q : Type 0} → Test P → Test Q → Test (P × Q)
 both_test p q =
@@ -61,7 +61,7 @@ asking_word log =
     let summary = summary_word log in (
       bit_and summary.0 (service log),
       λ k.
-          let both = both_bits summary.0 (service log) k in (
+          let both = bit_of_and summary.0 (service log) k in (
             (λ e. let h = both.0 e in ((summary.1 k).0 h.0, h.1)),
             (λ asks. both.1 ((summary.1 k).1 asks.0, asks.1)),
           ),
@@ -90,11 +90,11 @@ reason_test act log =
       (
         (λ e.
             let h = some.0 e in
-            let r = (rose was.0 now.0 h.0).0 h.1 in
+            let r = (bit_rises was.0 now.0 h.0).0 h.1 in
             (h.0, (now.1 h.0).0 r.1, λ old. let one = (was.1 h.0).1 old in absurd (omega arith))),
         (λ r. some.1 (
           r.0,
-          (rose was.0 now.0 r.0).1 (zero_bit was.0 r.0 (λ one. r.2 ((was.1 r.0).0 one)), (now.1 r.0).1 r.1),
+          (bit_rises was.0 now.0 r.0).1 (zero_bit was.0 r.0 (λ one. r.2 ((was.1 r.0).0 one)), (now.1 r.0).1 r.1),
         )),
       ),
     )
@@ -125,7 +125,7 @@ polled_by : (log : List InstrumentAct) (word : ℕ) (is : Bool) → ((k : ℕ) �
 polled_by log word true bits same = (
   bit_or word 64,
   λ k.
-      let either = either_bit word 64 k in (
+      let either = bit_of_or word 64 k in (
         (λ e. elim (either.0 e) [ inl h ↦ inl ((bits k).0 h) | inr h ↦ inr ((six_alone k).0 h, same.0 refl) ]),
         (λ s. elim s [ inl h ↦ either.1 (inl ((bits k).1 h)) | inr h ↦ either.1 (inr ((six_alone k).1 h.0)) ]),
       ),
@@ -138,8 +138,8 @@ polled_by log word false bits same = (
   ),
 )
 
-pub some_polled : (acts : List DeviceAct) → (polled : ℕ) × IsPolled polled acts
-some_polled acts =
+pub polled_byte_exists : (acts : List DeviceAct) → (polled : ℕ) × IsPolled polled acts
+polled_byte_exists acts =
     let log = instrument_acts acts in
     let summary = summary_word log in
     let request = request_test log in
@@ -147,13 +147,13 @@ some_polled acts =
 
 -- ---- the acts of the interrupt channels
 
-pub some_told : (acts : List DeviceAct) → (channel_log : List ChannelAct) × HearsOf acts channel_log
-some_told [] = ([], refl)
-some_told (Channel act ∷ acts) = let before = some_told acts in (act ∷ before.0, (before.0, before.1, refl))
-some_told (Linked act ∷ acts) = let before = some_told acts in (link_told act before.0, (before.0, before.1, refl))
-some_told (Applied act ∷ acts) =
-    let before = some_told acts in
+pub channel_log_exists : (acts : List DeviceAct) → (channel_log : List ChannelAct) × HearsOf acts channel_log
+channel_log_exists [] = ([], refl)
+channel_log_exists (Channel act ∷ acts) = let before = channel_log_exists acts in (act ∷ before.0, (before.0, before.1, refl))
+channel_log_exists (Linked act ∷ acts) = let before = channel_log_exists acts in (link_told act before.0, (before.0, before.1, refl))
+channel_log_exists (Applied act ∷ acts) =
+    let before = channel_log_exists acts in
     let raised = raised_test act (instrument_acts acts) in
     (request_told raised.0 before.0, (before.0, raised.0, before.1, raised.1, refl))
-some_told (Waited act ∷ acts) = some_told acts
-some_told (Ticked ∷ acts) = some_told acts
+channel_log_exists (Waited act ∷ acts) = channel_log_exists acts
+channel_log_exists (Ticked ∷ acts) = channel_log_exists acts

@@ -15,19 +15,20 @@ header_reply role call =
     else (if call.proc == 0 then Some Success
     else (if not (is_one_of (program_of role).2 call.proc) then Some ProcUnavail else None)))
 
-abbrev pub unless_decided : Role → PlainCall → Option Reply → Request
-unless_decided role call (Some reply) = Decided call.xid reply
-unless_decided role call None = procedure_request role call
+abbrev pub request_unless_decided : Role → PlainCall → Option Reply → Request
+request_unless_decided role call (Some reply) = Decided call.xid reply
+request_unless_decided role call None = procedure_request role call
 
-pub request_is : (role : Role) (call : PlainCall) → call_request role call ≡ unless_decided role call (header_reply role call)
-request_is role call = by (call.prog == (program_of role).0) (call.vers == (program_of role).1) (call.proc == 0)
+pub request_by_header : (role : Role) (call : PlainCall) → call_request role call ≡ request_unless_decided role call
+    (header_reply role call)
+request_by_header role call = by (call.prog == (program_of role).0) (call.vers == (program_of role).1) (call.proc == 0)
     (is_one_of (program_of role).2 call.proc)
   where
     by : (program version null there : Bool)
         → cond (not program) (Decided call.xid ProgUnavail)
         (cond (not version) (Decided call.xid (ProgMismatch (program_of role).1 (program_of role).1))
         (cond null (Decided call.xid Success) (cond (not there) (Decided call.xid ProcUnavail) (procedure_request role call))))
-        ≡ unless_decided role call (cond (not program) (Some ProgUnavail)
+        ≡ request_unless_decided role call (cond (not program) (Some ProgUnavail)
         (cond (not version) (Some (ProgMismatch (program_of role).1 (program_of role).1))
         (cond null (Some Success) (cond (not there) (Some ProcUnavail) None))))
     by false version null there = refl

@@ -10,20 +10,21 @@ use Rattle.sv_history.specs.CallOutcome.{CallOutcome, answer_with, only}
 use Rattle.sv_history.specs.CoreCall.{failure}
 use Rattle.sv_history.specs.Interrupts.{connect_outcome}
 
-abbrev pub peer_by : Arguments → Option Peer
-peer_by (CreateIntrChan host_addr host_port prog_num prog_vers prog_family) = Some (record { prog = prog_num; vers = prog_vers })
-peer_by _ = None
+abbrev pub peer_named_by : Arguments → Option Peer
+peer_named_by (CreateIntrChan host_addr host_port prog_num prog_vers prog_family) = Some (record { prog = prog_num; vers = prog_vers })
+peer_named_by _ = None
 
-abbrev pub end_channel : ℕ → Bool → Peer → CallOutcome
-end_channel c true peer = answer_with (Channel (ChannelOpened c peer) ∷ []) (Plain NoError)
-end_channel c false peer = only (Plain NotEstablished)
+abbrev pub connect_result : ℕ → Bool → Peer → CallOutcome
+connect_result c true peer = answer_with (Channel (ChannelOpened c peer) ∷ []) (Plain NoError)
+connect_result c false peer = only (Plain NotEstablished)
 
-abbrev pub dialed_to : ℕ → Bool → Arguments → Option Peer → CallOutcome
-dialed_to c ok arguments (Some peer) = end_channel c ok peer
-dialed_to c ok arguments None = only (failure arguments NotEstablished)
+abbrev pub connect_outcome_for : ℕ → Bool → Arguments → Option Peer → CallOutcome
+connect_outcome_for c ok arguments (Some peer) = connect_result c ok peer
+connect_outcome_for c ok arguments None = only (failure arguments NotEstablished)
 
-pub dialed_is : (c : ℕ) (ok : Bool) (arguments : Arguments) → connect_outcome c ok arguments ≡ dialed_to c ok arguments (peer_by arguments)
-dialed_is c true (CreateIntrChan host_addr host_port prog_num prog_vers prog_family) = refl
-dialed_is c false (CreateIntrChan host_addr host_port prog_num prog_vers prog_family) = refl
-dialed_is c true _ = refl
-dialed_is c false _ = refl
+pub connect_outcome_by_peer : (c : ℕ) (ok : Bool) (arguments : Arguments)
+    → connect_outcome c ok arguments ≡ connect_outcome_for c ok arguments (peer_named_by arguments)
+connect_outcome_by_peer c true (CreateIntrChan host_addr host_port prog_num prog_vers prog_family) = refl
+connect_outcome_by_peer c false (CreateIntrChan host_addr host_port prog_num prog_vers prog_family) = refl
+connect_outcome_by_peer c true _ = refl
+connect_outcome_by_peer c false _ = refl

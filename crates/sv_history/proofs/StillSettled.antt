@@ -10,19 +10,20 @@ use Rattle.sv_history.specs.declared.event.Config.{Config}
 use Rattle.sv_history.specs.Act.{Act, ConnAct, DeviceAct, Channel, Applied, On, OnDevice, device_acts, wait_acts, instrument_acts, ticks}
 use Rattle.sv_history.specs.PolledStatus.{IsPolled}
 use Rattle.sv_history.specs.Settling.{First, InstrumentDoes, CanResume, Resumes, TimesOut, IsNext, IsSettled}
-use Rattle.sv_history.proofs.OneStep.{went_on, gave_up}
+use Rattle.sv_history.proofs.OneStep.{log_after_resume, log_after_timeout}
 
-happens_back : (IsSuch : List InstrumentAct → List InstrumentAct → Type 0) (log other new : List Act) → device_acts other ≡ device_acts log
+instrument_step_back : (IsSuch : List InstrumentAct → List InstrumentAct → Type 0) (log other new : List Act)
+    → device_acts other ≡ device_acts log
     → InstrumentDoes IsSuch other new → (there : List Act) × InstrumentDoes IsSuch log there
-happens_back IsSuch log other new same (adds, such, is) = (
+instrument_step_back IsSuch log other new same (adds, such, is) = (
   map OnDevice (map Applied adds) ++ log,
   (adds, subst (λ (acts : List DeviceAct). IsSuch (instrument_acts acts) (adds ++ instrument_acts acts)) same such, refl),
 )
 
-goes_back : (config : Config) (log other new : List Act) → device_acts other ≡ device_acts log → Resumes config other new
+resumes_back : (config : Config) (log other new : List Act) → device_acts other ≡ device_acts log → Resumes config other new
     → (there : List Act) × Resumes config log there
-goes_back config log other new same (c, wait, polled, oldest, for, said, is) = (
-  went_on config log polled c wait,
+resumes_back config log other new same (c, wait, polled, oldest, for, said, is) = (
+  log_after_resume config log polled c wait,
   (
     c,
     wait,
@@ -34,10 +35,10 @@ goes_back config log other new same (c, wait, polled, oldest, for, said, is) = (
   ),
 )
 
-gives_back : (config : Config) (log other new : List Act) → device_acts other ≡ device_acts log → TimesOut config other new
+times_out_back : (config : Config) (log other new : List Act) → device_acts other ≡ device_acts log → TimesOut config other new
     → (there : List Act) × TimesOut config log there
-gives_back config log other new same (c, wait, oldest, for, is) = (
-  gave_up log c wait,
+times_out_back config log other new same (c, wait, oldest, for, is) = (
+  log_after_timeout log c wait,
   (
     c,
     wait,
@@ -49,20 +50,23 @@ gives_back config log other new same (c, wait, oldest, for, is) = (
 )
 
 -- If a step of the first kind is possible, so is one of the second kind.
-abbrev pub Back : (List Act → Type 0) → (List Act → Type 0) → Type 0
-Back Here There = (new : List Act) → Here new → (there : List Act) × There there
+abbrev pub PossibleIfOther : (List Act → Type 0) → (List Act → Type 0) → Type 0
+PossibleIfOther Here There = (new : List Act) → Here new → (there : List Act) × There there
 
-pub first_back : (A B C D : List Act → Type 0) → Back A C → Back C A → Back B D → Back (First A B) (First C D)
+pub first_back : (A B C D : List Act → Type 0) → PossibleIfOther A C → PossibleIfOther C A → PossibleIfOther B D
+    → PossibleIfOther (First A B) (First C D)
 first_back A B C D to from on new (inl a) = ((to new a).0, inl (to new a).1)
 first_back A B C D to from on new (inr b) =
     ((on new b.1).0, inr ((λ one c. b.0 (from one c).0 (from one c).1), (on new b.1).1))
 
-next_back : (config : Config) (log other : List Act) → device_acts other ≡ device_acts log → Back (IsNext config other) (IsNext config log)
-next_back config log other same = first_back _ _ _ _ (λ new. happens_back IsFired log other new same)
-    (λ new. happens_back IsFired other log new (sym same))
-    (first_back _ _ _ _ (λ new. goes_back config log other new same) (λ new. goes_back config other log new (sym same))
-    (first_back _ _ _ _ (λ new. happens_back IsStep log other new same) (λ new. happens_back IsStep other log new (sym same))
-    (λ new. gives_back config log other new same)))
+next_back : (config : Config) (log other : List Act) → device_acts other ≡ device_acts log
+    → PossibleIfOther (IsNext config other) (IsNext config log)
+next_back config log other same = first_back _ _ _ _ (λ new. instrument_step_back IsFired log other new same)
+    (λ new. instrument_step_back IsFired other log new (sym same))
+    (first_back _ _ _ _ (λ new. resumes_back config log other new same) (λ new. resumes_back config other log new (sym same))
+    (first_back _ _ _ _ (λ new. instrument_step_back IsStep log other new same)
+        (λ new. instrument_step_back IsStep other log new (sym same))
+    (λ new. times_out_back config log other new same)))
 
 pub still_settled : (c : ℕ) (act : ConnAct) (config : Config) (log : List Act) → IsSettled config log → IsSettled config (On c act ∷ log)
 still_settled c act config log none = λ new next.
@@ -77,24 +81,24 @@ happens_channel : (act : ChannelAct) (IsSuch : List InstrumentAct → List Instr
     → InstrumentDoes IsSuch log new → (there : List Act) × InstrumentDoes IsSuch (OnDevice (Channel act) ∷ log) there
 happens_channel act IsSuch log new (adds, such, is) = (map OnDevice (map Applied adds) ++ OnDevice (Channel act) ∷ log, (adds, such, refl))
 
-channel_goes : (act : ChannelAct) (config : Config) (log new : List Act) → Resumes config (OnDevice (Channel act) ∷ log) new
+resumes_without_channel_act : (act : ChannelAct) (config : Config) (log new : List Act) → Resumes config (OnDevice (Channel act) ∷ log) new
     → (there : List Act) × Resumes config log there
-channel_goes act config log new (c, wait, polled, oldest, for, said, is) =
-    (went_on config log polled c wait, (c, wait, polled, oldest, for, said, refl))
+resumes_without_channel_act act config log new (c, wait, polled, oldest, for, said, is) =
+    (log_after_resume config log polled c wait, (c, wait, polled, oldest, for, said, refl))
 
-goes_channel : (act : ChannelAct) (config : Config) (log new : List Act) → Resumes config log new
+resumes_with_channel_act : (act : ChannelAct) (config : Config) (log new : List Act) → Resumes config log new
     → (there : List Act) × Resumes config (OnDevice (Channel act) ∷ log) there
-goes_channel act config log new (c, wait, polled, oldest, for, said, is) =
-    (went_on config (OnDevice (Channel act) ∷ log) polled c wait, (c, wait, polled, oldest, for, said, refl))
+resumes_with_channel_act act config log new (c, wait, polled, oldest, for, said, is) =
+    (log_after_resume config (OnDevice (Channel act) ∷ log) polled c wait, (c, wait, polled, oldest, for, said, refl))
 
 channel_gives : (act : ChannelAct) (config : Config) (log new : List Act) → TimesOut config (OnDevice (Channel act) ∷ log) new
     → (there : List Act) × TimesOut config log there
-channel_gives act config log new (c, wait, oldest, for, is) = (gave_up log c wait, (c, wait, oldest, for, refl))
+channel_gives act config log new (c, wait, oldest, for, is) = (log_after_timeout log c wait, (c, wait, oldest, for, refl))
 
 pub channel_settled : (act : ChannelAct) (config : Config) (log : List Act) → IsSettled config log
     → IsSettled config (OnDevice (Channel act) ∷ log)
 channel_settled act config log none = λ new next.
     let there = first_back _ _ _ _ (λ new. channel_happens act IsFired log new) (λ new. happens_channel act IsFired log new)
-    (first_back _ _ _ _ (λ new. channel_goes act config log new) (λ new. goes_channel act config log new)
+    (first_back _ _ _ _ (λ new. resumes_without_channel_act act config log new) (λ new. resumes_with_channel_act act config log new)
     (first_back _ _ _ _ (λ new. channel_happens act IsStep log new) (λ new. happens_channel act IsStep log new)
     (λ new. channel_gives act config log new))) new next in none there.0 there.1

@@ -5,7 +5,7 @@ use Rattle.sv_errors.specs.declared.code.Code.{Code}
 use Rattle.sv_scan.specs.declared.setting.State.TheVariants.{Waiting, Scanning}
 use Rattle.sv_exchange.specs.Exchange.{Due, NothingDue, OverrunDue, InterruptDue, UnitDue, FinishDue, due, next_unit, is_something}
 use Rattle.sv_exchange.specs.Contents.{Contents, IsUnitDue, next_of, shown_by, exchange_measure}
-use Rattle.sv_exchange.proofs.Dues.{at_unit}
+use Rattle.sv_exchange.proofs.Dues.{unit_due_state}
 use Rattle.sv_layers.specs.declared.change.Awaited.{Awaited}
 use Rattle.sv_layers.specs.Act.{Act, exchange_acts}
 use Rattle.sv_layers.specs.Condition.{is_idle}
@@ -114,6 +114,6 @@ pub take_right : (kept : Option Awaited) (old new : LayerState) (count : ℕ) �
     → IsHeldRight kept new
 take_right None old new count right within value = tt
 take_right (Some awaited) old new count right within value =
-    let none = shown_nothing (shown_by old.exchange) count (at_unit old.exchange right).no_response within in
+    let none = shown_nothing (shown_by old.exchange) count (unit_due_state old.exchange right).no_response within in
     let same : new.exchange ≡ old.exchange = value ∙ ap (λ (n : ℕ). record old.exchange { output = drop n old.exchange.output }) none in
     subst (λ (contents : Contents). IsUnitDue (next_of contents)) (sym same) right

@@ -6,7 +6,7 @@ use Rattle.std.specs.Prelude.{reverse, slice_get}
 use Rattle.sv_errors.specs.declared.code.Code.{Code}
 use Rattle.sv_exchange.specs.Exchange.{ExchangeAct, Accepted, Finished, units_done, current, message, units, next_unit}
 use Rattle.sv_exchange.specs.Contents.{Contents, StandsFor as Exchanges, is_open}
-use Rattle.sv_exchange.proofs.Dues.{at_unit}
+use Rattle.sv_exchange.proofs.Dues.{unit_due_state}
 use Rattle.sv_exchange.proofs.Stands.{not_true}
 use Rattle.sv_instrument.specs.declared.command.order.Order.{Order}
 use Rattle.sv_instrument.specs.Command.Unit.{IsReadAs}
@@ -33,7 +33,7 @@ none_done contents acts s unended = sym s.count ∙ ap length (s.unbegun unended
 none_held : (kept : Option Awaited) (layers : LayerState) → IsHeldRight kept layers → layers.exchange.ended ≡ false → one_if_held kept ≡ 0
 none_held None layers right unended = refl
 none_held (Some awaited) layers right unended =
-    let z : true ≡ false = sym (at_unit layers.exchange right).ended ∙ unended in absurd cc
+    let z : true ≡ false = sym (unit_due_state layers.exchange right).ended ∙ unended in absurd cc
 
 -- so none of it began
 pub none_begun : (kept : Kept) (log : List Act) → StandsFor kept log → IsHeldRight kept.held kept.layers

@@ -23,16 +23,16 @@ use Rattle.sv_history.specs.Execution.{request_effect, aborts}
 use Rattle.sv_history.specs.History.{abort_acts, turn_acts, own_acts, refusal, IsLogOf}
 use Rattle.sv_laws.specs.InOrder.{replies}
 use Rattle.sv_laws.specs.InTime.{age, patience, waits_for_peer, ticks_in, LeavesOpen, AnsweredInTime}
-use Rattle.sv_laws.proofs.Facts.{some_same, some_none}
+use Rattle.sv_laws.proofs.Facts.{some_injective, none_is_not_some}
 use Rattle.sv_laws.proofs.OneLog.{one_log}
-use Rattle.sv_laws.proofs.Brought.{brings, AreCalls}
+use Rattle.sv_laws.proofs.Brought.{brings, AreCallActs}
 use Rattle.sv_laws.proofs.OnlyCalls.{only_calls}
-use Rattle.sv_laws.proofs.TurnAnswered.{asks_some}
+use Rattle.sv_laws.proofs.TurnAnswered.{next_call_has_request}
 use Rattle.sv_laws.proofs.TicksTaken.{ticks_count}
 use Rattle.sv_laws.proofs.InTime.{NoCalls, in_time}
-use Rattle.sv_laws.proofs.EveryLog.Taken.{free_call}
-use Rattle.sv_laws.proofs.EveryLog.EachAct.{AllCame, all_came, open_unless}
-use Rattle.sv_laws.proofs.EveryLog.EachEvent.{turn_parts}
+use Rattle.sv_laws.proofs.EveryLog.Taken.{next_call_means_none_pending}
+use Rattle.sv_laws.proofs.EveryLog.EachAct.{WerePossible, acts_were_possible, unrefused_is_open}
+use Rattle.sv_laws.proofs.EveryLog.EachEvent.{turn_acts_in_order}
 use Rattle.sv_laws.proofs.EveryLog.Steps.{Extends, extends_then, settles_extends}
 
 -- ---- acts of the connection that don't open or close it
@@ -55,92 +55,94 @@ stays_front (Opened role ∷ a) b h = absurd h
 stays_front (PortClosed ∷ a) b h = absurd h
 stays_front (_ ∷ a) b h = stays_front a b h
 
-calls_stay : (calls : List ConnAct) → AreCalls calls → StaysOpen calls
-calls_stay [] h = tt
-calls_stay (CallTaken call ∷ calls) h = calls_stay calls h
-calls_stay (Faulted ∷ calls) h = calls_stay calls h
-calls_stay (Replied reply ∷ calls) h = calls_stay calls h
-calls_stay (_ ∷ calls) h = absurd h
+calls_keep_open : (calls : List ConnAct) → AreCallActs calls → StaysOpen calls
+calls_keep_open [] h = tt
+calls_keep_open (CallTaken call ∷ calls) h = calls_keep_open calls h
+calls_keep_open (Faulted ∷ calls) h = calls_keep_open calls h
+calls_keep_open (Replied reply ∷ calls) h = calls_keep_open calls h
+calls_keep_open (_ ∷ calls) h = absurd h
 
-stays_role : (acts own : List ConnAct) → StaysOpen acts → open_role (acts ++ own) ≡ open_role own
-stays_role [] own h = refl
-stays_role (Opened role ∷ acts) own h = absurd h
-stays_role (PortClosed ∷ acts) own h = absurd h
-stays_role (_ ∷ acts) own h = stays_role acts own h
+role_stays : (acts own : List ConnAct) → StaysOpen acts → open_role (acts ++ own) ≡ open_role own
+role_stays [] own h = refl
+role_stays (Opened role ∷ acts) own h = absurd h
+role_stays (PortClosed ∷ acts) own h = absurd h
+role_stays (_ ∷ acts) own h = role_stays acts own h
 
 -- `own` are the acts of the connection before the call `bytes` was taken, and `front` those since.
 -- Either the call is still pending, nothing was replied since and no other call was taken; or the
 -- connection has more replies than before.
-abbrev Goes : List ℕ → List ConnAct → List ConnAct → Type 0
-Goes bytes front own = ((length (replies (front ++ CallTaken bytes ∷ own)) ≡ length (replies own))
+abbrev PendingOrAnswered : List ℕ → List ConnAct → List ConnAct → Type 0
+PendingOrAnswered bytes front own = ((length (replies (front ++ CallTaken bytes ∷ own)) ≡ length (replies own))
     × (pending_call (front ++ CallTaken bytes ∷ own) ≡ Some bytes) × NoCalls front)
     ⊎ (length (replies own) < length (replies (front ++ CallTaken bytes ∷ own)))
 
-no_fault : (bytes : List ℕ) (call : CoreCall) → core_call bytes ≡ Some call → call_at bytes ≡ Err BadHeader → ⊥
-no_fault bytes call known bad =
+core_call_is_a_call : (bytes : List ℕ) (call : CoreCall) → core_call bytes ≡ Some call → call_at bytes ≡ Err BadHeader → ⊥
+core_call_is_a_call bytes call known bad =
     let none : core_call bytes ≡ None = ap (λ (r : Result PlainCall CallFault). core_call_of (request_of Core r)) bad in
-    some_none (core_call bytes) call none known
+    none_is_not_some (core_call bytes) call none known
 
-goes : (bytes : List ℕ) (call : CoreCall) (front own : List ConnAct) → core_call bytes ≡ Some call → StaysOpen front
-    → AllCame (front ++ CallTaken bytes ∷ own) → Goes bytes front own
-goes bytes call [] own known stays all = inl (refl, refl, tt)
-goes bytes call (Opened role ∷ front) own known stays all = absurd stays
-goes bytes call (PortClosed ∷ front) own known stays all = absurd stays
-goes bytes call (Piece piece ∷ front) own known stays all = goes bytes call front own known stays all.1
-goes bytes call (BytesTaken count ∷ front) own known stays all = goes bytes call front own known stays all.1
-goes bytes call (CallTaken other ∷ front) own known stays all = elim (goes bytes call front own known stays all.1) [
-  | inl was ↦ some_none (pending_call (front ++ CallTaken bytes ∷ own)) bytes
-      (free_call (front ++ CallTaken bytes ∷ own) other all.0.1) was.1
+pending_or_answered : (bytes : List ℕ) (call : CoreCall) (front own : List ConnAct) → core_call bytes ≡ Some call → StaysOpen front
+    → WerePossible (front ++ CallTaken bytes ∷ own) → PendingOrAnswered bytes front own
+pending_or_answered bytes call [] own known stays all = inl (refl, refl, tt)
+pending_or_answered bytes call (Opened role ∷ front) own known stays all = absurd stays
+pending_or_answered bytes call (PortClosed ∷ front) own known stays all = absurd stays
+pending_or_answered bytes call (Piece piece ∷ front) own known stays all = pending_or_answered bytes call front own known stays all.1
+pending_or_answered bytes call (BytesTaken count ∷ front) own known stays all = pending_or_answered bytes call front own known stays all.1
+pending_or_answered bytes call (CallTaken other ∷ front) own known stays all =
+    elim (pending_or_answered bytes call front own known stays all.1) [
+  | inl was ↦ none_is_not_some (pending_call (front ++ CallTaken bytes ∷ own)) bytes
+      (next_call_means_none_pending (front ++ CallTaken bytes ∷ own) other all.0.1) was.1
   | inr more ↦ inr more
 ]
-goes bytes call (Faulted ∷ front) own known stays all = elim (goes bytes call front own known stays all.1) [
+pending_or_answered bytes call (Faulted ∷ front) own known stays all = elim (pending_or_answered bytes call front own known stays all.1) [
   | inl was ↦
-      let same : all.0.0 ≡ bytes = some_same all.0.0 bytes (sym all.0.1 ∙ was.1) in
-      absurd (no_fault bytes call known (ap call_at (sym same) ∙ all.0.2))
+      let same : all.0.0 ≡ bytes = some_injective all.0.0 bytes (sym all.0.1 ∙ was.1) in
+      absurd (core_call_is_a_call bytes call known (ap call_at (sym same) ∙ all.0.2))
   | inr more ↦ inr more
 ]
-goes bytes call (Replied reply ∷ front) own known stays all = elim (goes bytes call front own known stays all.1) [
+pending_or_answered bytes call (Replied reply ∷ front) own known stays all =
+    elim (pending_or_answered bytes call front own known stays all.1) [
   | inl was ↦ inr (let same = was.0 in omega (arith, same))
   | inr more ↦ inr (omega (arith, more))
 ]
 
 -- ---- the age of the call
 
-of_join : (c : ℕ) (front log : List Act) → of c (front ++ log) ≡ of c front ++ of c log
-of_join c [] log = refl
-of_join c (On d act ∷ front) log = elim (cases_Bool (eqb d c)) [
-  | inl e ↦ rw e (ap (λ (l : List ConnAct). act ∷ l) (of_join c front log))
-  | inr e ↦ rw e (of_join c front log)
+of_append : (c : ℕ) (front log : List Act) → of c (front ++ log) ≡ of c front ++ of c log
+of_append c [] log = refl
+of_append c (On d act ∷ front) log = elim (cases_Bool (eqb d c)) [
+  | inl e ↦ rw e (ap (λ (l : List ConnAct). act ∷ l) (of_append c front log))
+  | inr e ↦ rw e (of_append c front log)
 ]
-of_join c (OnDevice act ∷ front) log = of_join c front log
+of_append c (OnDevice act ∷ front) log = of_append c front log
 
-device_join : (front log : List Act) → device_acts (front ++ log) ≡ device_acts front ++ device_acts log
-device_join [] log = refl
-device_join (On d act ∷ front) log = device_join front log
-device_join (OnDevice act ∷ front) log = ap (λ (l : List DeviceAct). act ∷ l) (device_join front log)
+device_acts_append : (front log : List Act) → device_acts (front ++ log) ≡ device_acts front ++ device_acts log
+device_acts_append [] log = refl
+device_acts_append (On d act ∷ front) log = device_acts_append front log
+device_acts_append (OnDevice act ∷ front) log = ap (λ (l : List DeviceAct). act ∷ l) (device_acts_append front log)
 
-ticks_join : (a b : List DeviceAct) → ticks (a ++ b) ≡ ticks a + ticks b
-ticks_join [] b = omega arith
-ticks_join (Ticked ∷ a) b = let same = ticks_join a b in omega (arith, same)
-ticks_join (_ ∷ a) b = ticks_join a b
+ticks_append : (a b : List DeviceAct) → ticks (a ++ b) ≡ ticks a + ticks b
+ticks_append [] b = omega arith
+ticks_append (Ticked ∷ a) b = let same = ticks_append a b in omega (arith, same)
+ticks_append (_ ∷ a) b = ticks_append a b
 
 no_call_first : (act : ConnAct) (acts : List ConnAct) → NoCalls (act ∷ acts) → NoCalls acts
 no_call_first (CallTaken call) acts h = absurd h
 no_call_first _ acts h = h
 
-age_front : (c : ℕ) (bytes : List ℕ) (front log : List Act) → NoCalls (of c front)
+age_is_ticks_since : (c : ℕ) (bytes : List ℕ) (front log : List Act) → NoCalls (of c front)
     → age c (front ++ On c (CallTaken bytes) ∷ log) ≡ ticks (device_acts front)
-age_front c bytes [] log h = rw (eq-eqb c c refl) refl
-age_front c bytes (On d (CallTaken call) ∷ front) log h = elim (cases_Bool (eqb d c)) [
+age_is_ticks_since c bytes [] log h = rw (eq-eqb c c refl) refl
+age_is_ticks_since c bytes (On d (CallTaken call) ∷ front) log h = elim (cases_Bool (eqb d c)) [
   | inl e ↦ absurd (rw e at h)
-  | inr e ↦ rw e (age_front c bytes front log (rw e at h))
+  | inr e ↦ rw e (age_is_ticks_since c bytes front log (rw e at h))
 ]
-age_front c bytes (On d act ∷ front) log h = elim (cases_Bool (eqb d c)) [
-  | inl e ↦ age_front c bytes front log (no_call_first act (of c front) (rw e at h))
-  | inr e ↦ age_front c bytes front log (rw e at h)
+age_is_ticks_since c bytes (On d act ∷ front) log h = elim (cases_Bool (eqb d c)) [
+  | inl e ↦ age_is_ticks_since c bytes front log (no_call_first act (of c front) (rw e at h))
+  | inr e ↦ age_is_ticks_since c bytes front log (rw e at h)
 ]
-age_front c bytes (OnDevice Ticked ∷ front) log h = ap (λ (n : ℕ). n + 1) (age_front c bytes front log h)
-age_front c bytes (OnDevice _ ∷ front) log h = age_front c bytes front log h
+age_is_ticks_since c bytes (OnDevice Ticked ∷ front) log h = ap (λ (n : ℕ). n + 1) (age_is_ticks_since c bytes front log h)
+age_is_ticks_since c bytes (OnDevice _ ∷ front) log h = age_is_ticks_since c bytes front log h
 
 -- ---- events that leave the connection open
 
@@ -177,12 +179,12 @@ brings_stay config c _ channel_log log leaves opened free = tt
 
 -- ---- the law
 
-open_before : (bytes : List ℕ) (front own : List ConnAct) → StaysOpen front → AllCame (front ++ CallTaken bytes ∷ own)
+open_before : (bytes : List ℕ) (front own : List ConnAct) → StaysOpen front → WerePossible (front ++ CallTaken bytes ∷ own)
     → is_open (front ++ CallTaken bytes ∷ own) ≡ true
 open_before bytes front own stays all =
-    ap is_some (stays_role front (CallTaken bytes ∷ own) stays) ∙ (came_front front (CallTaken bytes ∷ own) all).0.0
+    ap is_some (role_stays front (CallTaken bytes ∷ own) stays) ∙ (came_front front (CallTaken bytes ∷ own) all).0.0
   where
-    came_front : (newer older : List ConnAct) → AllCame (newer ++ older) → AllCame older
+    came_front : (newer older : List ConnAct) → WerePossible (newer ++ older) → WerePossible older
     came_front [] older all = all
     came_front (act ∷ newer) older all = came_front newer older all.1
 
@@ -202,14 +204,14 @@ turn_is : (config : Config) (polled c : ℕ) (bytes : List ℕ) (request : Reque
     → let taken = acts_of c (request_effect config polled c request (device_acts log)) ++ On c (CallTaken bytes) ∷ log in
     turn_acts config polled c found asked log ++ log ≡ abort_acts (aborts request (device_acts log)) taken ++ taken
 turn_is config polled c bytes request found asked log first asks = rw (first, asks)
-    (turn_parts c bytes (request_effect config polled c request (device_acts log)) (aborts request (device_acts log)) log)
+    (turn_acts_in_order c bytes (request_effect config polled c request (device_acts log)) (aborts request (device_acts log)) log)
 
 turn_follows : (config : Config) (past : List PlainEvent) (before log : List Act) (c : ℕ) (bytes : List ℕ) → IsLogOf config past before
     → next_call (of c before) ≡ Some bytes → IsLogOf config (Turn c ∷ past) log → Follows c bytes before log
 turn_follows config past before log c bytes was next now =
     let same = one_log config past now.0 before now.4 was in
     let first : next_call (of c now.0) ≡ Some bytes = ap (λ (l : List Act). next_call (of c l)) same ∙ next in
-    let request = asks_some (of c now.0) bytes (open_unless c now.0 _ now.6) first in
+    let request = next_call_has_request (of c now.0) bytes (unrefused_is_open c now.0 _ now.6) first in
     let effect = request_effect config now.1 c request.0 (device_acts now.0) in
     let taken = acts_of c effect ++ On c (CallTaken bytes) ∷ now.0 in
     let own : own_acts config now.1 (Turn c) now.0 ++ now.0 ≡ abort_acts (aborts request.0 (device_acts now.0)) taken ++ taken =
@@ -225,7 +227,7 @@ turn_follows config past before log c bytes was next now =
     let own_calls : of c log ≡ calls.0 ++ of c before = calls.2 in
     let there : log ≡ front ++ On c (CallTaken bytes) ∷ before = is ∙ ap (λ (l : List Act). front ++ On c (CallTaken bytes) ∷ l) same in
     let joined : of c log ≡ (of c front ++ CallTaken bytes ∷ []) ++ of c before =
-    ap (of c) there ∙ of_join c front (On c (CallTaken bytes) ∷ before)
+    ap (of c) there ∙ of_append c front (On c (CallTaken bytes) ∷ before)
     ∙ ap (λ (l : List ConnAct). of c front ++ l) (rw (eq-eqb c c refl) refl)
     ∙ sym (append_assoc (of c front) (CallTaken bytes ∷ []) (of c before)) in
     let same_calls : of c front ++ CallTaken bytes ∷ [] ≡ calls.0 =
@@ -233,23 +235,24 @@ turn_follows config past before log c bytes was next now =
     record {
       front = front;
       is = there;
-      stays = stays_front (of c front) (CallTaken bytes ∷ []) (subst StaysOpen (sym same_calls) (calls_stay calls.0 calls.1));
+      stays = stays_front (of c front) (CallTaken bytes ∷ []) (subst StaysOpen (sym same_calls) (calls_keep_open calls.0 calls.1));
     }
 
 own_of : (c : ℕ) (bytes : List ℕ) (front before : List Act)
     → of c (front ++ On c (CallTaken bytes) ∷ before) ≡ of c front ++ CallTaken bytes ∷ of c before
-own_of c bytes front before = of_join c front (On c (CallTaken bytes) ∷ before)
+own_of c bytes front before = of_append c front (On c (CallTaken bytes) ∷ before)
     ∙ ap (λ (l : List ConnAct). of c front ++ l) (rw (eq-eqb c c refl) refl)
 
 -- After the Turn and the events that follow it, the log still continues the log in which the call
 -- was taken.
-all_follow : (config : Config) (past events : List PlainEvent) (before log : List Act) (c : ℕ) (bytes : List ℕ) → IsLogOf config past before
+follows_after_events : (config : Config) (past events : List PlainEvent) (before log : List Act) (c : ℕ) (bytes : List ℕ)
+    → IsLogOf config past before
     → next_call (of c before) ≡ Some bytes → IsLogOf config (events ++ Turn c ∷ past) log → AllByRecursion (LeavesOpen c) events
     → Follows c bytes before log
-all_follow config past [] before log c bytes was next now leaves = turn_follows config past before log c bytes was next now
-all_follow config past (event ∷ events) before log c bytes was next now leaves =
+follows_after_events config past [] before log c bytes was next now leaves = turn_follows config past before log c bytes was next now
+follows_after_events config past (event ∷ events) before log c bytes was next now leaves =
     let history = events ++ Turn c ∷ past in
-    let follows = all_follow config past events before now.0 c bytes was next now.4 leaves.1 in
+    let follows = follows_after_events config past events before now.0 c bytes was next now.4 leaves.1 in
     let more = event_extends config event history now.0 log now.4 now in
     let front = more.0 ++ follows.front in
     let is : log ≡ front ++ On c (CallTaken bytes) ∷ before =
@@ -258,17 +261,17 @@ all_follow config past (event ∷ events) before log c bytes was next now leaves
     ∙ own_of c bytes follows.front before in
     let opened : is_open (of c now.0) ≡ true = ap is_open own_was
     ∙ open_before bytes (of c follows.front) (of c before) follows.stays
-    (subst AllCame own_was (all_came config history now.0 c now.4)) in
+    (subst WerePossible own_was (acts_were_possible config history now.0 c now.4)) in
     let brought = brings_stay config c event now.2 now.0 leaves.0 opened now.6 in
     let calls = only_calls config event history now.0 log c now.4 now in
     let added : of c more.0 ≡ calls.0 ++ brings c event =
     append_cancel_right (of c more.0) (calls.0 ++ brings c event) (of c now.0)
-    (sym (of_join c more.0 now.0) ∙ sym (ap (of c) more.1) ∙ calls.2 ∙ sym (append_assoc calls.0 (brings c event) (of c now.0))) in
+    (sym (of_append c more.0 now.0) ∙ sym (ap (of c) more.1) ∙ calls.2 ∙ sym (append_assoc calls.0 (brings c event) (of c now.0))) in
     record {
       front = front;
       is = is;
-      stays = subst StaysOpen (sym (of_join c more.0 follows.front)) (stays_join (of c more.0) (of c follows.front)
-          (subst StaysOpen (sym added) (stays_join calls.0 (brings c event) (calls_stay calls.0 calls.1) brought)) follows.stays);
+      stays = subst StaysOpen (sym (of_append c more.0 follows.front)) (stays_join (of c more.0) (of c follows.front)
+          (subst StaysOpen (sym added) (stays_join calls.0 (brings c event) (calls_keep_open calls.0 calls.1) brought)) follows.stays);
     }
 
 ticks_between : (past events : List PlainEvent) (c : ℕ) → ticks_in (events ++ Turn c ∷ past) ≡ ticks_in events + ticks_in past
@@ -278,22 +281,22 @@ ticks_between past (_ ∷ events) c = ticks_between past events c
 
 pub answered_in_time : AnsweredInTime
 answered_in_time config past events before log c bytes call was next known other now leaves many =
-    let follows = all_follow config past events before log c bytes was next now leaves in
+    let follows = follows_after_events config past events before log c bytes was next now leaves in
     let own : of c log ≡ of c follows.front ++ CallTaken bytes ∷ of c before = ap (of c) follows.is ∙ own_of c bytes follows.front before in
-    let all = subst AllCame own (all_came config (events ++ Turn c ∷ past) log c now) in
-    elim (goes bytes call (of c follows.front) (of c before) known follows.stays all) [
+    let all = subst WerePossible own (acts_were_possible config (events ++ Turn c ∷ past) log c now) in
+    elim (pending_or_answered bytes call (of c follows.front) (of c before) known follows.stays all) [
       | inl goes_on ↦
           let young = in_time config (events ++ Turn c ∷ past) log c bytes now (ap pending_call own ∙ goes_on.1) in
-          let same : young.0 ≡ call = some_same young.0 call (sym young.1 ∙ known) in
+          let same : young.0 ≡ call = some_injective young.0 call (sym young.1 ∙ known) in
           let less : age c log < patience call.arguments =
           subst (λ (k : CoreCall). age c log < patience k.arguments) same
           (young.2 (ap (λ (k : CoreCall). waits_for_peer k.arguments) same ∙ other)).0 in
           let old : age c log ≡ ticks (device_acts follows.front) = ap (age c) follows.is
-          ∙ age_front c bytes follows.front before goes_on.2 in
+          ∙ age_is_ticks_since c bytes follows.front before goes_on.2 in
           let sum : ticks (device_acts log) ≡ ticks (device_acts follows.front) + ticks (device_acts before) =
           ap (λ (l : List Act). ticks (device_acts l)) follows.is
-          ∙ ap ticks (device_join follows.front (On c (CallTaken bytes) ∷ before))
-          ∙ ticks_join (device_acts follows.front) (device_acts before) in
+          ∙ ap ticks (device_acts_append follows.front (On c (CallTaken bytes) ∷ before))
+          ∙ ticks_append (device_acts follows.front) (device_acts before) in
           let all_ticks : ticks (device_acts log) ≡ ticks_in (events ++ Turn c ∷ past) = ticks_count config
           (events ++ Turn c ∷ past) log now in
           let past_ticks : ticks (device_acts before) ≡ ticks_in past = ticks_count config past before was in

@@ -14,7 +14,7 @@ use Rattle.sv_history.specs.Act.{Act, ConnAct, Opened, Piece, CallTaken, Faulted
 use Rattle.sv_history.specs.Connection.{open_role, pending_call}
 use Rattle.sv_history.specs.CoreCall.{CoreCall}
 use Rattle.sv_history.specs.Request.{core_call_in}
-use Rattle.sv_history.proofs.Dialing.{peer_by}
+use Rattle.sv_history.proofs.Dialing.{peer_named_by}
 use Rattle.sv_history.specs.Requests.{HearsOf}
 use Rattle.sv_history.specs.History.{last_clock, history_after, IsLogOf, Answers}
 
@@ -28,18 +28,18 @@ brings c (Close (Conn d)) = if d == c then PortClosed ∷ [] else []
 brings c _ = []
 
 -- The acts are only those of calls: a call is taken, a record isn't a call, or a reply is sent.
-abbrev pub AreCalls : List ConnAct → Type 0
-AreCalls [] = ⊤
-AreCalls (CallTaken call ∷ acts) = AreCalls acts
-AreCalls (Faulted ∷ acts) = AreCalls acts
-AreCalls (Replied bytes ∷ acts) = AreCalls acts
-AreCalls (_ ∷ acts) = ⊥
+abbrev pub AreCallActs : List ConnAct → Type 0
+AreCallActs [] = ⊤
+AreCallActs (CallTaken call ∷ acts) = AreCallActs acts
+AreCallActs (Faulted ∷ acts) = AreCallActs acts
+AreCallActs (Replied bytes ∷ acts) = AreCallActs acts
+AreCallActs (_ ∷ acts) = ⊥
 
 -- An event first adds its own act to each connection, and after it only acts of calls.
 abbrev pub OnlyCalls : Type 0
 OnlyCalls = (config : Config) (event : PlainEvent) (history : List PlainEvent) (before log : List Act) (c : ℕ)
     → IsLogOf config history before → IsLogOf config (event ∷ history) log
-    → (calls : List ConnAct) × AreCalls calls × (of c log ≡ calls ++ (brings c event ++ of c before))
+    → (calls : List ConnAct) × AreCallActs calls × (of c log ≡ calls ++ (brings c event ++ of c before))
 
 -- The newest act closed the connection, or the connection has no act.
 abbrev pub IsClear : List ConnAct → Type 0
@@ -58,7 +58,7 @@ opened_to c (Some peer) = ChannelOpened c peer ∷ []
 opened_to c None = []
 
 abbrev pub peer_in : Option CoreCall → Option Peer
-peer_in (Some call) = peer_by call.arguments
+peer_in (Some call) = peer_named_by call.arguments
 peer_in None = None
 
 abbrev pub tells : PlainEvent → List Act → List ChannelAct

@@ -10,23 +10,24 @@ pub record SameCall (c : ℕ) (acts other : List WaitAct) : Type 0 where
   pub until : deadline c acts ≡ deadline c other
   pub named : link c acts ≡ link c other
 
-abbrev pub conn_of : WaitAct → ℕ
-conn_of (Entered conn link wait deadline) = conn
-conn_of (Again conn wait deadline) = conn
-conn_of (Left conn) = conn
+abbrev pub connection_of : WaitAct → ℕ
+connection_of (Entered conn link wait deadline) = conn
+connection_of (Again conn wait deadline) = conn
+connection_of (Left conn) = conn
 
-pub call_foreign : (c : ℕ) (act : WaitAct) (acts other : List WaitAct) → conn_of act ≢ c → SameCall c acts other
+pub foreign_act_keeps_call : (c : ℕ) (act : WaitAct) (acts other : List WaitAct) → connection_of act ≢ c → SameCall c acts other
     → SameCall c (act ∷ acts) other
-call_foreign c (Entered conn named wait last) acts other ne same = search (ne_eqb conn c ne)
-call_foreign c (Again conn wait last) acts other ne same = search (ne_eqb conn c ne)
-call_foreign c (Left conn) acts other ne same = search (ne_eqb conn c ne)
+foreign_act_keeps_call c (Entered conn named wait last) acts other ne same = search (ne_eqb conn c ne)
+foreign_act_keeps_call c (Again conn wait last) acts other ne same = search (ne_eqb conn c ne)
+foreign_act_keeps_call c (Left conn) acts other ne same = search (ne_eqb conn c ne)
 
 pub call_sym : (c : ℕ) (acts other : List WaitAct) → SameCall c acts other → SameCall c other acts
 call_sym c acts other same = search sym
 
-pub call_same : (c : ℕ) (act : WaitAct) (acts other : List WaitAct) → SameCall c acts other → SameCall c (act ∷ acts) (act ∷ other)
-call_same c (Entered conn named wait last) acts other same = elim (cases_Bool (eqb conn c)) [
+pub same_act_keeps_call : (c : ℕ) (act : WaitAct) (acts other : List WaitAct) → SameCall c acts other
+    → SameCall c (act ∷ acts) (act ∷ other)
+same_act_keeps_call c (Entered conn named wait last) acts other same = elim (cases_Bool (eqb conn c)) [
   | inl e ↦ record { wait = rw e refl; until = rw e refl; named = rw e refl }
   | inr e ↦ record { wait = rw e same.wait; until = rw e same.until; named = rw e same.named }
 ]
-call_same c _ acts other same = search (same.wait, same.until, same.named)
+same_act_keeps_call c _ acts other same = search (same.wait, same.until, same.named)

@@ -8,8 +8,8 @@ use Rattle.std.proofs.lemmas.List.Elements.{filter-append}
 use Rattle.sv_links.specs.declared.enabled.Enabled.{Enabled}
 use Rattle.sv_links.specs.Channels.{ChannelAct, SrqEnabled, SrqDisabled, ChannelOpened, ChannelClosed, Requested, ChannelTaken, srq_enabled, past, enabled_links, peer, bytes_taken, calls, all_calls}
 use Rattle.sv_links.specs.ChannelRepresentation.{IsSorted}
-use Rattle.sv_links.proofs.Asking.{below, above, other_links, none_below, sorted_filter}
-use Rattle.sv_links.proofs.Rising.{among, asked_at, with_link, enabled_enabled, enabled_disabled, enabled_sorted}
+use Rattle.sv_links.proofs.Asking.{lower_links, higher_links, other_links, none_below, sorted_filter}
+use Rattle.sv_links.proofs.Rising.{enabled_among, enabled_has_number, with_link, links_after_enable, links_after_disable, enabled_sorted}
 
 -- Of the links that have service requests enabled, those of connection `c`.
 abbrev pub own_links : ℕ → List Enabled → List Enabled
@@ -23,14 +23,14 @@ pub record SameChannel (c : ℕ) (acts other : List ChannelAct) : Type 0 where
   pub all : all_calls c acts ≡ all_calls c other
 
 -- If link `lid` has service requests enabled, it is a link of another connection than `c`.
-abbrev pub AsksElsewhere : ℕ → ℕ → List ChannelAct → Type 0
-AsksElsewhere c lid acts = (link : Enabled) → srq_enabled lid acts ≡ Some link → link.conn ≢ c
+abbrev pub EnabledElsewhere : ℕ → ℕ → List ChannelAct → Type 0
+EnabledElsewhere c lid acts = (link : Enabled) → srq_enabled lid acts ≡ Some link → link.conn ≢ c
 
 -- The act is of another connection, and concerns no link of connection `c` that has service
 -- requests enabled. A service request, which concerns all channels, isn't such an act.
 abbrev pub IsForeignChannel : ℕ → ChannelAct → List ChannelAct → Type 0
-IsForeignChannel c (SrqEnabled lid conn handle) acts = (conn ≢ c) × AsksElsewhere c lid acts
-IsForeignChannel c (SrqDisabled lid) acts = AsksElsewhere c lid acts
+IsForeignChannel c (SrqEnabled lid conn handle) acts = (conn ≢ c) × EnabledElsewhere c lid acts
+IsForeignChannel c (SrqDisabled lid) acts = EnabledElsewhere c lid acts
 IsForeignChannel c (ChannelOpened conn what) acts = conn ≢ c
 IsForeignChannel c (ChannelClosed conn) acts = conn ≢ c
 IsForeignChannel c Requested acts = ⊥
@@ -38,16 +38,16 @@ IsForeignChannel c (ChannelTaken conn count) acts = conn ≢ c
 
 -- ---- links that have service requests enabled
 
-filter_comm : (p q : Enabled → Bool) (xs : List Enabled) → filter p (filter q xs) ≡ filter q (filter p xs)
-filter_comm p q [] = refl
-filter_comm p q (x ∷ xs) = elim (cases_Bool (p x)) [
+filters_commute : (p q : Enabled → Bool) (xs : List Enabled) → filter p (filter q xs) ≡ filter q (filter p xs)
+filters_commute p q [] = refl
+filters_commute p q (x ∷ xs) = elim (cases_Bool (p x)) [
   | inl e ↦ elim (cases_Bool (q x)) [
-    | inl k ↦ rw (e, k, e) (ap (λ (l : List Enabled). x ∷ l) (filter_comm p q xs))
-    | inr k ↦ rw (e, k) (filter_comm p q xs)
+    | inl k ↦ rw (e, k, e) (ap (λ (l : List Enabled). x ∷ l) (filters_commute p q xs))
+    | inr k ↦ rw (e, k) (filters_commute p q xs)
   ]
   | inr e ↦ elim (cases_Bool (q x)) [
-    | inl k ↦ rw (e, k, e) (filter_comm p q xs)
-    | inr k ↦ rw (e, k) (filter_comm p q xs)
+    | inl k ↦ rw (e, k, e) (filters_commute p q xs)
+    | inr k ↦ rw (e, k) (filters_commute p q xs)
   ]
 ]
 
@@ -59,28 +59,32 @@ with_asked : (acts : List ChannelAct) (n : ℕ) (first : Option Enabled) (xs : L
 with_asked acts n None xs is at all = all
 with_asked acts n (Some x) xs is at all = (ap (λ (m : ℕ). srq_enabled m acts) (at x refl) ∙ is, all)
 
-among_asked : (a n : ℕ) (acts : List ChannelAct) → AllByRecursion (λ link. srq_enabled link.lid acts ≡ Some link) (among a n acts)
-among_asked a zero acts = tt
-among_asked a (suc n) acts =
-    with_asked acts a (srq_enabled a acts) (among (a + 1) n acts) refl (asked_at a acts) (among_asked (a + 1) n acts)
+among_are_enabled : (a n : ℕ) (acts : List ChannelAct) → AllByRecursion (λ link. srq_enabled link.lid acts ≡ Some link)
+    (enabled_among a n acts)
+among_are_enabled a zero acts = tt
+among_are_enabled a (suc n) acts =
+    with_asked acts a (srq_enabled a acts) (enabled_among (a + 1) n acts) refl (enabled_has_number a acts)
+        (among_are_enabled (a + 1) n acts)
 
 -- None of these links has the number `lid`.
-abbrev Differ : ℕ → List Enabled → Type 0
-Differ lid links = AllByRecursion (λ link. link.lid ≢ lid) links
+abbrev NoneHasNumber : ℕ → List Enabled → Type 0
+NoneHasNumber lid links = AllByRecursion (λ link. link.lid ≢ lid) links
 
-differ : (c lid : ℕ) (acts : List ChannelAct) (xs : List Enabled) → AsksElsewhere c lid acts
-    → AllByRecursion (λ link. srq_enabled link.lid acts ≡ Some link) xs → Differ lid (own_links c xs)
-differ c lid acts [] none all = tt
-differ c lid acts (x ∷ xs) none all = elim (cases_Bool (eqb x.conn c)) [
+no_own_link_has_number : (c lid : ℕ) (acts : List ChannelAct) (xs : List Enabled) → EnabledElsewhere c lid acts
+    → AllByRecursion (λ link. srq_enabled link.lid acts ≡ Some link) xs → NoneHasNumber lid (own_links c xs)
+no_own_link_has_number c lid acts [] none all = tt
+no_own_link_has_number c lid acts (x ∷ xs) none all = elim (cases_Bool (eqb x.conn c)) [
   | inl e ↦ rw e (
     (λ (same : x.lid ≡ lid). none x (ap (λ (m : ℕ). srq_enabled m acts) (sym same) ∙ all.0) (eqb-true x.conn c e)),
-    differ c lid acts xs none all.1,
+    no_own_link_has_number c lid acts xs none all.1,
   )
-  | inr e ↦ rw e (differ c lid acts xs none all.1)
+  | inr e ↦ rw e (no_own_link_has_number c lid acts xs none all.1)
 ]
 
-differ_enabled : (c lid : ℕ) (acts : List ChannelAct) → AsksElsewhere c lid acts → Differ lid (own_links c (enabled_links acts))
-differ_enabled c lid acts none = differ c lid acts (enabled_links acts) none (among_asked 0 (past acts) acts)
+no_enabled_link_has_number : (c lid : ℕ) (acts : List ChannelAct) → EnabledElsewhere c lid acts
+    → NoneHasNumber lid (own_links c (enabled_links acts))
+no_enabled_link_has_number c lid acts none = no_own_link_has_number c lid acts (enabled_links acts) none
+    (among_are_enabled 0 (past acts) acts)
 
 all_weak : (lid low : ℕ) (xs : List Enabled) → lid < low → AllByRecursion (λ other. low < other.lid) xs
     → AllByRecursion (λ other. lid < other.lid) xs
@@ -91,68 +95,74 @@ lt_of : (a b : ℕ) → b ≢ a → a ≤ b → a < b
 lt_of a b ne le = omega (arith, ne, le)
 
 -- If no link has the number `lid`, the links below it and those above it are all links.
-parted : (lid : ℕ) (xs : List Enabled) → IsSorted xs → Differ lid xs → below lid xs ++ above lid xs ≡ xs
-parted lid [] sorted differ = refl
-parted lid (x ∷ xs) sorted differ =
-    let behind = parted lid xs sorted.1 differ.1 in
+below_and_above_are_all : (lid : ℕ) (xs : List Enabled) → IsSorted xs → NoneHasNumber lid xs
+    → lower_links lid xs ++ higher_links lid xs ≡ xs
+below_and_above_are_all lid [] sorted no_own_link_has_number = refl
+below_and_above_are_all lid (x ∷ xs) sorted no_own_link_has_number =
+    let behind = below_and_above_are_all lid xs sorted.1 no_own_link_has_number.1 in
     elim (cases_Bool (ltb x.lid lid)) [
       | inl e ↦ rw (e, le-ltb lid x.lid (omega (arith, ltb-true x.lid lid e))) (ap (λ (l : List Enabled). x ∷ l) behind)
       | inr e ↦
-          let lt : lid < x.lid = lt_of lid x.lid differ.0 (ltb-false x.lid lid e) in
+          let lt : lid < x.lid = lt_of lid x.lid no_own_link_has_number.0 (ltb-false x.lid lid e) in
           let none = none_below lid lid xs (omega arith) (all_weak lid x.lid xs lt sorted.0) in
           rw (e, none, lt-ltb lid x.lid lt) (ap (λ (l : List Enabled). x ∷ l) (rw none at behind))
     ]
 
-kept_differ : (lid : ℕ) (xs : List Enabled) → Differ lid xs → other_links lid xs ≡ xs
-kept_differ lid [] h = refl
-kept_differ lid (x ∷ xs) h = rw (ne_eqb x.lid lid h.0) (ap (λ (l : List Enabled). x ∷ l) (kept_differ lid xs h.1))
+removing_absent_keeps_all : (lid : ℕ) (xs : List Enabled) → NoneHasNumber lid xs → other_links lid xs ≡ xs
+removing_absent_keeps_all lid [] h = refl
+removing_absent_keeps_all lid (x ∷ xs) h =
+    rw (ne_eqb x.lid lid h.0) (ap (λ (l : List Enabled). x ∷ l) (removing_absent_keeps_all lid xs h.1))
 
 own_with : (c : ℕ) (link : Enabled) (links : List Enabled) → own_links c (with_link link links)
-    ≡ below link.lid (own_links c links) ++ (own_links c (link ∷ []) ++ above link.lid (own_links c links))
+    ≡ lower_links link.lid (own_links c links) ++ (own_links c (link ∷ []) ++ higher_links link.lid (own_links c links))
 own_with c link links =
-    filter-append (λ link. eqb link.conn c) (below link.lid links) (link ∷ above link.lid links)
+    filter-append (λ link. eqb link.conn c) (lower_links link.lid links) (link ∷ higher_links link.lid links)
     ∙ rw (
-      filter-append (λ link. eqb link.conn c) (link ∷ []) (above link.lid links),
-      filter_comm (λ link. eqb link.conn c) (λ other. ltb other.lid link.lid) links,
-      filter_comm (λ link. eqb link.conn c) (λ other. ltb link.lid other.lid) links,
+      filter-append (λ link. eqb link.conn c) (link ∷ []) (higher_links link.lid links),
+      filters_commute (λ link. eqb link.conn c) (λ other. ltb other.lid link.lid) links,
+      filters_commute (λ link. eqb link.conn c) (λ other. ltb link.lid other.lid) links,
     ) refl
 
 own_enabled : (c : ℕ) (link : Enabled) (acts : List ChannelAct)
     → own_links c (enabled_links (SrqEnabled link.lid link.conn link.handle ∷ acts))
-    ≡ below link.lid (own_links c (enabled_links acts)) ++ (own_links c (link ∷ []) ++ above link.lid (own_links c (enabled_links acts)))
-own_enabled c link acts = ap (own_links c) (enabled_enabled link acts) ∙ own_with c link (enabled_links acts)
+    ≡ lower_links link.lid (own_links c (enabled_links acts)) ++
+        (own_links c (link ∷ []) ++ higher_links link.lid (own_links c (enabled_links acts)))
+own_enabled c link acts = ap (own_links c) (links_after_enable link acts) ∙ own_with c link (enabled_links acts)
 
 own_disabled : (c lid : ℕ) (acts : List ChannelAct)
     → own_links c (enabled_links (SrqDisabled lid ∷ acts)) ≡ other_links lid (own_links c (enabled_links acts))
-own_disabled c lid acts = ap (own_links c) (enabled_disabled lid acts)
-    ∙ filter_comm (λ link. eqb link.conn c) (λ other. not (eqb other.lid lid)) (enabled_links acts)
+own_disabled c lid acts = ap (own_links c) (links_after_disable lid acts)
+    ∙ filters_commute (λ link. eqb link.conn c) (λ other. not (eqb other.lid lid)) (enabled_links acts)
 
 -- ---- an act of another connection
 
-pub channel_foreign : (c : ℕ) (act : ChannelAct) (acts other : List ChannelAct) → IsForeignChannel c act acts → SameChannel c acts other
+pub foreign_act_keeps_channel : (c : ℕ) (act : ChannelAct) (acts other : List ChannelAct) → IsForeignChannel c act acts
+    → SameChannel c acts other
     → SameChannel c (act ∷ acts) other
-channel_foreign c (SrqEnabled lid conn handle) acts other h same =
+foreign_act_keeps_channel c (SrqEnabled lid conn handle) acts other h same =
     let one : Enabled = record { lid = lid; conn = conn; handle = handle } in
-    assumption (own_enabled c one acts ∙ rw (ne_eqb conn c h.0) (parted lid (own_links c (enabled_links acts))
-    (sorted_filter (λ link. eqb link.conn c) (enabled_links acts) (enabled_sorted acts)) (differ_enabled c lid acts h.1)) ∙ same.links)
-channel_foreign c (SrqDisabled lid) acts other h same = assumption (own_disabled c lid acts
-    ∙ kept_differ lid (own_links c (enabled_links acts)) (differ_enabled c lid acts h) ∙ same.links)
-channel_foreign c (ChannelOpened conn what) acts other h same = search (ne_eqb conn c h)
-channel_foreign c (ChannelClosed conn) acts other h same = search (ne_eqb conn c h)
-channel_foreign c Requested acts other h same = absurd h
-channel_foreign c (ChannelTaken conn count) acts other h same = search (ne_eqb conn c h)
+    assumption (own_enabled c one acts ∙ rw (ne_eqb conn c h.0) (below_and_above_are_all lid (own_links c (enabled_links acts))
+    (sorted_filter (λ link. eqb link.conn c) (enabled_links acts) (enabled_sorted acts)) (no_enabled_link_has_number c lid acts h.1))
+        ∙ same.links)
+foreign_act_keeps_channel c (SrqDisabled lid) acts other h same = assumption (own_disabled c lid acts
+    ∙ removing_absent_keeps_all lid (own_links c (enabled_links acts)) (no_enabled_link_has_number c lid acts h) ∙ same.links)
+foreign_act_keeps_channel c (ChannelOpened conn what) acts other h same = search (ne_eqb conn c h)
+foreign_act_keeps_channel c (ChannelClosed conn) acts other h same = search (ne_eqb conn c h)
+foreign_act_keeps_channel c Requested acts other h same = absurd h
+foreign_act_keeps_channel c (ChannelTaken conn count) acts other h same = search (ne_eqb conn c h)
 
 pub channel_sym : (c : ℕ) (acts other : List ChannelAct) → SameChannel c acts other → SameChannel c other acts
 channel_sym c acts other same = search sym
 
 -- ---- the same act in both logs
 
-pub channel_same : (c : ℕ) (act : ChannelAct) (acts other : List ChannelAct) → SameChannel c acts other
+pub same_act_keeps_channel : (c : ℕ) (act : ChannelAct) (acts other : List ChannelAct) → SameChannel c acts other
     → SameChannel c (act ∷ acts) (act ∷ other)
-channel_same c (SrqEnabled lid conn handle) acts other same =
+same_act_keeps_channel c (SrqEnabled lid conn handle) acts other same =
     let one : Enabled = record { lid = lid; conn = conn; handle = handle } in
     assumption (own_enabled c one acts
-    ∙ ap (λ (l : List Enabled). below lid l ++ (own_links c (one ∷ []) ++ above lid l)) same.links ∙ sym (own_enabled c one other))
-channel_same c (SrqDisabled lid) acts other same =
+    ∙ ap (λ (l : List Enabled). lower_links lid l ++ (own_links c (one ∷ []) ++ higher_links lid l)) same.links
+        ∙ sym (own_enabled c one other))
+same_act_keeps_channel c (SrqDisabled lid) acts other same =
     assumption (own_disabled c lid acts ∙ ap (other_links lid) same.links ∙ sym (own_disabled c lid other))
-channel_same c _ acts other same = search (same.opened, same.took, same.links, same.sent, same.all)
+same_act_keeps_channel c _ acts other same = search (same.opened, same.took, same.links, same.sent, same.all)

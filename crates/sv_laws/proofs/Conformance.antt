@@ -4,10 +4,10 @@ use Rattle.std.specs.Int.{bit_at}
 use Rattle.std.specs.Prelude.{◌↔◌, ◌&&◌, ◌||◌}
 use Rattle.std.specs.List.{list_any, range_with_len}
 use Rattle.sv_logs.specs.Since.{is_since}
-use Rattle.sv_logs.proofs.Since.{since_empty, since_step, since_kept, since_over, since_same, since_ended, then_same}
+use Rattle.sv_logs.proofs.Since.{since_empty, since_step, since_kept, since_skips_act, since_same, since_not_kept, iff_transitive}
 use Rattle.sv_errors.specs.declared.error_queue.QueueAct.{QueueAct}
 use Rattle.sv_errors.specs.ErrorQueue.{entries}
-use Rattle.sv_errors.proofs.Queue.{queued_reported, queued_taken}
+use Rattle.sv_errors.proofs.Queue.{codes_after_report, codes_after_take}
 use Rattle.sv_status.specs.declared.register_name.RegisterName.{RegisterName}
 use Rattle.sv_status.specs.declared.register_name.RegisterName.TheVariants.{Operation, Questionable, Limit}
 use Rattle.sv_scan.specs.declared.acts.ScanAct.{ScanAct}
@@ -28,7 +28,7 @@ use Rattle.sv_scan.specs.Condition.{bit, is_overload}
 use Rattle.sv_instrument.specs.CommandEffect.{done, after_answering}
 use Rattle.sv_history.specs.Act.{instrument_acts}
 use Rattle.sv_laws.specs.Conformance.{SameSettings, SameElse, SameRegisters, HasDefaults, PollEndsRequest, StatusByteLeaves, ClearClears, ResetLeaves, StandardReadOnce, PresetLeaves, ErrorsInOrder, ClearRests}
-use Rattle.sv_laws.proofs.Facts.{not_both}
+use Rattle.sv_laws.proofs.Facts.{true_is_not_false}
 
 -- ---- an act that isn't of the scanner
 
@@ -42,9 +42,9 @@ bit_passes_none : (condition : List Act → ℕ) (name : RegisterName) (k : ℕ)
 bit_passes_none condition name k act log same =
     rw same (no_change (has_bit (condition log) k) (has_bit (rise name log) k) (has_bit (fall name log) k))
 
-passes_none : (condition : List Act → ℕ) (name : RegisterName) (k : ℕ) (act : Act) (log : List Act)
+same_condition_passes_none : (condition : List Act → ℕ) (name : RegisterName) (k : ℕ) (act : Act) (log : List Act)
     → condition (act ∷ log) ≡ condition log → passes condition name k (act ∷ log) ≡ false
-passes_none condition name k act log same = bit_passes_none condition name k act log (ap (λ (n : ℕ). has_bit n k) same)
+same_condition_passes_none condition name k act log same = bit_passes_none condition name k act log (ap (λ (n : ℕ). has_bit n k) same)
 
 since_on : (a b c : Bool) → a ≡ true → b ≡ false → (a && (b || c)) ≡ c
 since_on a b c on off = rw (on, off) refl
@@ -55,7 +55,7 @@ limit_same act log same kept enables = any_same
     (λ k. is_since (passes (word Limit) Limit k) (leaves Limit) (act ∷ log) && has_bit (enable Limit (act ∷ log)) k)
     (λ k. is_since (passes (word Limit) Limit k) (leaves Limit) log && has_bit (enable Limit log) k)
     (λ k.
-    let none = passes_none (word Limit) Limit k act log (ap (λ (l : List ScanAct). scan_word Limit (effective l)) same) in
+    let none = same_condition_passes_none (word Limit) Limit k act log (ap (λ (l : List ScanAct). scan_word Limit (effective l)) same) in
     let on = since_on (leaves Limit (act ∷ log)) (passes (word Limit) Limit k (act ∷ log))
     (is_since (passes (word Limit) Limit k) (leaves Limit) log) kept none in
     ap (λ (b : Bool). b && has_bit (enable Limit (act ∷ log)) k) on
@@ -72,13 +72,13 @@ condition_same Questionable act log same kept enables =
 events_same : (name : RegisterName) (k : ℕ) (act : Act) (log : List Act) → condition name (act ∷ log) ≡ condition name log
     → leaves name (act ∷ log) ≡ true → EventStands name k (act ∷ log) ↔ EventStands name k log
 events_same name k act log same kept = since_same (λ place. passes (condition name) name k place ≡ true) (λ place. leaves name place ≡ true)
-    act log kept (λ on. not_both _ on (passes_none (condition name) name k act log same))
+    act log kept (λ on. true_is_not_false _ on (same_condition_passes_none (condition name) name k act log same))
 
 -- Of the questionable condition, only bit 9 depends on anything but the scanner: it is the summary
 -- of the limit register. So STATus:PRESet changes no other bit of this condition.
-small : (b : Bool) → bit 0 b < 512
-small true = omega arith
-small false = omega arith
+bit_is_small : (b : Bool) → bit 0 b < 512
+bit_is_small true = omega arith
+bit_is_small false = omega arith
 
 other_bit : (b : Bool) (w k : ℕ) → w < 512 → k ≢ 9 → (bit_at (w + bit 9 b) k ≡ 1) ↔ (bit_at w k ≡ 1)
 other_bit b w k less ne =
@@ -88,13 +88,13 @@ other_bit b w k less ne =
       (λ on. ap (λ (n : ℕ). bit_at n k) (sym swap) ∙ top.1 (inr on)),
     )
 
-alike : (a b : Bool) → (a ≡ true) ↔ (b ≡ true) → a ≡ b
-alike true b same = sym (same.0 refl)
-alike false true same = same.1 refl
-alike false false same = refl
+bool_by_iff : (a b : Bool) → (a ≡ true) ↔ (b ≡ true) → a ≡ b
+bool_by_iff true b same = sym (same.0 refl)
+bool_by_iff false true same = same.1 refl
+bool_by_iff false false same = refl
 
 has_alike : (a b w k : ℕ) → (bit_at a k ≡ 1) ↔ (bit_at w k ≡ 1) → (bit_at b k ≡ 1) ↔ (bit_at w k ≡ 1) → has_bit a k ≡ has_bit b k
-has_alike a b w k one two = alike (has_bit a k) (has_bit b k) (
+has_alike a b w k one two = bool_by_iff (has_bit a k) (has_bit b k) (
   (λ h. (has_is b k).1 (two.1 (one.0 ((has_is a k).0 h)))),
   (λ h. (has_is a k).1 (one.1 (two.0 ((has_is b k).0 h)))),
 )
@@ -103,14 +103,14 @@ questionable_same : (k : ℕ) (log : List Act) → k ≢ 9
     → has_bit (condition Questionable (Preset ∷ log)) k ≡ has_bit (condition Questionable log) k
 questionable_same k log ne =
     let w = word Questionable log in
-    let less = small (is_overload (last_reading (effective_acts log))) in
+    let less = bit_is_small (is_overload (last_reading (effective_acts log))) in
     has_alike (condition Questionable (Preset ∷ log)) (condition Questionable log) w k
     (other_bit (summary Limit (Preset ∷ log)) w k less ne) (other_bit (summary Limit log) w k less ne)
 
 questionable_events : (k : ℕ) (log : List Act) → k ≢ 9 → EventStands Questionable k (Preset ∷ log) ↔ EventStands Questionable k log
 questionable_events k log ne = since_same (λ place. passes (condition Questionable) Questionable k place ≡ true)
     (λ place. leaves Questionable place ≡ true) Preset log refl
-    (λ on. not_both _ on (bit_passes_none (condition Questionable) Questionable k Preset log (questionable_same k log ne)))
+    (λ on. true_is_not_false _ on (bit_passes_none (condition Questionable) Questionable k Preset log (questionable_same k log ne)))
 
 -- ---- a pending *OPC
 
@@ -119,12 +119,12 @@ waits_busy [] s = absurd ((since_empty IsAsked IsPending).0 s).0
 waits_busy (act ∷ log) s = ((since_step IsAsked IsPending act log).0 s).0.0
 
 not_done : {A : Type 0} (log : List Act) (idle : Bool) → idle ≡ is_idle log → idle ≡ true → Waits log → A
-not_done {A} log idle same on s = not_both idle on (same ∙ waits_busy log s)
+not_done {A} log idle same on s = true_is_not_false idle on (same ∙ waits_busy log s)
 
 waits_same : (act : Act) (log : List Act) → is_idle (act ∷ log) ≡ is_idle log → (IsAsked (act ∷ log) → ⊥) → cancels act ≡ false
     → Waits (act ∷ log) ↔ Waits log
 waits_same act log same none goes =
-    since_over IsAsked IsPending act log none (λ s. (same ∙ waits_busy log s, goes))
+    since_skips_act IsAsked IsPending act log none (λ s. (same ∙ waits_busy log s, goes))
 
 completes_none : (act : Act) (log : List Act) → is_idle (act ∷ log) ≡ is_idle log → (IsAsked (act ∷ log) → ⊥) → Completes (act ∷ log) → ⊥
 completes_none act log same none (idle, inl asked) = none asked
@@ -145,7 +145,7 @@ polled_same log = record {
 pub poll_ends_request : PollEndsRequest
 poll_ends_request config polled c lid flags lock_timeout io_timeout acts outcome told is =
     let log = instrument_acts acts in
-    rw is (refl, polled_same log, refl, since_ended Reason Lasts Polled log (λ lasts. lasts), (refl, refl))
+    rw is (refl, polled_same log, refl, since_not_kept Reason Lasts Polled log (λ lasts. lasts), (refl, refl))
 
 -- An act of message exchange changes no register.
 exchanged_same : (act : ExchangeAct) (log : List Act) → SameRegisters (Exchanged act ∷ log) log
@@ -171,9 +171,9 @@ settings_then one two three f g = (
 registers_then : (one two three : List Act) → SameRegisters one two → SameRegisters two three → SameRegisters one three
 registers_then one two three f g = record {
   settings = settings_then one two three f.settings g.settings;
-  events = λ name k. then_same (f.events name k) (g.events name k);
-  standard = λ k. then_same (f.standard k) (g.standard k);
-  waits = then_same f.waits g.waits;
+  events = λ name k. iff_transitive (f.events name k) (g.events name k);
+  standard = λ k. iff_transitive (f.standard k) (g.standard k);
+  waits = iff_transitive f.waits g.waits;
   queue = f.queue ∙ g.queue;
   scanner = f.scanner ∙ g.scanner;
 }
@@ -249,7 +249,7 @@ request_same : (act : ExchangeAct) (log : List Act) → response (exchange_acts 
 request_same act log same =
     let now = exchanged_same act log in
     let back = registers_turned (Exchanged act ∷ log) log now in
-    since_over Reason Lasts (Exchanged act) log
+    since_skips_act Reason Lasts (Exchanged act) log
     (λ (h : Reason (Exchanged act ∷ log)). h.2 (requested_moved (Exchanged act ∷ log) log now same h.0 h.1))
     (λ s. let h = request_master log s in (h.0, requested_moved log (Exchanged act ∷ log) back (sym same) h.0 h.1))
 
@@ -261,39 +261,40 @@ status_byte_leaves log new (text, says, is) = (
   λ fits. rw (is, fits) (
     registers_then (Exchanged (Answered text) ∷ done log) (done log) log (exchanged_same (Answered text) (done log))
         (exchanged_same UnitDone log),
-    then_same (request_same (Answered text) (done log) refl) (request_same UnitDone log refl),
+    iff_transitive (request_same (Answered text) (done log) refl) (request_same UnitDone log refl),
   ),
 )
 
 -- ---- *CLS
 
-no_events : (name : RegisterName) (k : ℕ) (log : List Act) → EventStands name k (Cleared ∷ log) → ⊥
-no_events name k log = since_ended (λ place. passes (condition name) name k place ≡ true) (λ place. leaves name place ≡ true) Cleared log
+clear_leaves_no_event : (name : RegisterName) (k : ℕ) (log : List Act) → EventStands name k (Cleared ∷ log) → ⊥
+clear_leaves_no_event name k log = since_not_kept (λ place. passes (condition name) name k place ≡ true) (λ place. leaves name place ≡ true)
+    Cleared log
     (λ kept. cc)
 
-no_standard : (k : ℕ) (log : List Act) → Stands k (Cleared ∷ log) → ⊥
-no_standard k log = since_ended (Occurs k) NotCleared Cleared log (λ kept. kept)
+clear_leaves_no_standard : (k : ℕ) (log : List Act) → Stands k (Cleared ∷ log) → ⊥
+clear_leaves_no_standard k log = since_not_kept (Occurs k) NotCleared Cleared log (λ kept. kept)
 
-summary_left : (k : ℕ) (log : List Act) → SummaryBit k (Cleared ∷ log) → k ≡ 4
-summary_left k log (inl (is, (bit, stands, on))) = absurd (no_events Operation bit log stands)
-summary_left k log (inr (inl (is, (bit, stands, on)))) = absurd (no_standard bit log stands)
-summary_left k log (inr (inr (inl (is, some)))) = is
-summary_left k log (inr (inr (inr (inl (is, (bit, stands, on)))))) = absurd (no_events Questionable bit log stands)
-summary_left k log (inr (inr (inr (inr (is, some))))) = absurd (let z : false ≡ true = some in cc)
+only_mav_after_clear : (k : ℕ) (log : List Act) → SummaryBit k (Cleared ∷ log) → k ≡ 4
+only_mav_after_clear k log (inl (is, (bit, stands, on))) = absurd (clear_leaves_no_event Operation bit log stands)
+only_mav_after_clear k log (inr (inl (is, (bit, stands, on)))) = absurd (clear_leaves_no_standard bit log stands)
+only_mav_after_clear k log (inr (inr (inl (is, some)))) = is
+only_mav_after_clear k log (inr (inr (inr (inl (is, (bit, stands, on)))))) = absurd (clear_leaves_no_event Questionable bit log stands)
+only_mav_after_clear k log (inr (inr (inr (inr (is, some))))) = absurd (let z : false ≡ true = some in cc)
 
 pub clear_clears : ClearClears
 clear_clears log new is =
     let cleared = Cleared ∷ log in
     let end = exchanged_same UnitDone cleared in
     rw is (record {
-      events = λ name k s. no_events name k log ((end.events name k).0 s);
-      standard = λ k s. no_standard k log ((end.standard k).0 s);
+      events = λ name k s. clear_leaves_no_event name k log ((end.events name k).0 s);
+      standard = λ k s. clear_leaves_no_standard k log ((end.standard k).0 s);
       queue = refl;
-      waits = λ s. since_ended IsAsked IsPending Cleared log (λ pending. let z : true ≡ false = pending.1 in cc) (end.waits.0 s);
+      waits = λ s. since_not_kept IsAsked IsPending Cleared log (λ pending. let z : true ≡ false = pending.1 in cc) (end.waits.0 s);
       settings = ((λ name. (refl, refl, refl)), refl, refl);
       scanner = refl;
       response = (refl, refl);
-      summary = λ k s. summary_left k log (summary_moved (done cleared) cleared end refl k s);
+      summary = λ k s. only_mav_after_clear k log (summary_moved (done cleared) cleared end refl k s);
     })
 
 -- ---- *RST
@@ -328,9 +329,9 @@ reset_leaves log new is =
       defaults = default_settings log;
       settings = ((λ name. (refl, refl, refl)), refl, refl);
       events = λ name k s. (end.events name k).1 (events_kept name k (Scanned Reset) log refl s);
-      standard = λ k. then_same (end.standard k)
+      standard = λ k. iff_transitive (end.standard k)
           (since_same (Occurs k) NotCleared (Scanned Reset) log tt (λ h. reset_completes log h.1));
-      waits = λ s. since_ended IsAsked IsPending (Scanned Reset) log (λ pending. let z : true ≡ false = pending.1 in cc)
+      waits = λ s. since_not_kept IsAsked IsPending (Scanned Reset) log (λ pending. let z : true ≡ false = pending.1 in cc)
           (end.waits.0 s);
       queue = refl;
       response = (refl, refl);
@@ -338,8 +339,8 @@ reset_leaves log new is =
 
 -- ---- *ESR?
 
-read_none : (k : ℕ) (log : List Act) → Stands k (done (StatusChanged ReadStandard ∷ log)) → ⊥
-read_none k log s = since_ended (Occurs k) NotCleared (StatusChanged ReadStandard) log (λ kept. kept)
+read_clears_standard : (k : ℕ) (log : List Act) → Stands k (done (StatusChanged ReadStandard ∷ log)) → ⊥
+read_clears_standard k log s = since_not_kept (Occurs k) NotCleared (StatusChanged ReadStandard) log (λ kept. kept)
     (((exchanged_same UnitDone (StatusChanged ReadStandard ∷ log)).standard k).0 s)
 
 pub standard_read_once : StandardReadOnce
@@ -350,13 +351,14 @@ standard_read_once log new (text, says, is) =
       says,
       done read,
       is,
-      (λ k. read_none k log),
+      (λ k. read_clears_standard k log),
       refl,
       (
         ((λ name. (refl, refl, refl)), refl, refl),
-        (λ name k. then_same (end.events name k)
-            (events_same name k (StatusChanged ReadStandard) log (condition_same name (StatusChanged ReadStandard) log refl refl refl) refl)),
-        then_same end.waits (waits_same (StatusChanged ReadStandard) log refl (λ asked. asked) refl),
+        (λ name k. iff_transitive (end.events name k)
+            (events_same name k (StatusChanged ReadStandard) log (condition_same name (StatusChanged ReadStandard) log refl refl refl)
+                refl)),
+        iff_transitive end.waits (waits_same (StatusChanged ReadStandard) log refl (λ asked. asked) refl),
         refl,
         (refl, refl),
       ),
@@ -371,13 +373,13 @@ preset_leaves log new is =
     rw is (record {
       masks = λ name. (refl, refl, refl);
       kept = λ name k s. (end.events name k).1 (events_kept name k Preset log refl s);
-      operation = λ k. then_same (end.events Operation k) (events_same Operation k Preset log refl refl);
-      limit = λ k. then_same (end.events Limit k) (events_same Limit k Preset log refl refl);
-      questionable = λ k ne. then_same (end.events Questionable k) (questionable_events k log ne);
-      standard = λ k. then_same (end.standard k)
+      operation = λ k. iff_transitive (end.events Operation k) (events_same Operation k Preset log refl refl);
+      limit = λ k. iff_transitive (end.events Limit k) (events_same Limit k Preset log refl refl);
+      questionable = λ k ne. iff_transitive (end.events Questionable k) (questionable_events k log ne);
+      standard = λ k. iff_transitive (end.standard k)
           (since_same (Occurs k) NotCleared Preset log tt (λ h. completes_none Preset log refl (λ asked. asked) h.1));
       enables = (refl, refl);
-      waits = then_same end.waits (waits_same Preset log refl (λ asked. asked) refl);
+      waits = iff_transitive end.waits (waits_same Preset log refl (λ asked. asked) refl);
       queue = refl;
       scanner = refl;
       response = (refl, refl);
@@ -389,13 +391,13 @@ preset_leaves log new is =
 taken_same : (log : List Act) → ((k : ℕ) → Stands k (done (EntryTaken ∷ log)) ↔ Stands k log) × SameElse (done (EntryTaken ∷ log)) log
 taken_same log =
     let end = exchanged_same UnitDone (EntryTaken ∷ log) in (
-      (λ k. then_same (end.standard k)
+      (λ k. iff_transitive (end.standard k)
           (since_same (Occurs k) NotCleared EntryTaken log tt (λ h. completes_none EntryTaken log refl (λ asked. asked) h.1))),
       (
         ((λ name. (refl, refl, refl)), refl, refl),
-        (λ name k. then_same (end.events name k)
+        (λ name k. iff_transitive (end.events name k)
             (events_same name k EntryTaken log (condition_same name EntryTaken log refl refl refl) refl)),
-        then_same end.waits (waits_same EntryTaken log refl (λ asked. asked) refl),
+        iff_transitive end.waits (waits_same EntryTaken log refl (λ asked. asked) refl),
         refl,
         (refl, refl),
       ),
@@ -407,11 +409,11 @@ errors_in_order = (
       let same = taken_same log in (
         done (EntryTaken ∷ log),
         is ∙ ap (λ (t : List ℕ). after_answering t (done (EntryTaken ∷ log))) says,
-        queued_taken (queue_acts log),
+        codes_after_take (queue_acts log),
         same.0,
         same.1,
       )),
-  (λ log code few. queued_reported code (queue_acts log) few),
+  (λ log code few. codes_after_report code (queue_acts log) few),
 )
 
 -- ---- device_clear
@@ -428,7 +430,7 @@ clear_rests config polled c lid flags lock_timeout io_timeout acts outcome is =
       record {
         rest = record { text_left = refl; none_left = refl };
         held = refl;
-        waits = since_ended IsAsked IsPending Purged log (λ pending. let z : true ≡ false = pending.1 in cc);
+        waits = since_not_kept IsAsked IsPending Purged log (λ pending. let z : true ≡ false = pending.1 in cc);
         settings = ((λ name. (refl, refl, refl)), refl, refl);
         events = λ name k. events_same name k Purged log (condition_same name Purged log refl refl refl) refl;
         standard = λ k. since_same (Occurs k) NotCleared Purged log tt (λ h. purge_completes log h.1);

@@ -10,12 +10,12 @@ use Rattle.sv_history.specs.Act.{Act, ConnAct, Opened, Piece, CallTaken, Faulted
 use Rattle.sv_history.specs.CoreCall.{CoreCall}
 use Rattle.sv_history.specs.Request.{core_call_in}
 use Rattle.sv_history.specs.History.{IsLogOf}
-use Rattle.sv_laws.proofs.EveryLog.BusyWaits.{busy_waits}
+use Rattle.sv_laws.proofs.EveryLog.BusyWaits.{unsuspended_has_no_pending}
 use Rattle.sv_laws.proofs.EveryLog.EachEvent.{fit_log}
 use Rattle.sv_history.specs.Connection.{is_busy, records_ended, pending_call}
 use Rattle.sv_laws.specs.Laws.{calls_taken, one_if, EachAnswered}
-use Rattle.sv_laws.proofs.EveryLog.Taken.{free_call}
-use Rattle.sv_laws.proofs.EveryLog.EachAct.{AllCame, all_came}
+use Rattle.sv_laws.proofs.EveryLog.Taken.{next_call_means_none_pending}
+use Rattle.sv_laws.proofs.EveryLog.EachAct.{WerePossible, acts_were_possible}
 
 paid_ends : (calls_taken done : ℕ) (busy : Bool) → busy ≡ true → calls_taken ≡ done + one_if busy → calls_taken ≡ suc done + 0
 paid_ends n m true e h = omega (arith, h)
@@ -25,23 +25,25 @@ paid_begins : (calls_taken done : ℕ) (busy : Bool) → busy ≡ false → call
 paid_begins n m false e h = omega (arith, h)
 paid_begins n m true e h = absurd cc
 
-all_paid : (acts : List ConnAct) → AllCame acts → calls_taken acts ≡ records_ended acts + one_if (is_busy acts)
-all_paid [] all = refl
-all_paid (Opened role ∷ acts) all = refl
-all_paid (PortClosed ∷ acts) all = refl
-all_paid (Piece bytes ∷ acts) all = all_paid acts all.1
-all_paid (BytesTaken count ∷ acts) all = all_paid acts all.1
-all_paid (CallTaken call ∷ acts) all =
-    paid_begins (calls_taken acts) (records_ended acts) (is_busy acts) (ap is_some (free_call acts call all.0.1)) (all_paid acts all.1)
-all_paid (Faulted ∷ acts) all = paid_ends (calls_taken acts) (records_ended acts) (is_busy acts) (ap is_some all.0.1) (all_paid acts all.1)
-all_paid (Replied reply ∷ acts) all = paid_ends (calls_taken acts) (records_ended acts) (is_busy acts) (ap is_some all.0.1)
-    (all_paid acts all.1)
+calls_taken_are_paid : (acts : List ConnAct) → WerePossible acts → calls_taken acts ≡ records_ended acts + one_if (is_busy acts)
+calls_taken_are_paid [] all = refl
+calls_taken_are_paid (Opened role ∷ acts) all = refl
+calls_taken_are_paid (PortClosed ∷ acts) all = refl
+calls_taken_are_paid (Piece bytes ∷ acts) all = calls_taken_are_paid acts all.1
+calls_taken_are_paid (BytesTaken count ∷ acts) all = calls_taken_are_paid acts all.1
+calls_taken_are_paid (CallTaken call ∷ acts) all =
+    paid_begins (calls_taken acts) (records_ended acts) (is_busy acts) (ap is_some (next_call_means_none_pending acts call all.0.1))
+        (calls_taken_are_paid acts all.1)
+calls_taken_are_paid (Faulted ∷ acts) all = paid_ends (calls_taken acts) (records_ended acts) (is_busy acts) (ap is_some all.0.1)
+    (calls_taken_are_paid acts all.1)
+calls_taken_are_paid (Replied reply ∷ acts) all = paid_ends (calls_taken acts) (records_ended acts) (is_busy acts) (ap is_some all.0.1)
+    (calls_taken_are_paid acts all.1)
 
 -- A call is pending exactly if it is suspended.
-waits_or_not : (config : Config) (history : List PlainEvent) (log : List Act) (c : ℕ) → IsLogOf config history log
+busy_iff_suspended : (config : Config) (history : List PlainEvent) (log : List Act) (c : ℕ) → IsLogOf config history log
     → (found : Option Wait) → waits c (wait_acts (device_acts log)) ≡ found → is_busy (of c log) ≡ is_some found
-waits_or_not config history log c was None none = ap is_some (busy_waits config history log was c none)
-waits_or_not config history log c was (Some wait) is =
+busy_iff_suspended config history log c was None none = ap is_some (unsuspended_has_no_pending config history log was c none)
+busy_iff_suspended config history log c was (Some wait) is =
     let held = (fit_log config history log was).held c wait is in
     some_call (pending_call (of c log)) held.1.0 held.1.1
   where
@@ -51,6 +53,6 @@ waits_or_not config history log c was (Some wait) is =
 
 pub each_answered : EachAnswered
 each_answered config history log c was =
-    all_paid (of c log) (all_came config history log c was)
+    calls_taken_are_paid (of c log) (acts_were_possible config history log c was)
     ∙ ap (λ (b : Bool). records_ended (of c log) + one_if b)
-    (waits_or_not config history log c was (waits c (wait_acts (device_acts log))) refl)
+    (busy_iff_suspended config history log c was (waits c (wait_acts (device_acts log))) refl)

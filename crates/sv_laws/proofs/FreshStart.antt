@@ -63,8 +63,8 @@ sent_text (Scanned act ∷ more) sent log h same = sent_text more sent log h.1 s
 sent_text (_ ∷ more) sent log h same = absurd h.0
 
 -- Whether the scanner has its default settings depends only on the acts of the scanner.
-defaults_moved : (one two : List Act) → scan_acts one ≡ scan_acts two → HasDefaults two → HasDefaults one
-defaults_moved one two same has = record {
+same_scans_same_defaults : (one two : List Act) → scan_acts one ≡ scan_acts two → HasDefaults two → HasDefaults one
+same_scans_same_defaults one two same has = record {
   list = ap (λ (l : List ScanAct). scan_list (effective l)) same ∙ has.list;
   monitored = ap (λ (l : List ScanAct). monitor (effective l)) same ∙ has.monitored;
   range = ap (λ (l : List ScanAct). range (effective l)) same ∙ has.range;
@@ -112,7 +112,7 @@ fresh log first second one two =
     (sent_text first [] (Purged ∷ log) one refl) in
     let empty : response (exchange_acts new) ≡ [] = clear.response.0 ∙ quiet.0 in
     record {
-      defaults = defaults_moved new reset (clear.scanner ∙ scan_text second reset two) was.defaults;
+      defaults = same_scans_same_defaults new reset (clear.scanner ∙ scan_text second reset two) was.defaults;
       events = clear.events;
       standard = clear.standard;
       status = λ k. none_polled k sent clear empty;

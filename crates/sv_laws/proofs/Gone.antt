@@ -32,18 +32,18 @@ use Rattle.sv_history.specs.Execution.{request_effect}
 use Rattle.sv_history.specs.Refusing.{refusable, refused_reply}
 use Rattle.sv_history.specs.Resuming.{effect_of, leaving, next_wait, resume_outcome}
 use Rattle.sv_history.specs.History.{IsLogOf}
-use Rattle.sv_history.proofs.Dialing.{peer_by, dialed_to, dialed_is}
-use Rattle.sv_history.proofs.Projections.{of_shared, device_shared, device_effect}
+use Rattle.sv_history.proofs.Dialing.{peer_named_by, connect_outcome_for, connect_outcome_by_peer}
+use Rattle.sv_history.proofs.Projections.{of_device_acts, device_acts_append, device_effect}
 use Rattle.sv_laws.specs.Gone.{ClosedHoldsNothing, CloseShuts}
-use Rattle.sv_laws.proofs.Facts.{some_none}
-use Rattle.sv_laws.proofs.Brought.{AreCalls}
+use Rattle.sv_laws.proofs.Facts.{none_is_not_some}
+use Rattle.sv_laws.proofs.Brought.{AreCallActs}
 use Rattle.sv_laws.proofs.OnlyCalls.{only_calls}
 use Rattle.sv_laws.proofs.Place.{EventsKeep, each_place}
-use Rattle.sv_laws.proofs.EveryLog.Done.{IsDone, each_done}
-use Rattle.sv_laws.proofs.EveryLog.Fit.{of_each}
-use Rattle.sv_laws.proofs.EveryLog.Known.{asks_own}
-use Rattle.sv_laws.proofs.EveryLog.Keeps.{holder_lives}
-use Rattle.sv_laws.proofs.EveryLog.EachEvent.{StepsKeep, step_keeps, turn_keeps, refuse_keeps, replies_role, shut_before, close_adds, device_closed, of_closed, fit_log}
+use Rattle.sv_laws.proofs.EveryLog.Done.{IsActOfCall, each_act_is_of_call}
+use Rattle.sv_laws.proofs.EveryLog.Fit.{each_after_effect}
+use Rattle.sv_laws.proofs.EveryLog.Known.{enabled_link_is_owned}
+use Rattle.sv_laws.proofs.EveryLog.Keeps.{holder_is_live}
+use Rattle.sv_laws.proofs.EveryLog.EachEvent.{StepsKeep, step_keeps, turn_keeps, refuse_keeps, reply_keeps_role, opened_was_shut, close_acts, device_acts_of_close, close_leaves_others, fit_log}
 use Rattle.sv_laws.proofs.SoundEvents.{sound_log}
 
 -- ---- only a connection of the core channel has an open interrupt channel
@@ -63,7 +63,7 @@ core_by : (c : ℕ) (effect : Effect) (log : List Act) → AllCore log
     → is_channel_open d (channel_acts (device_acts log)) ≡ true)
     → HasCore c (effect.own ++ of c log) (effect.adds ++ device_acts log) → AllCore (acts_of c effect ++ log)
 core_by c effect log all others mine d opened =
-    of_each (λ d own. HasCore d own (effect.adds ++ device_acts log)) c effect log mine (λ d ne is. all d (others d ne is)) d
+    each_after_effect (λ d own. HasCore d own (effect.adds ++ device_acts log)) c effect log mine (λ d ne is. all d (others d ne is)) d
     (ap (λ (l : List DeviceAct). is_channel_open d (channel_acts l)) (sym (device_effect c effect log)) ∙ opened)
 
 core_effect : (c : ℕ) (effect : Effect) (log : List Act) → AllCore log → OnlyShuts effect.adds (device_acts log)
@@ -72,8 +72,8 @@ core_effect c effect log all shuts role =
     core_by c effect log all (λ d ne is. shuts d is) (λ is. role ∙ all c (shuts c is))
 
 core_shared : (adds : List DeviceAct) (log : List Act) → AllCore log → OnlyShuts adds (device_acts log) → AllCore (map OnDevice adds ++ log)
-core_shared adds log all shuts d opened = ap open_role (of_shared d adds log)
-    ∙ all d (shuts d (ap (λ (l : List DeviceAct). is_channel_open d (channel_acts l)) (sym (device_shared adds log)) ∙ opened))
+core_shared adds log all shuts d opened = ap open_role (of_device_acts d adds log)
+    ∙ all d (shuts d (ap (λ (l : List DeviceAct). is_channel_open d (channel_acts l)) (sym (device_acts_append adds log)) ∙ opened))
 
 channels_happened : (adds : List InstrumentAct) (acts : List DeviceAct) → channel_acts (map Applied adds ++ acts) ≡ channel_acts acts
 channels_happened [] acts = refl
@@ -93,7 +93,7 @@ closes c acts d is = elim (cases_Bool (eqb c d)) [
   | inr e ↦ rw e at is
 ]
 
-done_shuts : (c : ℕ) (arguments : Arguments) (adds acts : List DeviceAct) → Each (IsDone c arguments) adds acts → OnlyShuts adds acts
+done_shuts : (c : ℕ) (arguments : Arguments) (adds acts : List DeviceAct) → Each (IsActOfCall c arguments) adds acts → OnlyShuts adds acts
 done_shuts c arguments [] acts h d is = is
 done_shuts c arguments (Channel (ChannelOpened conn what) ∷ adds) acts h d is = absurd h.0
 done_shuts c arguments (Channel (ChannelClosed conn) ∷ adds) acts h d is =
@@ -106,7 +106,7 @@ core_left : (c xid : ℕ) (outcome : CallOutcome) (log : List Act) → AllCore l
     → AllCore (acts_of c (call_effect xid (leaving c outcome)) ++ log)
 core_left c xid outcome log all shuts = core_effect c (call_effect xid (leaving c outcome)) log all
     (λ d is. shuts d (ap (λ (l : List DeviceAct). is_channel_open d (channel_acts l))
-    (sym (append_assoc outcome.adds (Waited (Left c) ∷ []) (device_acts log))) ∙ is)) (replies_role xid outcome.result (of c log))
+    (sym (append_assoc outcome.adds (Waited (Left c) ∷ []) (device_acts log))) ∙ is)) (reply_keeps_role xid outcome.result (of c log))
 
 core_ended : (c : ℕ) (does : Arguments → CallOutcome) (log : List Act) → AllCore log
     → ((call : CoreCall) → AllCore (acts_of c (call_effect call.xid (does call.arguments)) ++ log)) → (call : Option CoreCall)
@@ -121,7 +121,7 @@ core_done config polled c call log all =
     let before = Waited (Left c) ∷ device_acts log in
     let outcome = own_call config polled c call.arguments before in
     core_left c call.xid outcome log all
-    (done_shuts c call.arguments outcome.adds before (each_done config polled c call.arguments before))
+    (done_shuts c call.arguments outcome.adds before (each_act_is_of_call config polled c call.arguments before))
 
 core_continued : (config : Config) (polled c : ℕ) (call : CoreCall) (next : Option (Wait × ℕ)) (log : List Act) → AllCore log
     → AllCore (acts_of c (call_effect call.xid (resume_outcome config polled c call.arguments next (device_acts log))) ++ log)
@@ -152,8 +152,8 @@ core_admitted : (config : Config) (polled c : ℕ) (call : CoreCall) (stop : Opt
 core_admitted config polled c call None log all =
     let outcome = own_call config polled c call.arguments (device_acts log) in
     core_effect c (call_effect call.xid outcome) log all
-    (done_shuts c call.arguments outcome.adds (device_acts log) (each_done config polled c call.arguments (device_acts log)))
-    (replies_role call.xid outcome.result (of c log))
+    (done_shuts c call.arguments outcome.adds (device_acts log) (each_act_is_of_call config polled c call.arguments (device_acts log)))
+    (reply_keeps_role call.xid outcome.result (of c log))
 core_admitted config polled c call (Some (Fails error)) log all =
     core_effect c (call_effect call.xid (only (failure call.arguments error))) log all (λ d is. is) refl
 core_admitted config polled c call (Some (Awaits wait until)) log all =
@@ -169,9 +169,9 @@ core_request config polled c request log all =
 
 core_open : (c : ℕ) (role : Role) (log : List Act) → AllCore log → open_role (of c log) ≡ None → AllCore (On c (Opened role) ∷ log)
 core_open c role log all shut = core_by c (record { own = Opened role ∷ []; adds = [] }) log all (λ d ne is. is)
-    (λ is. some_none (open_role (of c log)) Core shut (all c is))
+    (λ is. none_is_not_some (open_role (of c log)) Core shut (all c is))
 
-core_close : (c : ℕ) (log : List Act) → AllCore log → AllCore (map OnDevice (close_adds c (device_acts log)) ++ On c PortClosed ∷ log)
+core_close : (c : ℕ) (log : List Act) → AllCore log → AllCore (map OnDevice (close_acts c (device_acts log)) ++ On c PortClosed ∷ log)
 core_close c log all d opened =
     let acts = device_acts log in
     let links = closing c (link_acts acts) in
@@ -179,35 +179,36 @@ core_close c log all d opened =
     ≡ channel_acts acts = channels_links links (Waited (Left c) ∷ acts) in
     let now : is_channel_open d (ChannelClosed c ∷ channel_acts acts) ≡ true =
     ap (λ (l : List ChannelAct). is_channel_open d (ChannelClosed c ∷ l)) (sym rest)
-    ∙ ap (λ (l : List DeviceAct). is_channel_open d (channel_acts l)) (sym (device_closed c log)) ∙ opened in
+    ∙ ap (λ (l : List DeviceAct). is_channel_open d (channel_acts l)) (sym (device_acts_of_close c log)) ∙ opened in
     elim (cases_eq d c) [
       | inl e ↦ absurd (let z : false ≡ true = rw (eq-eqb c d (sym e)) at now in cc)
-      | inr ne ↦ ap open_role (of_closed c d log ne) ∙ all d (rw (ne_eqb c d (λ e. ne (sym e))) at now)
+      | inr ne ↦ ap open_role (close_leaves_others c d log ne) ∙ all d (rw (ne_eqb c d (λ e. ne (sym e))) at now)
     ]
 
 -- If a Dialed isn't refused, a create_intr_chan of the connection waits for its peer.
-pub dials : (far shut dialing : Bool) → cond (far || shut) (Some NoConn) (cond dialing None (Some NoDial)) ≡ None → dialing ≡ true
-dials true shut dialing e = absurd cc
-dials false true dialing e = absurd cc
-dials false false true e = refl
-dials false false false e = absurd cc
+pub dialed_means_dialing : (far shut dialing : Bool) → cond (far || shut) (Some NoConn) (cond dialing None (Some NoDial)) ≡ None
+    → dialing ≡ true
+dialed_means_dialing true shut dialing e = absurd cc
+dialed_means_dialing false true dialing e = absurd cc
+dialed_means_dialing false false true e = refl
+dialed_means_dialing false false false e = absurd cc
 
 dial_waits : (found : Option Wait) → is_dial found ≡ true → (wait : Wait) × (found ≡ Some wait)
 dial_waits (Some wait) e = (wait, refl)
 dial_waits None e = absurd cc
 
 core_dialed : (c : ℕ) (ok : Bool) (call : CoreCall) (peer : Option Peer) (log : List Act) → AllCore log → open_role (of c log) ≡ Some Core
-    → AllCore (acts_of c (call_effect call.xid (leaving c (dialed_to c ok call.arguments peer))) ++ log)
+    → AllCore (acts_of c (call_effect call.xid (leaving c (connect_outcome_for c ok call.arguments peer))) ++ log)
 core_dialed c true call (Some peer) log all core =
-    core_by c (call_effect call.xid (leaving c (dialed_to c true call.arguments (Some peer)))) log all
+    core_by c (call_effect call.xid (leaving c (connect_outcome_for c true call.arguments (Some peer)))) log all
     (λ d ne is. rw (ne_eqb c d (λ e. ne (sym e))) at is) (λ is. core)
 core_dialed c false call (Some peer) log all core =
-    core_left c call.xid (dialed_to c false call.arguments (Some peer)) log all (λ d is. is)
-core_dialed c ok call None log all core = core_left c call.xid (dialed_to c ok call.arguments None) log all (λ d is. is)
+    core_left c call.xid (connect_outcome_for c false call.arguments (Some peer)) log all (λ d is. is)
+core_dialed c ok call None log all core = core_left c call.xid (connect_outcome_for c ok call.arguments None) log all (λ d is. is)
 
 core_event : (config : Config) → EventsKeep config AllCore
 core_event config history (Open c role) polled channel_log log was free fit all =
-    core_open c role log all (shut_before (nat_lt 15 c) (open_role (of c log)) free)
+    core_open c role log all (opened_was_shut (nat_lt 15 c) (open_role (of c log)) free)
 core_event config history (Bytes c piece) polled channel_log log was free fit all = core_on c (Piece piece) log all refl
 core_event config history (Turn c) polled channel_log log was free fit all =
     turn_keeps config AllCore (core_steps config) polled c (next_call (of c log)) (next_request (of c log)) log all
@@ -220,14 +221,14 @@ core_event config history (Took (Conn c) count) polled channel_log log was free 
 core_event config history (Took (Intr c) count) polled channel_log log was free fit all =
     core_shared (Channel (ChannelTaken c count) ∷ []) log all (λ d is. is)
 core_event config history (Close (Conn c)) polled channel_log log was free fit all =
-    subst AllCore (sym (append_assoc (map OnDevice (close_adds c (device_acts log))) (On c PortClosed ∷ []) log)) (core_close c log all)
+    subst AllCore (sym (append_assoc (map OnDevice (close_acts c (device_acts log))) (On c PortClosed ∷ []) log)) (core_close c log all)
 core_event config history (Close (Intr c)) polled channel_log log was free fit all =
     core_shared (Channel (ChannelClosed c) ∷ []) log all (closes c (device_acts log))
 core_event config history (Dialed c ok) polled channel_log log was free fit all =
-    let for = dial_waits (waits c (wait_acts (device_acts log))) (dials (nat_lt 15 c) (not (is_open (of c log))) _ free) in
+    let for = dial_waits (waits c (wait_acts (device_acts log))) (dialed_means_dialing (nat_lt 15 c) (not (is_open (of c log))) _ free) in
     let core = (fit.held c for.0 for.1).0 in
     core_ended c (λ arguments. leaving c (connect_outcome c ok arguments)) log all
-    (λ call. rw (dialed_is c ok call.arguments) (core_dialed c ok call (peer_by call.arguments) log all core))
+    (λ call. rw (connect_outcome_by_peer c ok call.arguments) (core_dialed c ok call (peer_named_by call.arguments) log all core))
     (core_call_in (pending_call (of c log)))
 core_event config history (Input channel microvolts) polled channel_log log was free fit all =
     core_happened (Scanned (InputTo channel microvolts) ∷ []) log all
@@ -248,13 +249,13 @@ shut_role : (role : Option Role) → is_some role ≡ false → role ≡ None
 shut_role None e = refl
 shut_role (Some role) e = absurd cc
 
-none_by : (found : Option Wait) → ((wait : Wait) → found ≡ Some wait → ⊥) → found ≡ None
-none_by None h = refl
-none_by (Some wait) h = absurd (h wait refl)
+no_some_is_none : (found : Option Wait) → ((wait : Wait) → found ≡ Some wait → ⊥) → found ≡ None
+no_some_is_none None h = refl
+no_some_is_none (Some wait) h = absurd (h wait refl)
 
-off_by : (b : Bool) → (b ≡ true → ⊥) → b ≡ false
-off_by false h = refl
-off_by true h = absurd (h refl)
+not_true_is_false : (b : Bool) → (b ≡ true → ⊥) → b ≡ false
+not_true_is_false false h = refl
+not_true_is_false true h = absurd (h refl)
 
 pub closed_holds_nothing : ClosedHoldsNothing
 closed_holds_nothing config history log c was shut =
@@ -262,33 +263,33 @@ closed_holds_nothing config history log c was shut =
     let role = shut_role (open_role (of c log)) shut in
     let fit = fit_log config history log was in
     let keeps = (sound_log config history log was).keeps in
-    let never : open_role (of c log) ≡ Some Core → ⊥ = λ core. some_none (open_role (of c log)) Core role core in
+    let never : open_role (of c log) ≡ Some Core → ⊥ = λ core. none_is_not_some (open_role (of c log)) Core role core in
     let links : (lid : ℕ) → owner lid (link_acts acts) ≢ Some c = λ lid owns. never (fit.core lid c owns) in
     record {
       links = links;
       lock = λ lid held.
-          let lives = holder_lives acts fit.suits keeps lid held in (
+          let lives = holder_is_live acts fit.suits keeps lid held in (
             lives.0,
             lives.1,
             (λ same. links lid (lives.1 ∙ ap (λ (n : ℕ). Some n) same)),
             ap is_some (fit.core lid lives.0 lives.1),
           );
-      call = none_by (waits c (wait_acts acts)) (λ wait for. never (fit.held c wait for).0);
-      channel = off_by (has_channel c acts) (λ opened. never (core_log config history log was c opened));
+      call = no_some_is_none (waits c (wait_acts acts)) (λ wait for. never (fit.held c wait for).0);
+      channel = not_true_is_false (has_channel c acts) (λ opened. never (core_log config history log was c opened));
       requests = λ channel_log lid enabled hears is same.
-          links lid (asks_own acts channel_log fit.suits hears lid enabled is ∙ ap (λ (n : ℕ). Some n) same);
+          links lid (enabled_link_is_owned acts channel_log fit.suits hears lid enabled is ∙ ap (λ (n : ℕ). Some n) same);
     }
 
 -- ---- after the Close of a connection, it isn't open
 
-closed_shut : (calls own : List ConnAct) → AreCalls calls → open_role (calls ++ PortClosed ∷ own) ≡ None
-closed_shut [] own h = refl
-closed_shut (CallTaken call ∷ calls) own h = closed_shut calls own h
-closed_shut (Faulted ∷ calls) own h = closed_shut calls own h
-closed_shut (Replied reply ∷ calls) own h = closed_shut calls own h
-closed_shut (_ ∷ calls) own h = absurd h
+calls_after_close_stay_shut : (calls own : List ConnAct) → AreCallActs calls → open_role (calls ++ PortClosed ∷ own) ≡ None
+calls_after_close_stay_shut [] own h = refl
+calls_after_close_stay_shut (CallTaken call ∷ calls) own h = calls_after_close_stay_shut calls own h
+calls_after_close_stay_shut (Faulted ∷ calls) own h = calls_after_close_stay_shut calls own h
+calls_after_close_stay_shut (Replied reply ∷ calls) own h = calls_after_close_stay_shut calls own h
+calls_after_close_stay_shut (_ ∷ calls) own h = absurd h
 
 pub close_shuts : CloseShuts
 close_shuts config history log c now =
     let calls = only_calls config (Close (Conn c)) history now.0 log c now.4 now in
-    ap is_open (rw (eq-eqb c c refl) at calls.2) ∙ ap is_some (closed_shut calls.0 (of c now.0) calls.1)
+    ap is_open (rw (eq-eqb c c refl) at calls.2) ∙ ap is_some (calls_after_close_stay_shut calls.0 (of c now.0) calls.1)

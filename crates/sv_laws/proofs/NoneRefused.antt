@@ -20,40 +20,40 @@ use Rattle.sv_history.specs.Refusing.{refusable}
 use Rattle.sv_history.specs.History.{refusal, is_shut, is_channel_shut}
 use Rattle.sv_laws.specs.Taking.{is_took, NoneRefused}
 use Rattle.sv_laws.proofs.Cuts.SameView.{SameConnection, next_call_same, next_request_same}
-use Rattle.sv_laws.proofs.Taking.{TakenAlike, logs_alike, retook}
+use Rattle.sv_laws.proofs.Taking.{TakenAlike, logs_alike, retook_if_same_without_took}
 
 -- ---- where no more bytes wait, no further event is refused
 
-open_by : (far opened : Bool) → (far || not opened) ≡ false → opened ≡ true
-open_by true opened e = absurd cc
-open_by false true e = refl
-open_by false false e = absurd cc
+not_shut_is_open : (far opened : Bool) → (far || not opened) ≡ false → opened ≡ true
+not_shut_is_open true opened e = absurd cc
+not_shut_is_open false true e = refl
+not_shut_is_open false false e = absurd cc
 
 -- An event that wasn't refused isn't refused if the reply still finds room.
-room_by : (shut one two : Bool) (refused : Refused) → (one ≡ false → shut ≡ false → two ≡ false)
+not_refused_with_room : (shut one two : Bool) (refused : Refused) → (one ≡ false → shut ≡ false → two ≡ false)
     → cond shut (Some NoConn) (cond one (Some refused) None) ≡ None → cond shut (Some NoConn) (cond two (Some refused) None) ≡ None
-room_by true one two refused so e = absurd cc
-room_by false true two refused so e = absurd cc
-room_by false false two refused so e = rw (so refl refl) refl
+not_refused_with_room true one two refused so e = absurd cc
+not_refused_with_room false true two refused so e = absurd cc
+not_refused_with_room false false two refused so e = rw (so refl refl) refl
 
 turn_by : (shut idle one two : Bool) (refused : Refused) → (one ≡ false → shut ≡ false → two ≡ false)
     → cond shut (Some NoConn) (cond idle None (cond one (Some refused) None)) ≡ None
     → cond shut (Some NoConn) (cond idle None (cond two (Some refused) None)) ≡ None
 turn_by shut true one two refused so e = e
-turn_by shut false one two refused so e = room_by shut one two refused so e
+turn_by shut false one two refused so e = not_refused_with_room shut one two refused so e
 
 refuse_by : (shut bad one two : Bool) (refused : Refused) → (one ≡ false → shut ≡ false → two ≡ false)
     → cond shut (Some NoConn) (cond bad (Some NotRefusable) (cond one (Some refused) None)) ≡ None
     → cond shut (Some NoConn) (cond bad (Some NotRefusable) (cond two (Some refused) None)) ≡ None
 refuse_by true bad one two refused so e = absurd cc
 refuse_by false true one two refused so e = absurd cc
-refuse_by false false one two refused so e = room_by false one two refused so e
+refuse_by false false one two refused so e = not_refused_with_room false one two refused so e
 
-has_room : (c : ℕ) (log also : List Act) → SameConnection (of c log) (of c also)
+reply_still_has_room : (c : ℕ) (log also : List Act) → SameConnection (of c log) (of c also)
     → length (waiting (of c also)) ≤ length (waiting (of c log)) → nat_lt (free (of c log)) longest_reply ≡ false → is_shut c log ≡ false
     → nat_lt (free (of c also)) longest_reply ≡ false
-has_room c log also v le enough shut =
-    let opened : is_open (of c log) ≡ true = open_by (nat_lt 15 c) (is_open (of c log)) shut in
+reply_still_has_room c log also v le enough shut =
+    let opened : is_open (of c log) ≡ true = not_shut_is_open (nat_lt 15 c) (is_open (of c log)) shut in
     let there : is_open (of c also) ≡ true = ap is_some (sym v.role) ∙ opened in
     let few : length (bytes_left (of c also)) ≤ length (bytes_left (of c log)) = rw (opened, there) at le in
     let room = ltb-false (free (of c log)) longest_reply enough in
@@ -81,11 +81,11 @@ none_refused_by config log also channel_log later (Bytes c piece) v le e fits =
 none_refused_by config log also channel_log later (Turn c) v le e fits =
     rw (sym (shut_same c log also (v.each c)), sym (next_call_same (of c log) (of c also) (v.each c)))
     (turn_by (is_shut c log) (is_idle (of c log)) (nat_lt (free (of c log)) longest_reply) (nat_lt (free (of c also)) longest_reply) NoRoom
-    (has_room c log also (v.each c) (le c)) fits)
+    (reply_still_has_room c log also (v.each c) (le c)) fits)
 none_refused_by config log also channel_log later (Refuse c) v le e fits =
     rw (sym (shut_same c log also (v.each c)), sym (refusable_same (of c log) (of c also) (v.each c)))
     (refuse_by (is_shut c log) (is_none (refusable (of c log))) (nat_lt (free (of c log)) longest_reply)
-    (nat_lt (free (of c also)) longest_reply) NoRoom (has_room c log also (v.each c) (le c)) fits)
+    (nat_lt (free (of c also)) longest_reply) NoRoom (reply_still_has_room c log also (v.each c) (le c)) fits)
 none_refused_by config log also channel_log later (Close (Conn c)) v le e fits = rw (shut_same c log also (v.each c)) at fits
 none_refused_by config log also channel_log later (Close (Intr c)) v le e fits = rw (channel_same c log also v) at fits
 none_refused_by config log also channel_log later (Dialed c ok) v le e fits =
@@ -96,4 +96,5 @@ none_refused_by config log also channel_log later Tick v le e fits = rw v.device
 
 pub none_refused : NoneRefused
 none_refused config history other log also channel_log later event same x y le e fits =
-    none_refused_by config log also channel_log later event (logs_alike config (retook history other same) log also x y) le e fits
+    none_refused_by config log also channel_log later event
+        (logs_alike config (retook_if_same_without_took history other same) log also x y) le e fits

@@ -13,14 +13,14 @@ use Rattle.sv_history.specs.PolledStatus.{IsPolled}
 use Rattle.sv_history.specs.Settling.{SettlesIn, Settles}
 use Rattle.sv_history.specs.History.{own_acts, IsLogOf}
 use Rattle.sv_laws.specs.Laws.{OneLog}
-use Rattle.sv_history.proofs.OneStep.{next_once}
+use Rattle.sv_history.proofs.OneStep.{next_step_unique}
 
-pub one_end : (n m : ℕ) (config : Config) (log a b : List Act) → SettlesIn n config log a → SettlesIn m config log b → a ≡ b
-one_end zero zero config log a b x y = x.1 ∙ sym y.1
-one_end zero (suc m) config log a b x y = absurd (x.0 y.0 y.1)
-one_end (suc n) zero config log a b x y = absurd (y.0 x.0 x.1)
-one_end (suc n) (suc m) config log a b x y =
-    let same = next_once config log x.0 y.0 x.1 y.1 in one_end n m config y.0 a b (rw same at x.2) y.2
+pub settling_has_one_end : (n m : ℕ) (config : Config) (log a b : List Act) → SettlesIn n config log a → SettlesIn m config log b → a ≡ b
+settling_has_one_end zero zero config log a b x y = x.1 ∙ sym y.1
+settling_has_one_end zero (suc m) config log a b x y = absurd (x.0 y.0 y.1)
+settling_has_one_end (suc n) zero config log a b x y = absurd (y.0 x.0 x.1)
+settling_has_one_end (suc n) (suc m) config log a b x y =
+    let same = next_step_unique config log x.0 y.0 x.1 y.1 in settling_has_one_end n m config y.0 a b (rw same at x.2) y.2
 
 pub one_log : OneLog
 one_log config [] a b x y = x.1 ∙ sym y.1
@@ -30,16 +30,16 @@ one_log config (event ∷ history) a b x y =
     let polled = one_word (λ k. PolledBit k (instrument_acts (device_acts x.0))) y.1 x.1 said x.7 in
     let there = subst (λ (log : List Act). Settles config (own_acts config y.1 event log ++ log) b) (sym before) y.8 in
     let settled = subst (λ (word : ℕ). Settles config (own_acts config word event x.0 ++ x.0) b) polled there in
-    one_end x.8.0 settled.0 config (own_acts config x.1 event x.0 ++ x.0) a b x.8.1 settled.1
+    settling_has_one_end x.8.0 settled.0 config (own_acts config x.1 event x.0 ++ x.0) a b x.8.1 settled.1
 
 -- If the logs of two histories give the same bytes on a port, the second history sends what the
 -- first sends.
-pub sends_moved : (port : Port) (config : Config) (history other : List PlainEvent) (log also : List Act) (bytes : List ℕ)
+pub sends_in_other_history : (port : Port) (config : Config) (history other : List PlainEvent) (log also : List Act) (bytes : List ℕ)
     → IsLogOf config history log → IsLogOf config other also
     → ((channel_log : List ChannelAct) → HearsOf (device_acts log) channel_log → (heard : List ChannelAct)
     × HearsOf (device_acts also) heard × (all_sent port channel_log log ≡ all_sent port heard also))
     → Sends port config history bytes → Sends port config other bytes
-sends_moved port config history other log also bytes x y moves (found, channel_log, is_log, hears, sent) =
+sends_in_other_history port config history other log also bytes x y moves (found, channel_log, is_log, hears, sent) =
     let same : found ≡ log = one_log config history found log is_log x in
     let so = moves channel_log (subst (λ (l : List Act). HearsOf (device_acts l) channel_log) same hears) in
     (also, so.0, y, so.1, sent ∙ ap (λ (l : List Act). all_sent port channel_log l) same ∙ so.2)

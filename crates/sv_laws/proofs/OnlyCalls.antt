@@ -25,105 +25,108 @@ use Rattle.sv_history.specs.Interrupts.{connect_outcome}
 use Rattle.sv_history.specs.Resuming.{effect_of, leaving}
 use Rattle.sv_history.specs.Refusing.{refusable}
 use Rattle.sv_history.specs.History.{own_acts}
-use Rattle.sv_laws.proofs.Brought.{brings, AreCalls, OnlyCalls}
-use Rattle.sv_history.proofs.Projections.{of_shared}
+use Rattle.sv_laws.proofs.Brought.{brings, AreCallActs, OnlyCalls}
+use Rattle.sv_history.proofs.Projections.{of_device_acts}
 use Rattle.sv_laws.proofs.OneLog.{one_log}
-use Rattle.sv_laws.proofs.EveryLog.EachEvent.{each_settled, StepsKeep, ends_keep, step_keeps, turn_keeps, refuse_keeps}
-use Rattle.sv_laws.proofs.EveryLog.Fit.{of_each}
+use Rattle.sv_laws.proofs.EveryLog.EachEvent.{settling_keeps, StepsKeep, steps_keep_by_effects, step_keeps, turn_keeps, refuse_keeps}
+use Rattle.sv_laws.proofs.EveryLog.Fit.{each_after_effect}
 
-pub calls_join : (one other : List ConnAct) → AreCalls one → AreCalls other → AreCalls (one ++ other)
-calls_join [] other h k = k
-calls_join (CallTaken call ∷ one) other h k = calls_join one other h k
-calls_join (Faulted ∷ one) other h k = calls_join one other h k
-calls_join (Replied bytes ∷ one) other h k = calls_join one other h k
-calls_join (_ ∷ one) other h k = absurd h
+pub append_of_calls : (one other : List ConnAct) → AreCallActs one → AreCallActs other → AreCallActs (one ++ other)
+append_of_calls [] other h k = k
+append_of_calls (CallTaken call ∷ one) other h k = append_of_calls one other h k
+append_of_calls (Faulted ∷ one) other h k = append_of_calls one other h k
+append_of_calls (Replied bytes ∷ one) other h k = append_of_calls one other h k
+append_of_calls (_ ∷ one) other h k = absurd h
 
-replies_calls : (xid : ℕ) (result : Option Outcome) → AreCalls (replies xid result)
-replies_calls xid (Some result) = tt
-replies_calls xid None = tt
+replies_are_calls : (xid : ℕ) (result : Option Outcome) → AreCallActs (replies xid result)
+replies_are_calls xid (Some result) = tt
+replies_are_calls xid None = tt
 
 -- ---- acts of calls that follow a log
 
-abbrev Behind : (ℕ → List ConnAct) → List Act → Type 0
-Behind base log = (c : ℕ) → (calls : List ConnAct) × AreCalls calls × (of c log ≡ calls ++ base c)
+abbrev FollowedByCalls : (ℕ → List ConnAct) → List Act → Type 0
+FollowedByCalls base log = (c : ℕ) → (calls : List ConnAct) × AreCallActs calls × (of c log ≡ calls ++ base c)
 
-more_calls : (base acts : List ConnAct) (adds : List ConnAct) → AreCalls adds
-    → (calls : List ConnAct) × AreCalls calls × (acts ≡ calls ++ base)
-    → (calls : List ConnAct) × AreCalls calls × (adds ++ acts ≡ calls ++ base)
-more_calls base acts adds h (calls, k, is) =
-    (adds ++ calls, calls_join adds calls h k, ap (λ (l : List ConnAct). adds ++ l) is ∙ sym (append_assoc adds calls base))
+more_calls_follow : (base acts : List ConnAct) (adds : List ConnAct) → AreCallActs adds
+    → (calls : List ConnAct) × AreCallActs calls × (acts ≡ calls ++ base)
+    → (calls : List ConnAct) × AreCallActs calls × (adds ++ acts ≡ calls ++ base)
+more_calls_follow base acts adds h (calls, k, is) =
+    (adds ++ calls, append_of_calls adds calls h k, ap (λ (l : List ConnAct). adds ++ l) is ∙ sym (append_assoc adds calls base))
 
-behind_effect : (base : ℕ → List ConnAct) (c : ℕ) (effect : Effect) (log : List Act) → AreCalls effect.own → Behind base log
-    → Behind base (acts_of c effect ++ log)
+behind_effect : (base : ℕ → List ConnAct) (c : ℕ) (effect : Effect) (log : List Act) → AreCallActs effect.own → FollowedByCalls base log
+    → FollowedByCalls base (acts_of c effect ++ log)
 behind_effect base c effect log h all =
-    of_each (λ d acts. (calls : List ConnAct) × AreCalls calls × (acts ≡ calls ++ base d)) c effect log
-    (more_calls (base c) (of c log) effect.own h (all c)) (λ d ne. all d)
+    each_after_effect (λ d acts. (calls : List ConnAct) × AreCallActs calls × (acts ≡ calls ++ base d)) c effect log
+    (more_calls_follow (base c) (of c log) effect.own h (all c)) (λ d ne. all d)
 
-behind_call : (base : ℕ → List ConnAct) (c : ℕ) (act : ConnAct) (log : List Act) → AreCalls (act ∷ []) → Behind base log
-    → Behind base (On c act ∷ log)
+behind_call : (base : ℕ → List ConnAct) (c : ℕ) (act : ConnAct) (log : List Act) → AreCallActs (act ∷ []) → FollowedByCalls base log
+    → FollowedByCalls base (On c act ∷ log)
 behind_call base c act log h all = behind_effect base c (record { own = act ∷ []; adds = [] }) log h all
 
-behind_shared : (base : ℕ → List ConnAct) (adds : List DeviceAct) (log : List Act) → Behind base log
-    → Behind base (map OnDevice adds ++ log)
+behind_shared : (base : ℕ → List ConnAct) (adds : List DeviceAct) (log : List Act) → FollowedByCalls base log
+    → FollowedByCalls base (map OnDevice adds ++ log)
 behind_shared base adds log all d =
-    subst (λ (l : List ConnAct). (calls : List ConnAct) × AreCalls calls × (l ≡ calls ++ base d)) (sym (of_shared d adds log)) (all d)
+    subst (λ (l : List ConnAct). (calls : List ConnAct) × AreCallActs calls × (l ≡ calls ++ base d)) (sym (of_device_acts d adds log))
+        (all d)
 
 -- ---- a suspended call ends or is suspended again
 
-behind_ended : (base : ℕ → List ConnAct) (c : ℕ) (does : Arguments → CallOutcome) (log : List Act) → Behind base log
-    → Behind base (acts_of c (effect_of c does (core_call_in (pending_call (of c log)))) ++ log)
+behind_ended : (base : ℕ → List ConnAct) (c : ℕ) (does : Arguments → CallOutcome) (log : List Act) → FollowedByCalls base log
+    → FollowedByCalls base (acts_of c (effect_of c does (core_call_in (pending_call (of c log)))) ++ log)
 behind_ended base c does log = by (core_call_in (pending_call (of c log)))
   where
-    by : (call : Option CoreCall) → Behind base log → Behind base (acts_of c (effect_of c does call) ++ log)
-    by (Some call) = behind_effect base c (effect_of c does (Some call)) log (replies_calls call.xid (does call.arguments).result)
+    by : (call : Option CoreCall) → FollowedByCalls base log → FollowedByCalls base (acts_of c (effect_of c does call) ++ log)
+    by (Some call) = behind_effect base c (effect_of c does (Some call)) log (replies_are_calls call.xid (does call.arguments).result)
     by None = behind_effect base c (effect_of c does None) log tt
 
-steps_keep : (base : ℕ → List ConnAct) (config : Config) → StepsKeep config (Behind base)
+steps_keep : (base : ℕ → List ConnAct) (config : Config) → StepsKeep config (FollowedByCalls base)
 steps_keep base config =
-    ends_keep config (Behind base) (λ adds log. behind_shared base (map Applied adds) log) (behind_ended base)
+    steps_keep_by_effects config (FollowedByCalls base) (λ adds log. behind_shared base (map Applied adds) log) (behind_ended base)
 
 -- ---- an event's own acts
 
 pub request_calls : (config : Config) (polled c : ℕ) (request : Request) (acts : List DeviceAct)
-    → AreCalls (request_effect config polled c request acts).own
-request_calls config polled c (CoreRequest call) acts = replies_calls call.xid _
+    → AreCallActs (request_effect config polled c request acts).own
+request_calls config polled c (CoreRequest call) acts = replies_are_calls call.xid _
 request_calls config polled c _ acts = tt
 
 -- An event's own act is added to its own connection only.
-on_mine : (c d : ℕ) (act : ConnAct) (log : List Act) (brought : List ConnAct) → (eqb c d ≡ true → brought ≡ act ∷ [])
+own_act_on_conn : (c d : ℕ) (act : ConnAct) (log : List Act) (brought : List ConnAct) → (eqb c d ≡ true → brought ≡ act ∷ [])
     → (eqb c d ≡ false → brought ≡ []) → of d (On c act ∷ log) ≡ brought ++ of d log
-on_mine c d act log brought mine other = elim (cases_Bool (eqb c d)) [
+own_act_on_conn c d act log brought mine other = elim (cases_Bool (eqb c d)) [
   | inl e ↦ rw (e, mine e) refl
   | inr e ↦ rw (e, other e) refl
 ]
 
-behind_none : (log : List Act) → Behind (λ c. of c log) log
+behind_none : (log : List Act) → FollowedByCalls (λ c. of c log) log
 behind_none log c = ([], tt, refl)
 
 pub behind_event : (config : Config) (event : PlainEvent) (polled : ℕ) (log : List Act)
-    → Behind (λ c. brings c event ++ of c log) (own_acts config polled event log ++ log)
-behind_event config (Open c role) polled log = λ d. ([], tt, on_mine c d (Opened role) log _ (λ e. rw e refl) (λ e. rw e refl))
-behind_event config (Bytes c piece) polled log = λ d. ([], tt, on_mine c d (Piece piece) log _ (λ e. rw e refl) (λ e. rw e refl))
+    → FollowedByCalls (λ c. brings c event ++ of c log) (own_acts config polled event log ++ log)
+behind_event config (Open c role) polled log = λ d. ([], tt, own_act_on_conn c d (Opened role) log _ (λ e. rw e refl) (λ e. rw e refl))
+behind_event config (Bytes c piece) polled log = λ d. ([], tt, own_act_on_conn c d (Piece piece) log _ (λ e. rw e refl) (λ e. rw e refl))
 behind_event config (Turn c) polled log =
-    turn_keeps config (Behind (λ d. of d log)) (steps_keep (λ d. of d log) config) polled c (next_call (of c log)) (next_request (of c log))
+    turn_keeps config (FollowedByCalls (λ d. of d log)) (steps_keep (λ d. of d log) config) polled c (next_call (of c log))
+        (next_request (of c log))
     log (behind_none log) (λ bytes request next asks.
     behind_effect (λ d. of d log) c (request_effect config polled c request (device_acts log)) (On c (CallTaken bytes) ∷ log)
     (request_calls config polled c request (device_acts log))
     (behind_call (λ d. of d log) c (CallTaken bytes) log tt (behind_none log)))
 behind_event config (Refuse c) polled log =
-    refuse_keeps (Behind (λ d. of d log)) c (next_call (of c log)) (refusable (of c log)) log (behind_none log) (λ bytes call next can.
+    refuse_keeps (FollowedByCalls (λ d. of d log)) c (next_call (of c log)) (refusable (of c log)) log (behind_none log)
+        (λ bytes call next can.
     behind_call (λ d. of d log) c (Replied _) (On c (CallTaken bytes) ∷ log) tt
     (behind_call (λ d. of d log) c (CallTaken bytes) log tt (behind_none log)))
 behind_event config (Took (Conn c) count) polled log = λ d.
-    ([], tt, on_mine c d (BytesTaken count) log _ (λ e. rw e refl) (λ e. rw e refl))
+    ([], tt, own_act_on_conn c d (BytesTaken count) log _ (λ e. rw e refl) (λ e. rw e refl))
 behind_event config (Took (Intr c) count) polled log =
     behind_shared (λ c. of c log) (Channel (ChannelTaken c count) ∷ []) log (behind_none log)
 behind_event config (Close (Conn c)) polled log = λ d.
     let adds = Channel (ChannelClosed c) ∷ (map Linked (closing c (link_acts (device_acts log))) ++ Waited (Left c) ∷ []) in (
       [],
       tt,
-      ap (of d) (append_assoc (map OnDevice adds) (On c PortClosed ∷ []) log) ∙ of_shared d adds (On c PortClosed ∷ log)
-          ∙ on_mine c d PortClosed log _ (λ e. rw e refl) (λ e. rw e refl),
+      ap (of d) (append_assoc (map OnDevice adds) (On c PortClosed ∷ []) log) ∙ of_device_acts d adds (On c PortClosed ∷ log)
+          ∙ own_act_on_conn c d PortClosed log _ (λ e. rw e refl) (λ e. rw e refl),
     )
 behind_event config (Close (Intr c)) polled log = behind_shared (λ c. of c log) (Channel (ChannelClosed c) ∷ []) log (behind_none log)
 behind_event config (Dialed c ok) polled log =
@@ -134,13 +137,13 @@ behind_event config External polled log =
     behind_shared (λ c. of c log) (map Applied (external_acts (instrument_acts (device_acts log)))) log (behind_none log)
 behind_event config Tick polled log =
     let adds = map Applied (tick_acts (instrument_acts (device_acts log))) in
-    subst (Behind (λ c. of c log)) (sym (append_assoc (map OnDevice adds) (OnDevice Ticked ∷ []) log))
+    subst (FollowedByCalls (λ c. of c log)) (sym (append_assoc (map OnDevice adds) (OnDevice Ticked ∷ []) log))
     (behind_shared (λ c. of c log) adds (OnDevice Ticked ∷ log) (behind_shared (λ c. of c log) (Ticked ∷ []) log (behind_none log)))
 
 pub only_calls : OnlyCalls
 only_calls config event history before log c was is =
     let same = one_log config history is.0 before is.4 was in
-    let grown = each_settled config (Behind (λ d. brings d event ++ of d is.0))
+    let grown = settling_keeps config (FollowedByCalls (λ d. brings d event ++ of d is.0))
     (step_keeps config _ (steps_keep (λ d. brings d event ++ of d is.0) config))
     is.8.0 (own_acts config is.1 event is.0 ++ is.0) log (behind_event config event is.1 is.0) is.8.1 in
-    subst (λ (l : List Act). (calls : List ConnAct) × AreCalls calls × (of c log ≡ calls ++ (brings c event ++ of c l))) same (grown c)
+    subst (λ (l : List Act). (calls : List ConnAct) × AreCallActs calls × (of c log ≡ calls ++ (brings c event ++ of c l))) same (grown c)

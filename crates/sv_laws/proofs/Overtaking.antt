@@ -26,19 +26,19 @@ use Rattle.sv_history.specs.Admission.{Stop, Fails, Awaits, lock_stop, stop_of, 
 use Rattle.sv_history.specs.Resuming.{failure_effect, late}
 use Rattle.sv_history.specs.Settling.{CanResume, IsNext, Settles}
 use Rattle.sv_history.specs.History.{turn_acts, own_acts, IsLogOf}
-use Rattle.sv_history.proofs.Projections.{of_mine}
+use Rattle.sv_history.proofs.Projections.{of_own_act}
 use Rattle.sv_laws.specs.InTime.{lock_time, waits_for_peer}
-use Rattle.sv_laws.proofs.Patience.{Begins, begins}
+use Rattle.sv_laws.proofs.Patience.{BeginsWait, begins}
 use Rattle.sv_laws.proofs.InTime.{entered_until}
 use Rattle.sv_laws.specs.LockFair.{IsLockedOut, NoneOvertakes, needs_lock, is_own_fault}
-use Rattle.sv_laws.proofs.Facts.{some_same, some_none}
+use Rattle.sv_laws.proofs.Facts.{some_injective, none_is_not_some}
 use Rattle.sv_laws.proofs.CallsAlike.{SameCall}
 use Rattle.sv_laws.proofs.OneLog.{one_log}
 use Rattle.sv_laws.proofs.NoneLate.{none_late}
-use Rattle.sv_laws.proofs.Sound.{same_other, left_none}
-use Rattle.sv_laws.proofs.EveryLog.Taken.{core_taken}
-use Rattle.sv_laws.proofs.EveryLog.Steps.{log_settled, Rested, rested}
-use Rattle.sv_laws.proofs.EveryLog.EachEvent.{each_settled, turn_parts, entered_waits}
+use Rattle.sv_laws.proofs.Sound.{same_call_other_conn, left_is_not_suspended}
+use Rattle.sv_laws.proofs.EveryLog.Taken.{core_call_is_on_core_role}
+use Rattle.sv_laws.proofs.EveryLog.Steps.{log_settled, Rested, settled_is_rested}
+use Rattle.sv_laws.proofs.EveryLog.EachEvent.{settling_keeps, turn_acts_in_order, entered_waits}
 
 -- ---- what stops a call that is locked out
 
@@ -82,42 +82,42 @@ call_stopped arguments true false true false lock other is out stops = absurd cc
 call_stopped arguments true false false locked lock other is out stops = absurd cc
 
 -- A call that needs the lock is stopped while it is locked out.
-stopped : (c : ℕ) (arguments : Arguments) (acts : List DeviceAct) → needs_lock arguments ≡ true
+locked_out_is_stopped : (c : ℕ) (arguments : Arguments) (acts : List DeviceAct) → needs_lock arguments ≡ true
     → is_locked_out (holder (link_acts acts)) (lid_of (link_in arguments)) ≡ true → IsStopped arguments (stop_of c arguments acts)
-stopped c (CreateLink client_id true lock_timeout device) acts needs out =
+locked_out_is_stopped c (CreateLink client_id true lock_timeout device) acts needs out =
     rw out (link_stopped (CreateLink client_id true lock_timeout device) _ _ lock_timeout)
-stopped c (CreateLink client_id false lock_timeout device) acts needs out = absurd cc
-stopped c (OnLink lid call) acts needs out =
+locked_out_is_stopped c (CreateLink client_id false lock_timeout device) acts needs out = absurd cc
+locked_out_is_stopped c (OnLink lid call) acts needs out =
     call_stopped (OnLink lid call) (owns c (lid_of (Some lid)) acts) (is_too_long call) (is_some (lock_wait call))
     (is_locked_out (holder (link_acts acts)) (lid_of (Some lid))) (option_map lock_stop (lock_wait call)) _ needs out
     (lock_stopped lid call (lock_wait call) refl needs)
-stopped c _ acts needs out = absurd cc
+locked_out_is_stopped c _ acts needs out = absurd cc
 
-no_peer : (arguments : Arguments) → needs_lock arguments ≡ true → waits_for_peer arguments ≡ true → ⊥
-no_peer (CreateLink client_id lock_device lock_timeout device) needs peer = cc
-no_peer (OnLink lid call) needs peer = cc
-no_peer _ needs peer = cc
+lock_call_waits_no_peer : (arguments : Arguments) → needs_lock arguments ≡ true → waits_for_peer arguments ≡ true → ⊥
+lock_call_waits_no_peer (CreateLink client_id lock_device lock_timeout device) needs peer = cc
+lock_call_waits_no_peer (OnLink lid call) needs peer = cc
+lock_call_waits_no_peer _ needs peer = cc
 
-out_of : (o named : Option ℕ) → (o ≡ None → ⊥) → o ≢ named → is_locked_out o named ≡ true
-out_of None named held ne = absurd (held refl)
-out_of (Some h) None held ne = refl
-out_of (Some h) (Some n) held ne = rw (ne_eqb n h (λ e. ne (ap (λ (m : ℕ). Some m) (sym e)))) refl
+locked_out_unless_holder : (o named : Option ℕ) → (o ≡ None → ⊥) → o ≢ named → is_locked_out o named ≡ true
+locked_out_unless_holder None named held ne = absurd (held refl)
+locked_out_unless_holder (Some h) None held ne = refl
+locked_out_unless_holder (Some h) (Some n) held ne = rw (ne_eqb n h (λ e. ne (ap (λ (m : ℕ). Some m) (sym e)))) refl
 
 -- ---- no step is due
 
 -- No step is due if the instrument is as after a history, and no suspended call can resume or is
 -- past its deadline.
-none_next : (config : Config) (history : List PlainEvent) (before log new : List Act) → IsLogOf config history before
+no_step_due : (config : Config) (history : List PlainEvent) (before log new : List Act) → IsLogOf config history before
     → instrument_acts (device_acts log) ≡ instrument_acts (device_acts before) → ((e : ℕ) → CanResume (device_acts log) e → ⊥)
     → ((e : ℕ) → IsExpired (config.clock + ticks (device_acts log)) (wait_acts (device_acts log)) e → ⊥) → IsNext config log new → ⊥
-none_next config history before log new was same able late (inl (adds, such, so)) =
-    (rested config before (log_settled config history before was)).fires _
+no_step_due config history before log new was same able late (inl (adds, such, so)) =
+    (settled_is_rested config before (log_settled config history before was)).fires _
     (adds, subst (λ (i : List InstrumentAct). IsFired i (adds ++ i)) same such, refl)
-none_next config history before log new was same able late (inr (none, inl (e, wait, polled, oldest, for, said, so))) = able e oldest.0
-none_next config history before log new was same able late (inr (none, inr (still, inl (adds, such, so)))) =
-    (rested config before (log_settled config history before was)).steps _
+no_step_due config history before log new was same able late (inr (none, inl (e, wait, polled, oldest, for, said, so))) = able e oldest.0
+no_step_due config history before log new was same able late (inr (none, inr (still, inl (adds, such, so)))) =
+    (settled_is_rested config before (log_settled config history before was)).steps _
     (adds, subst (λ (i : List InstrumentAct). IsStep i (adds ++ i)) same such, refl)
-none_next config history before log new was same able late (inr (none, inr (still, inr (idle, (e, wait, oldest, for, so))))) =
+no_step_due config history before log new was same able late (inr (none, inr (still, inr (idle, (e, wait, oldest, for, so))))) =
     late e oldest.0
 
 -- A call that is suspended as after a history isn't past its deadline.
@@ -142,13 +142,13 @@ IsLong config call before last =
     (n : ℕ) → last ≡ Some n → config.clock + ticks (device_acts before) + lock_time call.arguments ≤ n
 
 -- If a call that needs the lock waits for it, the wait lasts so long.
-long_by : (config : Config) (c : ℕ) (call : CoreCall) (before : List Act) (until : Option ℕ) → needs_lock call.arguments ≡ true
-    → Begins Lock until call.arguments → IsLong config call before (deadline config until (device_acts before))
-long_by config c call before until needs (inl peer) = absurd (no_peer call.arguments needs peer)
-long_by config c call before until needs (inr (timeout, is, most, least)) = λ n same.
+lock_wait_is_long : (config : Config) (c : ℕ) (call : CoreCall) (before : List Act) (until : Option ℕ) → needs_lock call.arguments ≡ true
+    → BeginsWait Lock until call.arguments → IsLong config call before (deadline config until (device_acts before))
+lock_wait_is_long config c call before until needs (inl peer) = absurd (lock_call_waits_no_peer call.arguments needs peer)
+lock_wait_is_long config c call before until needs (inr (timeout, is, most, least)) = λ n same.
     let clock = config.clock + ticks (device_acts before) in
     let now : Some (clock + timeout) ≡ Some n = ap (λ (u : Option ℕ). deadline config u (device_acts before)) (sym is) ∙ same in
-    let sum : clock + timeout ≡ n = some_same (clock + timeout) n now in
+    let sum : clock + timeout ≡ n = some_injective (clock + timeout) n now in
     let less = least refl in omega (arith, sum, less)
 
 -- The log after the call was taken, and suspended until it gets the lock.
@@ -171,9 +171,9 @@ StaysBehind config c bytes call before log =
 -- ---- no step but the call's own timeout is due
 
 -- While the call waits for the lock, no suspended call can resume.
-none_behind : (config : Config) (c : ℕ) (bytes : List ℕ) (call : CoreCall) (before : List Act) (last : Option ℕ) (e : ℕ)
+none_resumes_while_waiting : (config : Config) (c : ℕ) (bytes : List ℕ) (call : CoreCall) (before : List Act) (last : Option ℕ) (e : ℕ)
     → IsBehind config c bytes call before → CanResume (device_acts (suspended c bytes call last before)) e → ⊥
-none_behind config c bytes call before last e is able = elim (cases_eq e c) [
+none_resumes_while_waiting config c bytes call before last e is able = elim (cases_eq e c) [
   | inl same ↦
       let acts = wait_acts (device_acts before) in
       let named = lid_of (link_in call.arguments) in
@@ -184,57 +184,60 @@ none_behind config c bytes call before last e is able = elim (cases_eq e c) [
       (let z : false ≡ true = rw is.out at there in cc)
   | inr ne ↦
       let acts = wait_acts (device_acts before) in
-      let alike = same_other c e (Entered c (lid_of (link_in call.arguments)) Lock last) acts refl ne in
+      let alike = same_call_other_conn c e (Entered c (lid_of (link_in call.arguments)) Lock last) acts refl ne in
       (none_late config is.history before e is.was).1 (rw (alike.wait, alike.named) at able)
 ]
 
 -- Suspending the call, and ending its suspension, leaves the other suspended calls alone.
-left_alike : (c e : ℕ) (named last : Option ℕ) (acts : List WaitAct) → e ≢ c → SameCall e (Left c ∷ Entered c named Lock last ∷ acts) acts
-left_alike c e named last acts ne =
-    let one = same_other c e (Entered c named Lock last) acts refl ne in
-    let two = same_other c e (Left c) (Entered c named Lock last ∷ acts) refl ne in
+other_waits_unchanged : (c e : ℕ) (named last : Option ℕ) (acts : List WaitAct) → e ≢ c
+    → SameCall e (Left c ∷ Entered c named Lock last ∷ acts) acts
+other_waits_unchanged c e named last acts ne =
+    let one = same_call_other_conn c e (Entered c named Lock last) acts refl ne in
+    let two = same_call_other_conn c e (Left c) (Entered c named Lock last ∷ acts) refl ne in
     record { wait = two.wait ∙ one.wait; until = two.until ∙ one.until; named = two.named ∙ one.named }
 
 -- Once the call is answered, no step is due.
-none_refused : (config : Config) (c : ℕ) (bytes : List ℕ) (call : CoreCall) (before log new : List Act)
+refused_is_settled : (config : Config) (c : ℕ) (bytes : List ℕ) (call : CoreCall) (before log new : List Act)
     → IsBehind config c bytes call before → IsRefused c bytes call before log → IsNext config log new → ⊥
-none_refused config c bytes call before log new is (error, may, inl so) next =
+refused_is_settled config c bytes call before log new is (error, may, inl so) next =
     let answered = On c (Replied (result_reply call.xid (failure call.arguments error))) ∷ On c (CallTaken bytes) ∷ before in
-    none_next config is.history before answered new is.was refl (λ e able. (none_late config is.history before e is.was).1 able)
+    no_step_due config is.history before answered new is.was refl (λ e able. (none_late config is.history before e is.was).1 able)
     (λ e late. (none_late config is.history before e is.was).0 late) (subst (λ (l : List Act). IsNext config l new) so next)
-none_refused config c bytes call before log new is (error, may, inr (last, so)) next =
+refused_is_settled config c bytes call before log new is (error, may, inr (last, so)) next =
     let held = suspended c bytes call last before in
     let answered = On c (Replied (result_reply call.xid (failure call.arguments error))) ∷ OnDevice (Waited (Left c)) ∷ held in
     let named = lid_of (link_in call.arguments) in
     let acts = wait_acts (device_acts before) in
     let now = Left c ∷ Entered c named Lock last ∷ acts in
-    let none : waits c now ≡ None = left_none c (Entered c named Lock last ∷ acts) in
-    none_next config is.history before answered new is.was refl
+    let none : waits c now ≡ None = left_is_not_suspended c (Entered c named Lock last ∷ acts) in
+    no_step_due config is.history before answered new is.was refl
     (λ e able. elim (cases_eq e c) [
       | inl same ↦
           let mine : CanResume (device_acts answered) c = subst (CanResume (device_acts answered)) same able in
           (let z : false ≡ true = rw none at mine in cc)
       | inr other ↦
-          let alike = left_alike c e named last acts other in
+          let alike = other_waits_unchanged c e named last acts other in
           (none_late config is.history before e is.was).1 (rw (alike.wait, alike.named) at able)
     ])
     (λ e late. elim (cases_eq e c) [
-      | inl same ↦ some_none (waits e now) late.0 (ap (λ (n : ℕ). waits n now) same ∙ none) late.2
-      | inr other ↦ none_late_alike config is.history before e now is.was (left_alike c e named last acts other) late
+      | inl same ↦ none_is_not_some (waits e now) late.0 (ap (λ (n : ℕ). waits n now) same ∙ none) late.2
+      | inr other ↦ none_late_alike config is.history before e now is.was (other_waits_unchanged c e named last acts other) late
     ]) (subst (λ (l : List Act). IsNext config l new) so next)
 
 -- If the call times out at once, its lock timeout is 0, and it is answered with error 11.
-refused_late : (config : Config) (c : ℕ) (bytes : List ℕ) (call : CoreCall) (before : List Act) (last : Option ℕ) (new : List Act) (e : ℕ)
+timeout_is_refusal : (config : Config) (c : ℕ) (bytes : List ℕ) (call : CoreCall) (before : List Act) (last : Option ℕ) (new : List Act)
+    (e : ℕ)
     (wait : Wait) → IsBehind config c bytes call before → IsLong config call before last → e ≡ c
     → let log = suspended c bytes call last before in
     waits e (wait_acts (device_acts log)) ≡ Some wait
     → IsExpired (config.clock + ticks (device_acts before)) (wait_acts (device_acts log)) e
     → new ≡ acts_of e (failure_effect (late wait) e (core_call_in (pending_call (of e log)))) ++ log → IsRefused c bytes call before new
-refused_late config c bytes call before last new e wait is long same for past so =
+timeout_is_refusal config c bytes call before last new e wait is long same for past so =
     let log = suspended c bytes call last before in
-    let own : of c log ≡ CallTaken bytes ∷ of c before = of_mine c (CallTaken bytes) before in
+    let own : of c log ≡ CallTaken bytes ∷ of c before = of_own_act c (CallTaken bytes) before in
     let now = entered_waits c (lid_of (link_in call.arguments)) Lock last (wait_acts (device_acts before)) in
-    let lock : Lock ≡ wait = some_same Lock wait (sym now.0 ∙ ap (λ (n : ℕ). waits n (wait_acts (device_acts log))) (sym same) ∙ for) in
+    let lock : Lock ≡ wait = some_injective Lock wait (sym now.0 ∙ ap (λ (n : ℕ). waits n (wait_acts (device_acts log))) (sym same) ∙ for)
+        in
     let found : core_call_in (pending_call (of c log)) ≡ Some call =
     ap (λ (l : List ConnAct). core_call_in (pending_call l)) own ∙ is.known in
     let moved : new ≡ acts_of c (failure_effect (late wait) c (core_call_in (pending_call (of c log)))) ++ log =
@@ -254,24 +257,25 @@ behind_step : (config : Config) (c : ℕ) (bytes : List ℕ) (call : CoreCall) (
     → IsBehind config c bytes call before → StaysBehind config c bytes call before log → IsNext config log new
     → StaysBehind config c bytes call before new
 behind_step config c bytes call before log new is (inr refused) next =
-    absurd (none_refused config c bytes call before log new is refused next)
+    absurd (refused_is_settled config c bytes call before log new is refused next)
 behind_step config c bytes call before log new is (inl (last, same, long)) next =
     by (subst (λ (l : List Act). IsNext config l new) same next)
   where
     rest : Rested config before
-    rest = rested config before (log_settled config is.history before is.was)
+    rest = settled_is_rested config before (log_settled config is.history before is.was)
 
     by : IsNext config (suspended c bytes call last before) new → StaysBehind config c bytes call before new
     by (inl (adds, such, so)) = absurd (rest.fires _ (adds, such, refl))
-    by (inr (none, inl (e, wait, polled, oldest, for, said, so))) = absurd (none_behind config c bytes call before last e is oldest.0)
+    by (inr (none, inl (e, wait, polled, oldest, for, said, so))) = absurd
+        (none_resumes_while_waiting config c bytes call before last e is oldest.0)
     by (inr (none, inr (still, inl (adds, such, so)))) = absurd (rest.steps _ (adds, such, refl))
     by (inr (none, inr (still, inr (idle, (e, wait, oldest, for, so))))) = elim (cases_eq e c) [
-      | inl same ↦ inr (refused_late config c bytes call before last new e wait is long same for oldest.0 so)
+      | inl same ↦ inr (timeout_is_refusal config c bytes call before last new e wait is long same for oldest.0 so)
       | inr ne ↦
           let acts = wait_acts (device_acts before) in
           let named = lid_of (link_in call.arguments) in
           absurd (none_late_alike config is.history before e (Entered c named Lock last ∷ acts) is.was
-          (same_other c e (Entered c named Lock last) acts refl ne) oldest.0)
+          (same_call_other_conn c e (Entered c named Lock last) acts refl ne) oldest.0)
     ]
 
 -- ---- the Turn that takes the call
@@ -282,7 +286,7 @@ behind_turn : (config : Config) (polled c : ℕ) (bytes : List ℕ) (call : Core
     StaysBehind config c bytes call before (acts_of c effect ++ On c (CallTaken bytes) ∷ before)
 behind_turn config polled c bytes call before stop needs e (inl (error, may, is)) = rw is (inr (error, may, inl refl))
 behind_turn config polled c bytes call before stop needs e (inr (until, is)) =
-    let long = long_by config c call before until needs (begins c call.arguments (device_acts before) Lock until (e ∙ is)) in
+    let long = lock_wait_is_long config c call before until needs (begins c call.arguments (device_acts before) Lock until (e ∙ is)) in
     rw is (inl (deadline config until (device_acts before), refl, long))
 
 behind_settled : (config : Config) (polled c : ℕ) (bytes : List ℕ) (call : CoreCall) (before log : List Act)
@@ -294,13 +298,13 @@ behind_settled config polled c bytes call before log is next asks needs settles 
     let effect = call_effect call.xid (admission config polled c call.arguments (stop_of c call.arguments acts) acts) in
     let adds = turn_acts config polled c (Some bytes) (Some (CoreRequest call)) before in
     let turned : StaysBehind config c bytes call before (adds ++ before) =
-    subst (StaysBehind config c bytes call before) (sym (turn_parts c bytes effect None before))
+    subst (StaysBehind config c bytes call before) (sym (turn_acts_in_order c bytes effect None before))
     (behind_turn config polled c bytes call before (stop_of c call.arguments acts) needs refl
-    (stopped c call.arguments acts needs is.out)) in
+    (locked_out_is_stopped c call.arguments acts needs is.out)) in
     let asked : request_for (open_role (of c before)) (Some bytes) ≡ Some (CoreRequest call) =
     ap (request_for (open_role (of c before))) (sym next) ∙ asks in
     let begins : StaysBehind config c bytes call before (own_acts config polled (Turn c) before ++ before) = rw (next, asked) turned in
-    each_settled config (StaysBehind config c bytes call before)
+    settling_keeps config (StaysBehind config c bytes call before)
     (λ one new so due. behind_step config c bytes call before one new is so due)
     settles.0 (own_acts config polled (Turn c) before ++ before) log begins settles.1
 
@@ -313,7 +317,7 @@ locked_out config c bytes call before log (inl (last, is, long)) =
       (refl, refl),
       refl,
       inl (
-        of_mine c (CallTaken bytes) before,
+        of_own_act c (CallTaken bytes) before,
         (entered_waits c (lid_of (link_in call.arguments)) Lock last (wait_acts (device_acts before))).0,
       ),
     )
@@ -325,7 +329,7 @@ locked_out config c bytes call before log (inr (error, may, inl is)) =
       inr (
         error,
         may,
-        of_mine c reply (On c (CallTaken bytes) ∷ before) ∙ ap (λ (l : List ConnAct). reply ∷ l) (of_mine c (CallTaken bytes) before),
+        of_own_act c reply (On c (CallTaken bytes) ∷ before) ∙ ap (λ (l : List ConnAct). reply ∷ l) (of_own_act c (CallTaken bytes) before),
       ),
     )
 locked_out config c bytes call before log (inr (error, may, inr (last, is))) =
@@ -336,8 +340,8 @@ locked_out config c bytes call before log (inr (error, may, inr (last, is))) =
       inr (
         error,
         may,
-        of_mine c reply (OnDevice (Waited (Left c)) ∷ suspended c bytes call last before)
-            ∙ ap (λ (l : List ConnAct). reply ∷ l) (of_mine c (CallTaken bytes) before),
+        of_own_act c reply (OnDevice (Waited (Left c)) ∷ suspended c bytes call last before)
+            ∙ ap (λ (l : List ConnAct). reply ∷ l) (of_own_act c (CallTaken bytes) before),
       ),
     )
 
@@ -347,6 +351,6 @@ none_overtakes config history before log c bytes call was now held next asks nee
     locked_out config c bytes call before log (behind_settled config now.1 c bytes call before log (record {
       history = history;
       was = was;
-      known = (core_taken (of c before) bytes call next asks).1;
-      out = out_of (holder (link_acts (device_acts before))) (lid_of (link_in call.arguments)) held other;
+      known = (core_call_is_on_core_role (of c before) bytes call next asks).1;
+      out = locked_out_unless_holder (holder (link_acts (device_acts before))) (lid_of (link_in call.arguments)) held other;
     }) next asks needs (subst (λ (l : List Act). Settles config (own_acts config now.1 (Turn c) l ++ l) log) same now.8))

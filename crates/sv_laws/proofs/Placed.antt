@@ -39,21 +39,21 @@ use Rattle.sv_history.specs.Refusing.{refusable}
 use Rattle.sv_history.specs.Resuming.{effect_of, leaving, next_wait, resume_outcome, resume_effect, failure_effect, late}
 use Rattle.sv_history.specs.Settling.{IsNext}
 use Rattle.sv_history.specs.History.{abort_acts, turn_acts, own_acts, IsLogOf}
-use Rattle.sv_history.proofs.Dialing.{peer_by, dialed_to, dialed_is}
-use Rattle.sv_history.proofs.Projections.{of_mine, of_shared, device_shared, link_acts_links}
+use Rattle.sv_history.proofs.Dialing.{peer_named_by, connect_outcome_for, connect_outcome_by_peer}
+use Rattle.sv_history.proofs.Projections.{of_own_act, of_device_acts, device_acts_append, link_acts_links}
 use Rattle.sv_laws.specs.LockFair.{WaitsForLock, AsksForLock, ReleasesLock}
-use Rattle.sv_laws.proofs.Facts.{some_same, not_both}
-use Rattle.sv_laws.proofs.LinksAlike.{owner_before}
-use Rattle.sv_laws.proofs.Closed.{closed_own}
+use Rattle.sv_laws.proofs.Facts.{some_injective, true_is_not_false}
+use Rattle.sv_laws.proofs.LinksAlike.{owner_before_destroy}
+use Rattle.sv_laws.proofs.Closed.{closed_links_are_own}
 use Rattle.sv_laws.proofs.Place.{EventsKeep, EachStepKeeps, each_place}
 use Rattle.sv_laws.proofs.InTime.{NoCalls, replies_no_calls}
-use Rattle.sv_laws.proofs.Sound.{takes_lock, lets_go, Sound, made_owner}
-use Rattle.sv_laws.proofs.SoundEvents.{unstopped_names, IsQuiet, quiet_log, sound_event, sound_step, sound_none}
-use Rattle.sv_laws.proofs.EveryLog.Taken.{core_taken, is_core}
+use Rattle.sv_laws.proofs.Sound.{takes_lock, can_free_lock, Sound, made_link_owner}
+use Rattle.sv_laws.proofs.SoundEvents.{unstopped_call_owns_link, NoneWaitsForFreeLock, no_wait_for_free_lock, sound_event, sound_step, sound_none}
+use Rattle.sv_laws.proofs.EveryLog.Taken.{core_call_is_on_core_role, is_core}
 use Rattle.sv_laws.proofs.EveryLog.Fit.{AllSuit, Fit}
-use Rattle.sv_laws.proofs.EveryLog.Known.{rises}
-use Rattle.sv_laws.proofs.EveryLog.Keeps.{named_lives}
-use Rattle.sv_laws.proofs.EveryLog.EachEvent.{idle_free, turn_parts, refuse_keeps, close_adds}
+use Rattle.sv_laws.proofs.EveryLog.Known.{link_numbers_rise}
+use Rattle.sv_laws.proofs.EveryLog.Keeps.{named_link_is_live}
+use Rattle.sv_laws.proofs.EveryLog.EachEvent.{next_call_means_none_suspended, turn_acts_in_order, refuse_keeps, close_acts}
 
 -- ---- where an act may stand
 
@@ -90,13 +90,13 @@ abbrev pub AllPlaced : List Act → Type 0
 AllPlaced [] = ⊤
 AllPlaced (act ∷ log) = IsPlaced log act × AllPlaced log
 
-placed_more : (acts log : List Act) → Each IsPlaced acts log → AllPlaced log → AllPlaced (acts ++ log)
-placed_more [] log h all = all
-placed_more (act ∷ acts) log h all = (h.0, placed_more acts log h.1 all)
+append_is_placed : (acts log : List Act) → Each IsPlaced acts log → AllPlaced log → AllPlaced (acts ++ log)
+append_is_placed [] log h all = all
+append_is_placed (act ∷ acts) log h all = (h.0, append_is_placed acts log h.1 all)
 
-pub placed_before : (newer older : List Act) → AllPlaced (newer ++ older) → AllPlaced older
-placed_before [] older all = all
-placed_before (act ∷ newer) older all = placed_before newer older all.1
+pub suffix_is_placed : (newer older : List Act) → AllPlaced (newer ++ older) → AllPlaced older
+suffix_is_placed [] older all = all
+suffix_is_placed (act ∷ newer) older all = suffix_is_placed newer older all.1
 
 -- ---- the acts of an effect
 
@@ -110,7 +110,7 @@ placed_own c (_ ∷ own) rest log calls h = (tt, placed_own c own rest log calls
 placed_effect : (c : ℕ) (effect : Effect) (log : List Act) → AllPlaced log → NoCalls effect.own
     → Each IsPlaced (map OnDevice effect.adds) log → AllPlaced (acts_of c effect ++ log)
 placed_effect c effect log all calls h =
-    placed_more (acts_of c effect) log (placed_own c effect.own (map OnDevice effect.adds) log calls h) all
+    append_is_placed (acts_of c effect) log (placed_own c effect.own (map OnDevice effect.adds) log calls h) all
 
 placed_happened : (adds : List InstrumentAct) (log : List Act) → AllPlaced log → AllPlaced (map OnDevice (map Applied adds) ++ log)
 placed_happened [] log all = all
@@ -127,7 +127,7 @@ IsPending c arguments log =
 -- lock, it may; and its connection owns the link that it names.
 record MayPlace (c : ℕ) (arguments : Arguments) (log : List Act) : Type 0 where
   turn : takes_lock arguments ≡ true → holder (link_acts (device_acts log)) ≡ None → HasTurn log
-  frees : (lid : ℕ) (call : LinkCall) → arguments ≡ OnLink (pos lid) call → lets_go arguments ≡ true → MayFree lid log
+  frees : (lid : ℕ) (call : LinkCall) → arguments ≡ OnLink (pos lid) call → can_free_lock arguments ≡ true → MayFree lid log
   suits : AllSuit (device_acts log)
   names : (lid : ℕ) → lid_of (link arguments) ≡ Some lid → owner lid (link_acts (device_acts log)) ≡ Some c
   pending : IsPending c arguments log
@@ -137,9 +137,9 @@ asked : (c lid : ℕ) (arguments : Arguments) (older : List Act) → IsPending c
 asked c lid arguments older (call, known, is) owns asks = (c, call, owns, known, subst (AsksForLock lid) (sym is) asks)
 
 -- Making a link leaves it a call's turn.
-turn_made : (c lid : ℕ) (log : List Act) → HasTurn log → HasTurn (OnDevice (Linked (Made lid c)) ∷ log)
-turn_made c lid log (inl nobody) = inl nobody
-turn_made c lid log (inr (d, made, before, is)) =
+turn_kept_by_made : (c lid : ℕ) (log : List Act) → HasTurn log → HasTurn (OnDevice (Linked (Made lid c)) ∷ log)
+turn_kept_by_made c lid log (inl nobody) = inl nobody
+turn_kept_by_made c lid log (inr (d, made, before, is)) =
     inr (d, Made lid c ∷ made, before, ap (λ (l : List Act). OnDevice (Linked (Made lid c)) ∷ l) is)
 
 -- The acts of the executed call may follow this log.
@@ -155,9 +155,9 @@ placed_done config polled c (CreateLink client_id true lock_timeout device) log 
     by true e =
         let lid = links_made (link_acts (device_acts log)) + 1 in
         let older = OnDevice (Linked (Made lid c)) ∷ log in
-        let owns = made_owner c lid (device_acts log) may.suits refl in
+        let owns = made_link_owner c lid (device_acts log) may.suits refl in
         let asks = asked c lid (CreateLink client_id true lock_timeout device) older may.pending owns refl in
-        rw e (((λ free. turn_made c lid log (may.turn refl free)), asks), (tt, tt))
+        rw e (((λ free. turn_kept_by_made c lid log (may.turn refl free)), asks), (tt, tt))
     by false e = rw e tt
 placed_done config polled c (CreateLink client_id false lock_timeout device) log may =
     elim (cases_Bool (lids_left (link_acts (device_acts log)))) [ inl e ↦ rw e (tt, tt) | inr e ↦ rw e tt ]
@@ -237,20 +237,20 @@ pub record Placed (log : List Act) : Type 0 where
   pub placed : AllPlaced log
 
 -- A call that resumes may be executed, since no suspended call frees the lock of its link.
-placed_continued : (config : Config) (polled c : ℕ) (wait : Wait) (call : CoreCall) (next : Option (Wait × ℕ)) (log : List Act) → Fit log
+placed_resumed : (config : Config) (polled c : ℕ) (wait : Wait) (call : CoreCall) (next : Option (Wait × ℕ)) (log : List Act) → Fit log
     → Placed log → waits c (wait_acts (device_acts log)) ≡ Some wait → core_call_in (pending_call (of c log)) ≡ Some call
     → AllPlaced (acts_of c (call_effect call.xid (resume_outcome config polled c call.arguments next (device_acts log))) ++ log)
-placed_continued config polled c wait call (Some next) log fit so for known = (tt, so.placed)
-placed_continued config polled c wait call None log fit so for known =
+placed_resumed config polled c wait call (Some next) log fit so for known = (tt, so.placed)
+placed_resumed config polled c wait call None log fit so for known =
     let acts = device_acts log in
     let left = OnDevice (Waited (Left c)) ∷ log in
     let told = so.sound.told c wait call for known in
     placed_left c call.xid (own_call config polled c call.arguments (device_acts left)) log so.placed
     (placed_done config polled c call.arguments left (record {
       turn = λ takes free. inr (c, [], log, refl);
-      frees = λ lid one is goes. not_both (lets_go call.arguments) goes told.2;
+      frees = λ lid one is goes. true_is_not_false (can_free_lock call.arguments) goes told.2;
       suits = (tt, fit.suits);
-      names = λ lid is. named_lives acts fit.suits so.sound.keeps c wait lid for (told.0 ∙ is);
+      names = λ lid is. named_link_is_live acts fit.suits so.sound.keeps c wait lid for (told.0 ∙ is);
       pending = (call, known, refl);
     }))
 
@@ -264,7 +264,7 @@ placed_step config log new fit so next = record { sound = sound_step config log 
         let call = known.0 in
         subst AllPlaced (sym is)
         (subst (λ (found : Option CoreCall). AllPlaced (acts_of c (resume_effect config polled c wait found (device_acts log)) ++ log))
-        (sym known.1) (placed_continued config polled c wait call (next_wait wait call.arguments (device_acts log)) log fit so for known.1))
+        (sym known.1) (placed_resumed config polled c wait call (next_wait wait call.arguments (device_acts log)) log fit so for known.1))
     by (inr (none, inr (still, inl (adds, such, is)))) = subst AllPlaced (sym is) (placed_happened adds log so.placed)
     by (inr (none, inr (still, inr (idle, (c, wait, oldest, for, is))))) =
         subst AllPlaced (sym is) (placed_failed (late wait) c (core_call_in (pending_call (of c log))) log so.placed)
@@ -274,20 +274,20 @@ placed_step config log new fit so next = record { sound = sound_step config log 
 -- A call that is executed when it is taken may free its link's lock: its connection owns the link.
 taken_frees : (c : ℕ) (bytes : List ℕ) (call : CoreCall) (log : List Act) → stop_of c call.arguments (device_acts log) ≡ None
     → core_call_in (Some bytes) ≡ Some call → (lid : ℕ) (one : LinkCall) → call.arguments ≡ OnLink (pos lid) one
-    → lets_go call.arguments ≡ true → MayFree lid (On c (CallTaken bytes) ∷ log)
+    → can_free_lock call.arguments ≡ true → MayFree lid (On c (CallTaken bytes) ∷ log)
 taken_frees c bytes call log e known lid one is goes d owns =
-    let lives = unstopped_names c (OnLink (pos lid) one) (device_acts log) lid
+    let lives = unstopped_call_owns_link c (OnLink (pos lid) one) (device_acts log) lid
     (ap (λ (a : Arguments). stop_of c a (device_acts log)) (sym is) ∙ e) refl in
-    let same : c ≡ d = some_same c d (sym lives ∙ owns) in
+    let same : c ≡ d = some_injective c d (sym lives ∙ owns) in
     subst (λ (n : ℕ). (is_open (of n (On c (CallTaken bytes) ∷ log)) ≡ false) ⊎ ReleasesLock n lid (On c (CallTaken bytes) ∷ log)) same
-    (inr (by one is (ap lets_go (sym is) ∙ goes)))
+    (inr (by one is (ap can_free_lock (sym is) ∙ goes)))
   where
     asks : (one : LinkCall) → call.arguments ≡ OnLink (pos lid) one
         → request_of Core (call_at bytes) ≡ CoreRequest (record { xid = call.xid; arguments = OnLink (pos lid) one })
     asks one is = is_core (request_of Core (call_at bytes)) call known
         ∙ ap (λ (a : Arguments). CoreRequest (record { xid = call.xid; arguments = a })) is
 
-    by : (one : LinkCall) → call.arguments ≡ OnLink (pos lid) one → lets_go (OnLink (pos lid) one) ≡ true
+    by : (one : LinkCall) → call.arguments ≡ OnLink (pos lid) one → can_free_lock (OnLink (pos lid) one) ≡ true
         → ReleasesLock c lid (On c (CallTaken bytes) ∷ log)
     by DeviceUnlock is goes = (bytes, log, call.xid, refl, inl (asks DeviceUnlock is))
     by DestroyLink is goes = (bytes, log, call.xid, refl, inr (asks DestroyLink is))
@@ -295,7 +295,7 @@ taken_frees c bytes call log e known lid one is goes d owns =
 
 placed_admitted : (config : Config) (polled c : ℕ) (bytes : List ℕ) (call : CoreCall) (stop : Option Stop) (log : List Act)
     → let taken = On c (CallTaken bytes) ∷ log in
-    AllPlaced taken → AllSuit (device_acts log) → IsQuiet (device_acts log) → core_call_in (Some bytes) ≡ Some call
+    AllPlaced taken → AllSuit (device_acts log) → NoneWaitsForFreeLock (device_acts log) → core_call_in (Some bytes) ≡ Some call
     → stop_of c call.arguments (device_acts log) ≡ stop
     → AllPlaced (acts_of c (call_effect call.xid (admission config polled c call.arguments stop (device_acts log))) ++ taken)
 placed_admitted config polled c bytes call None log all suits quiet known e =
@@ -306,10 +306,10 @@ placed_admitted config polled c bytes call None log all suits quiet known e =
       turn = λ takes free. inl (λ d w. quiet d w free);
       frees = taken_frees c bytes call log e known;
       suits = suits;
-      names = λ lid is. unstopped_names c call.arguments (device_acts log) lid e is;
+      names = λ lid is. unstopped_call_owns_link c call.arguments (device_acts log) lid e is;
       pending = (
         call,
-        ap (λ (l : List ConnAct). core_call_in (pending_call l)) (of_mine c (CallTaken bytes) log) ∙ known,
+        ap (λ (l : List ConnAct). core_call_in (pending_call l)) (of_own_act c (CallTaken bytes) log) ∙ known,
         refl,
       );
     }))
@@ -317,19 +317,20 @@ placed_admitted config polled c bytes call (Some (Fails error)) log all suits qu
 placed_admitted config polled c bytes call (Some (Awaits wait until)) log all suits quiet known e = ((bytes, log, refl), all)
 
 placed_request : (config : Config) (polled c : ℕ) (bytes : List ℕ) (request : Request) (log : List Act) → Fit log → AllPlaced log
-    → IsQuiet (device_acts log) → next_call (of c log) ≡ Some bytes → next_request (of c log) ≡ Some request
+    → NoneWaitsForFreeLock (device_acts log) → next_call (of c log) ≡ Some bytes → next_request (of c log) ≡ Some request
     → AllPlaced (acts_of c (request_effect config polled c request (device_acts log)) ++ On c (CallTaken bytes) ∷ log)
 placed_request config polled c bytes (CoreRequest call) log fit all quiet next asks =
-    placed_admitted config polled c bytes call (stop_of c call.arguments (device_acts log)) log (idle_free c log bytes fit next, all)
-    fit.suits quiet (core_taken (of c log) bytes call next asks).1 refl
-placed_request config polled c bytes _ log fit all quiet next asks = (tt, (idle_free c log bytes fit next, all))
+    placed_admitted config polled c bytes call (stop_of c call.arguments (device_acts log)) log
+        (next_call_means_none_suspended c log bytes fit next, all)
+    fit.suits quiet (core_call_is_on_core_role (of c log) bytes call next asks).1 refl
+placed_request config polled c bytes _ log fit all quiet next asks = (tt, (next_call_means_none_suspended c log bytes fit next, all))
 
 placed_turn : (config : Config) (polled c : ℕ) (found : Option (List ℕ)) (asked : Option Request) (log : List Act) → Fit log
-    → AllPlaced log → IsQuiet (device_acts log) → next_call (of c log) ≡ found → next_request (of c log) ≡ asked
+    → AllPlaced log → NoneWaitsForFreeLock (device_acts log) → next_call (of c log) ≡ found → next_request (of c log) ≡ asked
     → AllPlaced (turn_acts config polled c found asked log ++ log)
 placed_turn config polled c (Some bytes) (Some request) log fit all quiet next asks =
     let effect = request_effect config polled c request (device_acts log) in
-    subst AllPlaced (sym (turn_parts c bytes effect (aborts request (device_acts log)) log))
+    subst AllPlaced (sym (turn_acts_in_order c bytes effect (aborts request (device_acts log)) log))
     (by (aborts request (device_acts log)) (acts_of c effect ++ On c (CallTaken bytes) ∷ log)
     (placed_request config polled c bytes request log fit all quiet next asks))
   where
@@ -341,47 +342,49 @@ placed_turn config polled c _ _ log fit all quiet next asks = all
 -- ---- a connection closes
 
 -- After these acts each link has the owner that it had before, or none.
-abbrev IsLessened : List LinkAct → List Act → Type 0
-IsLessened behind base =
+abbrev OwnersOnlyRemoved : List LinkAct → List Act → Type 0
+OwnersOnlyRemoved behind base =
     (n d : ℕ) → owner n (behind ++ link_acts (device_acts base)) ≡ Some d → owner n (link_acts (device_acts base)) ≡ Some d
 
 -- The links of the connection are destroyed one by one.
 placed_links : (c : ℕ) (ns : List ℕ) (behind : List LinkAct) (base : List Act) → is_open (of c base) ≡ false
-    → AllByRecursion (λ n. owner n (link_acts (device_acts base)) ≡ Some c) ns → IsLessened behind base
+    → AllByRecursion (λ n. owner n (link_acts (device_acts base)) ≡ Some c) ns → OwnersOnlyRemoved behind base
     → AllPlaced (map OnDevice (map Linked behind ++ Waited (Left c) ∷ []) ++ base)
     → AllPlaced (map OnDevice (map Linked (reverse_aux (map Destroyed ns) behind) ++ Waited (Left c) ∷ []) ++ base)
 placed_links c [] behind base shut own less all = all
 placed_links c (n ∷ ns) behind base shut own less all =
     placed_links c ns (Destroyed n ∷ behind) base shut own.1
-    (λ m d is. less m d (owner_before m d n (behind ++ link_acts (device_acts base)) is).1) (
+    (λ m d is. less m d (owner_before_destroy m d n (behind ++ link_acts (device_acts base)) is).1) (
       (λ d owns.
           let adds = map Linked behind ++ Waited (Left c) ∷ [] in
           let links : link_acts (device_acts (map OnDevice adds ++ base)) ≡ behind ++ link_acts (device_acts base) =
-          ap link_acts (device_shared adds base ∙ append_assoc (map Linked behind) (Waited (Left c) ∷ []) (device_acts base))
+          ap link_acts (device_acts_append adds base ∙ append_assoc (map Linked behind) (Waited (Left c) ∷ []) (device_acts base))
           ∙ link_acts_links behind (Waited (Left c) ∷ device_acts base) in
-          let same : c ≡ d = some_same c d (sym own.0 ∙ less n d (ap (owner n) (sym links) ∙ owns)) in
-          inl (ap is_open (of_shared d adds base) ∙ ap (λ (m : ℕ). is_open (of m base)) (sym same) ∙ shut)),
+          let same : c ≡ d = some_injective c d (sym own.0 ∙ less n d (ap (owner n) (sym links) ∙ owns)) in
+          inl (ap is_open (of_device_acts d adds base) ∙ ap (λ (m : ℕ). is_open (of m base)) (sym same) ∙ shut)),
       all,
     )
 
 placed_close : (c : ℕ) (log : List Act) → Fit log → AllPlaced log
-    → AllPlaced (map OnDevice (close_adds c (device_acts log)) ++ On c PortClosed ∷ log)
+    → AllPlaced (map OnDevice (close_acts c (device_acts log)) ++ On c PortClosed ∷ log)
 placed_close c log fit all =
     let base = On c PortClosed ∷ log in
     let acts = link_acts (device_acts log) in
-    let shut : is_open (of c base) ≡ false = ap is_open (of_mine c PortClosed log) in (
+    let shut : is_open (of c base) ≡ false = ap is_open (of_own_act c PortClosed log) in (
       tt,
-      placed_links c (links_of c acts) [] base shut (closed_own c _ acts (rises (device_acts log) fit.suits)) (λ n d is. is)
+      placed_links c (links_of c acts) [] base shut (closed_links_are_own c _ acts (link_numbers_rise (device_acts log) fit.suits))
+          (λ n d is. is)
           (tt, (tt, all)),
     )
 
 -- ---- an event
 
 placed_dialed : (c : ℕ) (ok : Bool) (call : CoreCall) (peer : Option Peer) (log : List Act) → AllPlaced log
-    → AllPlaced (acts_of c (call_effect call.xid (leaving c (dialed_to c ok call.arguments peer))) ++ log)
-placed_dialed c true call (Some peer) log all = placed_left c call.xid (dialed_to c true call.arguments (Some peer)) log all (tt, tt)
-placed_dialed c false call (Some peer) log all = placed_left c call.xid (dialed_to c false call.arguments (Some peer)) log all tt
-placed_dialed c ok call None log all = placed_left c call.xid (dialed_to c ok call.arguments None) log all tt
+    → AllPlaced (acts_of c (call_effect call.xid (leaving c (connect_outcome_for c ok call.arguments peer))) ++ log)
+placed_dialed c true call (Some peer) log all = placed_left c call.xid (connect_outcome_for c true call.arguments (Some peer)) log all
+    (tt, tt)
+placed_dialed c false call (Some peer) log all = placed_left c call.xid (connect_outcome_for c false call.arguments (Some peer)) log all tt
+placed_dialed c ok call None log all = placed_left c call.xid (connect_outcome_for c ok call.arguments None) log all tt
 
 placed_event : (config : Config) → EventsKeep config Placed
 placed_event config history event polled channel_log log was free fit so =
@@ -394,20 +397,21 @@ placed_event config history event polled channel_log log was free fit so =
     by (Open c role) = (tt, all)
     by (Bytes c piece) = (tt, all)
     by (Turn c) = placed_turn config polled c (next_call (of c log)) (next_request (of c log)) log fit all
-        (quiet_log config history log was) refl refl
+        (no_wait_for_free_lock config history log was) refl refl
     by (Refuse c) = refuse_keeps AllPlaced c (next_call (of c log)) (refusable (of c log)) log all
-        (λ bytes call next can. (tt, (idle_free c log bytes fit next, all)))
+        (λ bytes call next can. (tt, (next_call_means_none_suspended c log bytes fit next, all)))
     by (Took (Conn c) count) = (tt, all)
     by (Took (Intr c) count) = (tt, all)
     by (Close (Conn c)) =
-        subst AllPlaced (sym (append_assoc (map OnDevice (close_adds c (device_acts log))) (On c PortClosed ∷ []) log))
+        subst AllPlaced (sym (append_assoc (map OnDevice (close_acts c (device_acts log))) (On c PortClosed ∷ []) log))
         (placed_close c log fit all)
     by (Close (Intr c)) = (tt, all)
     by (Dialed c ok) = called c ok (core_call_in (pending_call (of c log)))
       where
         called : (c : ℕ) (ok : Bool) (call : Option CoreCall)
             → AllPlaced (acts_of c (effect_of c (λ arguments. leaving c (connect_outcome c ok arguments)) call) ++ log)
-        called c ok (Some call) = rw (dialed_is c ok call.arguments) (placed_dialed c ok call (peer_by call.arguments) log all)
+        called c ok (Some call) = rw (connect_outcome_by_peer c ok call.arguments)
+            (placed_dialed c ok call (peer_named_by call.arguments) log all)
         called c ok None = (tt, all)
     by (Input channel microvolts) = (tt, all)
     by External = placed_happened (external_acts (instrument_acts (device_acts log))) log all

@@ -19,50 +19,50 @@ use Rattle.sv_history.specs.Act.{ConnAct, Opened, Piece, CallTaken, Replied, Byt
 use Rattle.sv_history.specs.Connection.{next_call, stream, pending_call, records_ended, took_no_call, is_busy}
 use Rattle.sv_history.specs.Reply.{reply_record}
 use Rattle.sv_laws.specs.Laws.{HasXidOf, RepliesMatch}
-use Rattle.sv_laws.proofs.EveryLog.EachAct.{IsReplyTo, AllCame, all_came}
+use Rattle.sv_laws.proofs.EveryLog.EachAct.{IsReplyTo, WerePossible, acts_were_possible}
 use Rattle.sv_laws.proofs.EveryLog.Taken.{xid_of}
 
 -- ---- each byte of a call is below 256
 
-no_bytes : IsBytes []
-no_bytes i = omega arith
+empty_is_bytes : IsBytes []
+empty_is_bytes i = omega arith
 
-bytes_join : (a b : List ℕ) → IsBytes a → IsBytes b → IsBytes (a ++ b)
-bytes_join [] b h k i = k i
-bytes_join (x ∷ a) b h k zero = h 0
-bytes_join (x ∷ a) b h k (suc i) = bytes_join a b (λ j. h (suc j)) k i
+append_is_bytes : (a b : List ℕ) → IsBytes a → IsBytes b → IsBytes (a ++ b)
+append_is_bytes [] b h k i = k i
+append_is_bytes (x ∷ a) b h k zero = h 0
+append_is_bytes (x ∷ a) b h k (suc i) = append_is_bytes a b (λ j. h (suc j)) k i
 
-bytes_front : (a b : List ℕ) → IsBytes (a ++ b) → IsBytes a
-bytes_front [] b h i = omega arith
-bytes_front (x ∷ a) b h zero = h 0
-bytes_front (x ∷ a) b h (suc i) = bytes_front a b (λ j. h (suc j)) i
+front_is_bytes : (a b : List ℕ) → IsBytes (a ++ b) → IsBytes a
+front_is_bytes [] b h i = omega arith
+front_is_bytes (x ∷ a) b h zero = h 0
+front_is_bytes (x ∷ a) b h (suc i) = front_is_bytes a b (λ j. h (suc j)) i
 
-bytes_back : (a b : List ℕ) → IsBytes (a ++ b) → IsBytes b
-bytes_back [] b h = h
-bytes_back (x ∷ a) b h = bytes_back a b (λ j. h (suc j))
+back_is_bytes : (a b : List ℕ) → IsBytes (a ++ b) → IsBytes b
+back_is_bytes [] b h = h
+back_is_bytes (x ∷ a) b h = back_is_bytes a b (λ j. h (suc j))
 
-stream_bytes : (acts : List ConnAct) → AllCame acts → IsBytes (stream acts)
-stream_bytes [] all = no_bytes
-stream_bytes (Opened role ∷ acts) all = no_bytes
-stream_bytes (PortClosed ∷ acts) all = no_bytes
-stream_bytes (Piece bytes ∷ acts) all = bytes_join (stream acts) bytes (stream_bytes acts all.1) all.0.1
+stream_bytes : (acts : List ConnAct) → WerePossible acts → IsBytes (stream acts)
+stream_bytes [] all = empty_is_bytes
+stream_bytes (Opened role ∷ acts) all = empty_is_bytes
+stream_bytes (PortClosed ∷ acts) all = empty_is_bytes
+stream_bytes (Piece bytes ∷ acts) all = append_is_bytes (stream acts) bytes (stream_bytes acts all.1) all.0.1
 stream_bytes (_ ∷ acts) all = stream_bytes acts all.1
 
 text_bytes : (last : Bool) (text : List ℕ) → IsBytes (fragment last text) → IsBytes text
-text_bytes last text fits = bytes_back (header_of last (length text)) text fits
+text_bytes last text fits = back_is_bytes (header_of last (length text)) text fits
 
 front_bytes : (front : List (List ℕ)) → IsBytes (flat_map (fragment false) front) → IsBytes (concat front)
-front_bytes [] fits = no_bytes
+front_bytes [] fits = empty_is_bytes
 front_bytes (text ∷ front) fits =
-    let first = bytes_front (fragment false text) (flat_map (fragment false) front) fits in
-    let others = bytes_back (fragment false text) (flat_map (fragment false) front) fits in
-    bytes_join text (concat front) (text_bytes false text first) (front_bytes front others)
+    let first = front_is_bytes (fragment false text) (flat_map (fragment false) front) fits in
+    let others = back_is_bytes (fragment false text) (flat_map (fragment false) front) fits in
+    append_is_bytes text (concat front) (text_bytes false text first) (front_bytes front others)
 
 record_bytes : (sent : Sent) → IsBytes (bytes_of sent) → IsBytes (record_of sent)
 record_bytes sent fits =
-    let first = bytes_front (flat_map (fragment false) sent.front) (fragment true sent.final) fits in
-    let others = bytes_back (flat_map (fragment false) sent.front) (fragment true sent.final) fits in
-    bytes_join (concat sent.front) sent.final (front_bytes sent.front first) (text_bytes true sent.final others)
+    let first = front_is_bytes (flat_map (fragment false) sent.front) (fragment true sent.final) fits in
+    let others = back_is_bytes (flat_map (fragment false) sent.front) (fragment true sent.final) fits in
+    append_is_bytes (concat sent.front) sent.final (front_bytes sent.front first) (text_bytes true sent.final others)
 
 some_bytes : (a b : List ℕ) → Some a ≡ Some b → a ≡ b
 some_bytes a b e = cc
@@ -70,28 +70,28 @@ some_bytes a b e = cc
 taken_bytes : (sent : List Sent) (n : ℕ) (call : List ℕ) → IsBytes (flat_map bytes_of sent)
     → slice_get (map record_of sent) n ≡ Some call → IsBytes call
 taken_bytes (one ∷ sent) zero call fits e =
-    subst IsBytes (some_bytes (record_of one) call e) (record_bytes one (bytes_front (bytes_of one) (flat_map bytes_of sent) fits))
-taken_bytes (one ∷ sent) (suc n) call fits e = taken_bytes sent n call (bytes_back (bytes_of one) (flat_map bytes_of sent) fits) e
+    subst IsBytes (some_bytes (record_of one) call e) (record_bytes one (front_is_bytes (bytes_of one) (flat_map bytes_of sent) fits))
+taken_bytes (one ∷ sent) (suc n) call fits e = taken_bytes sent n call (back_is_bytes (bytes_of one) (flat_map bytes_of sent) fits) e
 taken_bytes [] n call fits e = absurd cc
 
 next_by : (b : Bool) (found : Option (List ℕ)) (call : List ℕ) → cond b None found ≡ Some call → found ≡ Some call
 next_by true found call e = absurd cc
 next_by false found call e = e
 
-next_bytes : (acts : List ConnAct) (call : List ℕ) → AllCame acts → next_call acts ≡ Some call → IsBytes call
+next_bytes : (acts : List ConnAct) (call : List ℕ) → WerePossible acts → next_call acts ≡ Some call → IsBytes call
 next_bytes acts call all next =
     let s = every_stream (stream acts) (stream_bytes acts all) in
     let fits : IsBytes (flat_map bytes_of s.sent ++ s.rest) = subst IsBytes s.whole (stream_bytes acts all) in
     let found = next_by (took_no_call acts || is_busy acts) (slice_get (records_of (stream acts)) (records_ended acts)) call next in
-    taken_bytes s.sent (records_ended acts) call (bytes_front (flat_map bytes_of s.sent) s.rest fits)
+    taken_bytes s.sent (records_ended acts) call (front_is_bytes (flat_map bytes_of s.sent) s.rest fits)
     (ap (λ (l : List (List ℕ)). slice_get l (records_ended acts)) s.records_are ∙ found)
 
-pub call_bytes : (acts : List ConnAct) (call : List ℕ) → AllCame acts → pending_call acts ≡ Some call → IsBytes call
-call_bytes (CallTaken taken ∷ acts) call all busy =
+pub pending_call_is_bytes : (acts : List ConnAct) (call : List ℕ) → WerePossible acts → pending_call acts ≡ Some call → IsBytes call
+pending_call_is_bytes (CallTaken taken ∷ acts) call all busy =
     subst IsBytes (some_bytes taken call busy) (next_bytes acts taken all.1 all.0.1)
-call_bytes (Piece bytes ∷ acts) call all busy = call_bytes acts call all.1 busy
-call_bytes (BytesTaken count ∷ acts) call all busy = call_bytes acts call all.1 busy
-call_bytes _ call all busy = absurd cc
+pending_call_is_bytes (Piece bytes ∷ acts) call all busy = pending_call_is_bytes acts call all.1 busy
+pending_call_is_bytes (BytesTaken count ∷ acts) call all busy = pending_call_is_bytes acts call all.1 busy
+pending_call_is_bytes _ call all busy = absurd cc
 
 -- ---- the xid of a call, and that of its reply
 
@@ -103,9 +103,9 @@ xid_begins bytes (Err (Version found)) xid h e =
     (h.3.0, subst (λ (n : ℕ). Begins bytes (Unsigned n) h.3.0) (let same : found ≡ xid = cc in same) h.3.1)
 xid_begins bytes (Err BadHeader) xid h e = absurd cc
 
-word_front : (xid : ℕ) (after : List ℕ)
+word_begins_bytes : (xid : ℕ) (after : List ℕ)
     → (4 ≤ length (to_be_bytes w32 xid ++ after)) × (take 4 (to_be_bytes w32 xid ++ after) ≡ to_be_bytes w32 xid)
-word_front xid after = (omega arith, refl)
+word_begins_bytes xid after = (omega arith, refl)
 
 call_xid : (call : List ℕ) (xid : ℕ) → IsBytes call → xid_of (call_at call) ≡ Some xid
     → (4 ≤ length call) × (take 4 call ≡ to_be_bytes w32 xid)
@@ -113,7 +113,7 @@ call_xid call xid fits e =
     let begins = xid_begins call (call_at call) xid (call_is call fits) e in
     let front : call ≡ to_be_bytes w32 xid ++ begins.0 =
     begins.1.2 ∙ ap (λ (l : List ℕ). l ++ begins.0) (one_spelling (Unsigned xid) begins.1.0 begins.1.1) in
-    subst (λ (l : List ℕ). (4 ≤ length l) × (take 4 l ≡ to_be_bytes w32 xid)) (sym front) (word_front xid begins.0)
+    subst (λ (l : List ℕ). (4 ≤ length l) × (take 4 l ≡ to_be_bytes w32 xid)) (sym front) (word_begins_bytes xid begins.0)
 
 reply_xid : (xid : ℕ) (answer : Reply) (fields : List Field) → take 4 (drop 4 (reply_record xid answer fields)) ≡ to_be_bytes w32 xid
 reply_xid xid Success fields = refl
@@ -132,11 +132,11 @@ has_xid call reply fits (xid, answer, fields, is, same) =
 
 -- ---- each reply of a log
 
-came_before : (newer older : List ConnAct) → AllCame (newer ++ older) → AllCame older
-came_before [] older all = all
-came_before (act ∷ newer) older all = came_before newer older all.1
+came_in_suffix : (newer older : List ConnAct) → WerePossible (newer ++ older) → WerePossible older
+came_in_suffix [] older all = all
+came_in_suffix (act ∷ newer) older all = came_in_suffix newer older all.1
 
 pub replies_match : RepliesMatch
 replies_match config history log c newer older reply was is =
-    let all = came_before newer (Replied reply ∷ older) (subst AllCame is (all_came config history log c was)) in
-    (all.0.0, all.0.1, has_xid all.0.0 reply (call_bytes older all.0.0 all.1 all.0.1) all.0.2)
+    let all = came_in_suffix newer (Replied reply ∷ older) (subst WerePossible is (acts_were_possible config history log c was)) in
+    (all.0.0, all.0.1, has_xid all.0.0 reply (pending_call_is_bytes older all.0.0 all.1 all.0.1) all.0.2)

@@ -33,8 +33,8 @@ pub record SameGround (c : ℕ) (acts other : List DeviceAct) : Type 0 where
   pub clock : ticks acts ≡ ticks other
 
 -- The call isn't a create_link, or both logs have the same links and suspended calls.
-abbrev pub MayMake : Arguments → List DeviceAct → List DeviceAct → Type 0
-MayMake arguments acts other = (is_create_link arguments ≡ false)
+abbrev pub NoCreateOrSameLinks : Arguments → List DeviceAct → List DeviceAct → Type 0
+NoCreateOrSameLinks arguments acts other = (is_create_link arguments ≡ false)
     ⊎ ((link_acts acts ≡ link_acts other) × (wait_acts acts ≡ wait_acts other))
 
 -- ---- what stops a call
@@ -49,7 +49,8 @@ wait_same c (DeviceWrite io_timeout lock_timeout flags bytes) acts other ground 
 wait_same c (DeviceRead request_size io_timeout lock_timeout flags term_char) acts other ground = rw ground.answerable refl
 wait_same c _ acts other ground = refl
 
-pub stop_same : (c : ℕ) (arguments : Arguments) (acts other : List DeviceAct) → MayMake arguments acts other → SameGround c acts other
+pub stop_same : (c : ℕ) (arguments : Arguments) (acts other : List DeviceAct) → NoCreateOrSameLinks arguments acts other
+    → SameGround c acts other
     → stop_of c arguments acts ≡ stop_of c arguments other
 stop_same c (CreateLink client_id lock_device lock_timeout device) acts other (inl none) ground = absurd cc
 stop_same c (CreateLink client_id lock_device lock_timeout device) acts other (inr same) ground = rw (same.0, same.1) refl
@@ -60,39 +61,40 @@ stop_same c DestroyIntrChan acts other may ground = refl
 
 -- ---- what a call does
 
-link_same : (polled c n : ℕ) (call : LinkCall) (acts other : List DeviceAct) → SameGround c acts other
+link_call_same : (polled c n : ℕ) (call : LinkCall) (acts other : List DeviceAct) → SameGround c acts other
     → link_call polled c n call acts ≡ link_call polled c n call other
-link_same polled c n (DeviceWrite io_timeout lock_timeout flags bytes) acts other ground = rw ground.ended refl
-link_same polled c n (DeviceRead request_size io_timeout lock_timeout flags term_char) acts other ground =
+link_call_same polled c n (DeviceWrite io_timeout lock_timeout flags bytes) acts other ground = rw ground.ended refl
+link_call_same polled c n (DeviceRead request_size io_timeout lock_timeout flags term_char) acts other ground =
     rw (ground.answerable, ground.responds) refl
-link_same polled c n (Generic Trigger flags lock_timeout io_timeout) acts other ground = rw ground.scanned refl
-link_same polled c n (DeviceLock flags lock_timeout) acts other ground = rw ground.held refl
-link_same polled c n DeviceUnlock acts other ground = rw ground.held refl
-link_same polled c n (DeviceEnableSrq enable handle) acts other ground = rw (ground.owned n) refl
-link_same polled c n _ acts other ground = refl
+link_call_same polled c n (Generic Trigger flags lock_timeout io_timeout) acts other ground = rw ground.scanned refl
+link_call_same polled c n (DeviceLock flags lock_timeout) acts other ground = rw ground.held refl
+link_call_same polled c n DeviceUnlock acts other ground = rw ground.held refl
+link_call_same polled c n (DeviceEnableSrq enable handle) acts other ground = rw (ground.owned n) refl
+link_call_same polled c n _ acts other ground = refl
 
-done_same : (config : Config) (polled c : ℕ) (arguments : Arguments) (acts other : List DeviceAct) → MayMake arguments acts other
+own_call_same : (config : Config) (polled c : ℕ) (arguments : Arguments) (acts other : List DeviceAct)
+    → NoCreateOrSameLinks arguments acts other
     → SameGround c acts other → own_call config polled c arguments acts ≡ own_call config polled c arguments other
-done_same config polled c (CreateLink client_id lock_device lock_timeout device) acts other (inl none) ground = absurd cc
-done_same config polled c (CreateLink client_id lock_device lock_timeout device) acts other (inr same) ground = rw same.0 refl
-done_same config polled c (OnLink (pos n) call) acts other may ground = link_same polled c n call acts other ground
-done_same config polled c DestroyIntrChan acts other may ground = rw ground.opened refl
-done_same config polled c _ acts other may ground = refl
+own_call_same config polled c (CreateLink client_id lock_device lock_timeout device) acts other (inl none) ground = absurd cc
+own_call_same config polled c (CreateLink client_id lock_device lock_timeout device) acts other (inr same) ground = rw same.0 refl
+own_call_same config polled c (OnLink (pos n) call) acts other may ground = link_call_same polled c n call acts other ground
+own_call_same config polled c DestroyIntrChan acts other may ground = rw ground.opened refl
+own_call_same config polled c _ acts other may ground = refl
 
-admitted_by : (config : Config) (polled c : ℕ) (arguments : Arguments) (stop : Option Stop) (acts other : List DeviceAct)
-    → MayMake arguments acts other → SameGround c acts other
+admission_same : (config : Config) (polled c : ℕ) (arguments : Arguments) (stop : Option Stop) (acts other : List DeviceAct)
+    → NoCreateOrSameLinks arguments acts other → SameGround c acts other
     → admission config polled c arguments stop acts ≡ admission config polled c arguments stop other
-admitted_by config polled c arguments None acts other may ground = done_same config polled c arguments acts other may ground
-admitted_by config polled c arguments (Some (Fails error)) acts other may ground = refl
-admitted_by config polled c arguments (Some (Awaits wait timeout)) acts other may ground = rw ground.clock refl
+admission_same config polled c arguments None acts other may ground = own_call_same config polled c arguments acts other may ground
+admission_same config polled c arguments (Some (Fails error)) acts other may ground = refl
+admission_same config polled c arguments (Some (Awaits wait timeout)) acts other may ground = rw ground.clock refl
 
 pub admitted_same : (config : Config) (polled c : ℕ) (arguments : Arguments) (acts other : List DeviceAct)
-    → MayMake arguments acts other → SameGround c acts other
+    → NoCreateOrSameLinks arguments acts other → SameGround c acts other
     → admission config polled c arguments (stop_of c arguments acts) acts
     ≡ admission config polled c arguments (stop_of c arguments other) other
 admitted_same config polled c arguments acts other may ground =
     ap (λ (stop : Option Stop). admission config polled c arguments stop acts) (stop_same c arguments acts other may ground)
-    ∙ admitted_by config polled c arguments (stop_of c arguments other) acts other may ground
+    ∙ admission_same config polled c arguments (stop_of c arguments other) acts other may ground
 
 -- ---- what a call does when it resumes
 
@@ -101,21 +103,21 @@ next_same : (c : ℕ) (wait : Wait) (arguments : Arguments) (acts other : List D
 next_same c Lock (OnLink named call) acts other ground = wait_same c call acts other ground
 next_same c _ _ acts other ground = refl
 
-continued_by : (config : Config) (polled c : ℕ) (arguments : Arguments) (next : Option (Wait × ℕ)) (acts other : List DeviceAct)
-    → MayMake arguments acts other → SameGround c acts other
+resume_outcome_same : (config : Config) (polled c : ℕ) (arguments : Arguments) (next : Option (Wait × ℕ)) (acts other : List DeviceAct)
+    → NoCreateOrSameLinks arguments acts other → SameGround c acts other
     → resume_outcome config polled c arguments next acts ≡ resume_outcome config polled c arguments next other
-continued_by config polled c arguments (Some wait) acts other may ground = rw ground.clock refl
-continued_by config polled c arguments None acts other may ground =
+resume_outcome_same config polled c arguments (Some wait) acts other may ground = rw ground.clock refl
+resume_outcome_same config polled c arguments None acts other may ground =
     let behind : SameGround c (Waited (Left c) ∷ acts) (Waited (Left c) ∷ other) = assumption in
-    let made : MayMake arguments (Waited (Left c) ∷ acts) (Waited (Left c) ∷ other) =
+    let made : NoCreateOrSameLinks arguments (Waited (Left c) ∷ acts) (Waited (Left c) ∷ other) =
     elim may [ inl none ↦ inl none | inr same ↦ inr (same.0, ap (λ (l : List WaitAct). Left c ∷ l) same.1) ] in
     ap (λ (what : CallOutcome). record what { adds = what.adds ++ Waited (Left c) ∷ [] })
-    (done_same config polled c arguments (Waited (Left c) ∷ acts) (Waited (Left c) ∷ other) made behind)
+    (own_call_same config polled c arguments (Waited (Left c) ∷ acts) (Waited (Left c) ∷ other) made behind)
 
 pub resumed_same : (config : Config) (polled c : ℕ) (wait : Wait) (call : CoreCall) (acts other : List DeviceAct)
-    → MayMake call.arguments acts other → SameGround c acts other
+    → NoCreateOrSameLinks call.arguments acts other → SameGround c acts other
     → resume_effect config polled c wait (Some call) acts ≡ resume_effect config polled c wait (Some call) other
 resumed_same config polled c wait call acts other may ground = ap (call_effect call.xid)
     (ap (λ (next : Option (Wait × ℕ)). resume_outcome config polled c call.arguments next acts)
     (next_same c wait call.arguments acts other ground)
-    ∙ continued_by config polled c call.arguments (next_wait wait call.arguments other) acts other may ground)
+    ∙ resume_outcome_same config polled c call.arguments (next_wait wait call.arguments other) acts other may ground)

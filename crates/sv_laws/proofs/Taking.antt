@@ -18,20 +18,20 @@ use Rattle.sv_history.specs.Act.{Act, ConnAct, DeviceAct, BytesTaken, Linked, Wa
 use Rattle.sv_history.specs.Requests.{HearsOf, link_told, request_told}
 use Rattle.sv_history.specs.Connection.{free}
 use Rattle.sv_history.specs.History.{IsLogOf}
-use Rattle.sv_history.proofs.AlwaysTold.{some_told}
-use Rattle.sv_history.proofs.Telling.{tells_once}
+use Rattle.sv_history.proofs.AlwaysTold.{channel_log_exists}
+use Rattle.sv_history.proofs.Telling.{channel_log_unique}
 use Rattle.sv_history.proofs.StillSettled.{still_settled, channel_settled}
 use Rattle.sv_laws.specs.Adding.{all_sent, Sends}
 use Rattle.sv_laws.specs.Taking.{is_took, without_took, NoneLeftOut, HasSpare, Taking}
-use Rattle.sv_laws.proofs.Facts.{moved}
-use Rattle.sv_laws.proofs.OneLog.{sends_moved}
-use Rattle.sv_laws.proofs.EveryLog.Steps.{log_settled, stays}
-use Rattle.sv_laws.proofs.Cuts.SameDevice.{SameDevice, device_same, device_act, device_back}
-use Rattle.sv_laws.proofs.Cuts.SameStatus.{raised_same}
+use Rattle.sv_laws.proofs.Facts.{relation_of_equals}
+use Rattle.sv_laws.proofs.OneLog.{sends_in_other_history}
+use Rattle.sv_laws.proofs.EveryLog.Steps.{log_settled, settled_log_stays}
+use Rattle.sv_laws.proofs.Cuts.SameDevice.{SameDevice, same_device_refl, act_keeps_same_device, same_device_sym}
+use Rattle.sv_laws.proofs.Cuts.SameStatus.{same_act_raises_same}
 use Rattle.sv_laws.proofs.Cuts.SharedSteps.{SameCalls}
 use Rattle.sv_laws.proofs.Cuts.SharedEvents.{SameNext}
-use Rattle.sv_laws.proofs.Cuts.KeptLogs.{IsKept, event_so}
-use Rattle.sv_laws.proofs.Cuts.SameView.{SameConnection, connection_none, connection_back, same_act, next_call_same, next_request_same}
+use Rattle.sv_laws.proofs.Cuts.KeptLogs.{IsKept, kept_through_event}
+use Rattle.sv_laws.proofs.Cuts.SameView.{SameConnection, connection_none, same_connection_sym, act_keeps_same_connection, next_call_same, next_request_same}
 
 -- ---- the log of the interrupt channels without the bytes taken
 
@@ -84,23 +84,24 @@ links_same acts =
 
 -- ---- the calls of a channel that is never full
 
-abbrev add_free : Option Peer → List (List ℕ) → List ℕ → List (List ℕ)
-add_free (Some what) calls handle = calls ++ request (length calls + 1) what handle ∷ []
-add_free None calls handle = calls
+abbrev add_call_unlimited : Option Peer → List (List ℕ) → List ℕ → List (List ℕ)
+add_call_unlimited (Some what) calls handle = calls ++ request (length calls + 1) what handle ∷ []
+add_call_unlimited None calls handle = calls
 
-abbrev free_calls : ℕ → List ChannelAct → List (List ℕ)
-free_calls c [] = []
-free_calls c (ChannelOpened conn what ∷ acts) = if conn == c then [] else free_calls c acts
-free_calls c (ChannelClosed conn ∷ acts) = if conn == c then [] else free_calls c acts
-free_calls c (Requested ∷ acts) = fold (add_free (peer c acts)) (free_calls c acts) (handles_of c (enabled_links acts))
-free_calls c (_ ∷ acts) = free_calls c acts
+abbrev calls_unlimited : ℕ → List ChannelAct → List (List ℕ)
+calls_unlimited c [] = []
+calls_unlimited c (ChannelOpened conn what ∷ acts) = if conn == c then [] else calls_unlimited c acts
+calls_unlimited c (ChannelClosed conn ∷ acts) = if conn == c then [] else calls_unlimited c acts
+calls_unlimited c (Requested ∷ acts) = fold (add_call_unlimited (peer c acts)) (calls_unlimited c acts) (handles_of c (enabled_links acts))
+calls_unlimited c (_ ∷ acts) = calls_unlimited c acts
 
-abbrev free_all : ℕ → List ChannelAct → List (List ℕ)
-free_all c [] = []
-free_all c (Requested ∷ acts) = free_all c acts ++ drop (length (free_calls c acts)) (free_calls c (Requested ∷ acts))
-free_all c (_ ∷ acts) = free_all c acts
+abbrev all_calls_unlimited : ℕ → List ChannelAct → List (List ℕ)
+all_calls_unlimited c [] = []
+all_calls_unlimited c (Requested ∷ acts) = all_calls_unlimited c acts ++ drop (length (calls_unlimited c acts))
+    (calls_unlimited c (Requested ∷ acts))
+all_calls_unlimited c (_ ∷ acts) = all_calls_unlimited c acts
 
-free_same : (c : ℕ) (acts : List ChannelAct) → free_calls c (untaken acts) ≡ free_calls c acts
+free_same : (c : ℕ) (acts : List ChannelAct) → calls_unlimited c (untaken acts) ≡ calls_unlimited c acts
 free_same c [] = refl
 free_same c (ChannelTaken conn count ∷ acts) = free_same c acts
 free_same c (SrqEnabled lid conn handle ∷ acts) = free_same c acts
@@ -109,7 +110,7 @@ free_same c (ChannelOpened conn what ∷ acts) = ap (λ (l : List (List ℕ)). i
 free_same c (ChannelClosed conn ∷ acts) = ap (λ (l : List (List ℕ)). if conn == c then [] else l) (free_same c acts)
 free_same c (Requested ∷ acts) = rw (peer_same c acts, free_same c acts, links_same acts) refl
 
-free_all_same : (c : ℕ) (acts : List ChannelAct) → free_all c (untaken acts) ≡ free_all c acts
+free_all_same : (c : ℕ) (acts : List ChannelAct) → all_calls_unlimited c (untaken acts) ≡ all_calls_unlimited c acts
 free_all_same c [] = refl
 free_all_same c (ChannelTaken conn count ∷ acts) = free_all_same c acts
 free_all_same c (SrqEnabled lid conn handle ∷ acts) = free_all_same c acts
@@ -119,77 +120,82 @@ free_all_same c (ChannelClosed conn ∷ acts) = free_all_same c acts
 free_all_same c (Requested ∷ acts) =
     rw (free_all_same c acts, free_same c acts, peer_same c acts, links_same acts) refl
 
-few_added : (what : Peer) (t : ℕ) (cs handles : List (List ℕ))
+at_most_one_call_per_handle : (what : Peer) (t : ℕ) (cs handles : List (List ℕ))
     → length (fold (add_call (Some what) t) cs handles) ≤ length cs + length handles
-few_added what t cs [] = omega arith
-few_added what t cs (handle ∷ handles) = elim (cases_Bool (may_call t cs)) [
+at_most_one_call_per_handle what t cs [] = omega arith
+at_most_one_call_per_handle what t cs (handle ∷ handles) = elim (cases_Bool (may_call t cs)) [
   | inl e ↦
-      let one = few_added what t (cs ++ request (length cs + 1) what handle ∷ []) handles in
+      let one = at_most_one_call_per_handle what t (cs ++ request (length cs + 1) what handle ∷ []) handles in
       let size = length-append cs (request (length cs + 1) what handle ∷ []) in
       let le : length (fold (add_call (Some what) t) (cs ++ request (length cs + 1) what handle ∷ []) handles)
       ≤ length cs + (length handles + 1) = omega (arith, one, size) in
       rw e (omega (arith, le))
-  | inr e ↦ let one = few_added what t cs handles in rw e (omega (arith, one))
+  | inr e ↦ let one = at_most_one_call_per_handle what t cs handles in rw e (omega (arith, one))
 ]
 
-all_added : (what : Peer) (t : ℕ) (cs handles : List (List ℕ))
+all_handles_added : (what : Peer) (t : ℕ) (cs handles : List (List ℕ))
     → length (fold (add_call (Some what) t) cs handles) ≡ length cs + length handles
-    → fold (add_call (Some what) t) cs handles ≡ fold (add_free (Some what)) cs handles
-all_added what t cs [] h = refl
-all_added what t cs (handle ∷ handles) h = elim (cases_Bool (may_call t cs)) [
+    → fold (add_call (Some what) t) cs handles ≡ fold (add_call_unlimited (Some what)) cs handles
+all_handles_added what t cs [] h = refl
+all_handles_added what t cs (handle ∷ handles) h = elim (cases_Bool (may_call t cs)) [
   | inl e ↦
       let size = length-append cs (request (length cs + 1) what handle ∷ []) in
       let so : length (fold (add_call (Some what) t) (cs ++ request (length cs + 1) what handle ∷ []) handles)
       ≡ length cs + length (handle ∷ handles) = rw e at h in
-      rw e (all_added what t (cs ++ request (length cs + 1) what handle ∷ []) handles (omega (arith, so, size)))
+      rw e (all_handles_added what t (cs ++ request (length cs + 1) what handle ∷ []) handles (omega (arith, so, size)))
   | inr e ↦
       let so : length (fold (add_call (Some what) t) cs handles) ≡ length cs + length (handle ∷ handles) = rw e at h in
-      let few = few_added what t cs handles in absurd (omega (arith, so, few))
+      let few = at_most_one_call_per_handle what t cs handles in absurd (omega (arith, so, few))
 ]
 
-none_added : (t : ℕ) (cs handles : List (List ℕ)) → fold (add_call None t) cs handles ≡ fold (add_free None) cs handles
+none_added : (t : ℕ) (cs handles : List (List ℕ)) → fold (add_call None t) cs handles ≡ fold (add_call_unlimited None) cs handles
 none_added t cs [] = refl
 none_added t cs (handle ∷ handles) = none_added t cs handles
 
 requested_free : (p : Option Peer) (t : ℕ) (cs handles : List (List ℕ))
     → length (fold (add_call p t) cs handles) ≡ length cs + (if is_some p then length handles else 0)
-    → fold (add_call p t) cs handles ≡ fold (add_free p) cs handles
-requested_free (Some what) t cs handles h = all_added what t cs handles h
+    → fold (add_call p t) cs handles ≡ fold (add_call_unlimited p) cs handles
+requested_free (Some what) t cs handles h = all_handles_added what t cs handles h
 requested_free None t cs handles h = none_added t cs handles
 
-calls_free : (c : ℕ) (acts : List ChannelAct) → NoneLeftOut c acts → calls c acts ≡ free_calls c acts
-calls_free c [] h = refl
-calls_free c (ChannelTaken conn count ∷ acts) h = calls_free c acts h
-calls_free c (SrqEnabled lid conn handle ∷ acts) h = calls_free c acts h
-calls_free c (SrqDisabled lid ∷ acts) h = calls_free c acts h
-calls_free c (ChannelOpened conn what ∷ acts) h = ap (λ (l : List (List ℕ)). if conn == c then [] else l) (calls_free c acts h)
-calls_free c (ChannelClosed conn ∷ acts) h = ap (λ (l : List (List ℕ)). if conn == c then [] else l) (calls_free c acts h)
-calls_free c (Requested ∷ acts) (all, h) =
+calls_are_unlimited : (c : ℕ) (acts : List ChannelAct) → NoneLeftOut c acts → calls c acts ≡ calls_unlimited c acts
+calls_are_unlimited c [] h = refl
+calls_are_unlimited c (ChannelTaken conn count ∷ acts) h = calls_are_unlimited c acts h
+calls_are_unlimited c (SrqEnabled lid conn handle ∷ acts) h = calls_are_unlimited c acts h
+calls_are_unlimited c (SrqDisabled lid ∷ acts) h = calls_are_unlimited c acts h
+calls_are_unlimited c (ChannelOpened conn what ∷ acts) h = ap (λ (l : List (List ℕ)). if conn == c then [] else l)
+    (calls_are_unlimited c acts h)
+calls_are_unlimited c (ChannelClosed conn ∷ acts) h = ap (λ (l : List (List ℕ)). if conn == c then [] else l) (calls_are_unlimited c acts h)
+calls_are_unlimited c (Requested ∷ acts) (all, h) =
     requested_free (peer c acts) (bytes_taken c acts) (calls c acts) (handles_of c (enabled_links acts)) all
-    ∙ ap (λ (l : List (List ℕ)). fold (add_free (peer c acts)) l (handles_of c (enabled_links acts))) (calls_free c acts h)
+    ∙ ap (λ (l : List (List ℕ)). fold (add_call_unlimited (peer c acts)) l (handles_of c (enabled_links acts)))
+        (calls_are_unlimited c acts h)
 
-all_free : (c : ℕ) (acts : List ChannelAct) → NoneLeftOut c acts → all_calls c acts ≡ free_all c acts
-all_free c [] h = refl
-all_free c (ChannelTaken conn count ∷ acts) h = all_free c acts h
-all_free c (SrqEnabled lid conn handle ∷ acts) h = all_free c acts h
-all_free c (SrqDisabled lid ∷ acts) h = all_free c acts h
-all_free c (ChannelOpened conn what ∷ acts) h = all_free c acts h
-all_free c (ChannelClosed conn ∷ acts) h = all_free c acts h
-all_free c (Requested ∷ acts) h =
-    ap (λ (l : List (List ℕ)). l ++ drop (length (calls c acts)) (calls c (Requested ∷ acts))) (all_free c acts h.1)
-    ∙ ap (λ (l : List (List ℕ)). free_all c acts ++ drop (length l) (calls c (Requested ∷ acts))) (calls_free c acts h.1)
-    ∙ ap (λ (l : List (List ℕ)). free_all c acts ++ drop (length (free_calls c acts)) l) (calls_free c (Requested ∷ acts) h)
+all_calls_are_unlimited : (c : ℕ) (acts : List ChannelAct) → NoneLeftOut c acts → all_calls c acts ≡ all_calls_unlimited c acts
+all_calls_are_unlimited c [] h = refl
+all_calls_are_unlimited c (ChannelTaken conn count ∷ acts) h = all_calls_are_unlimited c acts h
+all_calls_are_unlimited c (SrqEnabled lid conn handle ∷ acts) h = all_calls_are_unlimited c acts h
+all_calls_are_unlimited c (SrqDisabled lid ∷ acts) h = all_calls_are_unlimited c acts h
+all_calls_are_unlimited c (ChannelOpened conn what ∷ acts) h = all_calls_are_unlimited c acts h
+all_calls_are_unlimited c (ChannelClosed conn ∷ acts) h = all_calls_are_unlimited c acts h
+all_calls_are_unlimited c (Requested ∷ acts) h =
+    ap (λ (l : List (List ℕ)). l ++ drop (length (calls c acts)) (calls c (Requested ∷ acts))) (all_calls_are_unlimited c acts h.1)
+    ∙ ap (λ (l : List (List ℕ)). all_calls_unlimited c acts ++ drop (length l) (calls c (Requested ∷ acts)))
+        (calls_are_unlimited c acts h.1)
+    ∙ ap (λ (l : List (List ℕ)). all_calls_unlimited c acts ++ drop (length (calls_unlimited c acts)) l)
+        (calls_are_unlimited c (Requested ∷ acts) h)
 
 same_calls : (c : ℕ) (acts other : List ChannelAct) → NoneLeftOut c acts → NoneLeftOut c other → untaken acts ≡ untaken other
     → all_calls c acts ≡ all_calls c other
-same_calls c acts other h k same = all_free c acts h ∙ sym (free_all_same c acts) ∙ ap (free_all c) same ∙ free_all_same c other
-    ∙ sym (all_free c other k)
+same_calls c acts other h k same = all_calls_are_unlimited c acts h ∙ sym (free_all_same c acts) ∙ ap (all_calls_unlimited c) same
+    ∙ free_all_same c other
+    ∙ sym (all_calls_are_unlimited c other k)
 
 -- ---- what acts of the device add to the log of the interrupt channels
 
 -- Both lists of acts lead to the same log of the interrupt channels, except for the bytes taken.
-abbrev pub TellsSo : List DeviceAct → List DeviceAct → Type 0
-TellsSo acts other = (channel_log : List ChannelAct) → HearsOf acts channel_log → (also : List ChannelAct) × HearsOf other also
+abbrev pub TellsSameButTaken : List DeviceAct → List DeviceAct → Type 0
+TellsSameButTaken acts other = (channel_log : List ChannelAct) → HearsOf acts channel_log → (also : List ChannelAct) × HearsOf other also
     × (untaken channel_log ≡ untaken also)
 
 untaken_one : (act : ChannelAct) (a b : List ChannelAct) → untaken a ≡ untaken b → untaken (act ∷ a) ≡ untaken (act ∷ b)
@@ -209,8 +215,8 @@ untaken_request : (raised : Bool) (a b : List ChannelAct) → untaken a ≡ unta
 untaken_request true a b same = untaken_one Requested a b same
 untaken_request false a b same = same
 
-tells_so_act : (act : DeviceAct) (acts other : List DeviceAct) → SameDevice acts other → TellsSo acts other
-    → TellsSo (act ∷ acts) (act ∷ other)
+tells_so_act : (act : DeviceAct) (acts other : List DeviceAct) → SameDevice acts other → TellsSameButTaken acts other
+    → TellsSameButTaken (act ∷ acts) (act ∷ other)
 tells_so_act (Linked act) acts other v tells channel_log (before, hears, is) =
     let so = tells before hears in
     (link_told act so.0, (so.0, so.1, refl), ap untaken is ∙ untaken_link act before so.0 so.2)
@@ -219,7 +225,7 @@ tells_so_act (Channel act) acts other v tells channel_log (before, hears, is) =
     let so = tells before hears in (act ∷ so.0, (so.0, so.1, refl), ap untaken is ∙ untaken_one act before so.0 so.2)
 tells_so_act (Applied act) acts other v tells channel_log (before, raised, hears, so, is) =
     let there = tells before hears in
-    let same = raised_same act (instrument_acts acts) (instrument_acts other) v.instrument.status in (
+    let same = same_act_raises_same act (instrument_acts acts) (instrument_acts other) v.instrument.status in (
       request_told raised there.0,
       (there.0, raised, there.1, ((λ e. same.0 (so.0 e)), (λ r. so.1 (same.1 r))), refl),
       ap untaken is ∙ untaken_request raised before there.0 there.2,
@@ -231,23 +237,23 @@ tells_so_act Ticked acts other v tells channel_log hears = tells channel_log hea
 pub record TakenAlike (log other : List Act) : Type 0 where
   pub device : SameDevice (device_acts log) (device_acts other)
   pub each : (c : ℕ) → SameConnection (of c log) (of c other)
-  pub tells : TellsSo (device_acts log) (device_acts other)
+  pub tells : TellsSameButTaken (device_acts log) (device_acts other)
 
 taken_none : TakenAlike [] []
 taken_none = record {
-  device = device_same [];
+  device = same_device_refl [];
   each = λ c. connection_none;
   tells = λ channel_log hears. (channel_log, hears, refl);
 }
 
 taken_back : (log other : List Act) → TakenAlike log other → TakenAlike other log
 taken_back log other v = record {
-  device = device_back (device_acts log) (device_acts other) v.device;
-  each = λ c. connection_back (of c log) (of c other) (v.each c);
+  device = same_device_sym (device_acts log) (device_acts other) v.device;
+  each = λ c. same_connection_sym (of c log) (of c other) (v.each c);
   tells = λ channel_log hears.
-      let told = some_told (device_acts log) in
+      let told = channel_log_exists (device_acts log) in
       let so = v.tells told.0 told.1 in
-      (told.0, told.1, sym (so.2 ∙ ap untaken (tells_once (device_acts other) so.0 channel_log so.1 hears)));
+      (told.0, told.1, sym (so.2 ∙ ap untaken (channel_log_unique (device_acts other) so.0 channel_log so.1 hears)));
 }
 
 taken_more : (adds log other : List Act) → TakenAlike log other → TakenAlike (adds ++ log) (adds ++ other)
@@ -256,7 +262,7 @@ taken_more (OnDevice act ∷ adds) log other v =
     let so = taken_more adds log other v in
     let here = device_acts (adds ++ log) in
     let there = device_acts (adds ++ other) in record {
-      device = device_act act here there so.device;
+      device = act_keeps_same_device act here there so.device;
       each = so.each;
       tells = tells_so_act act here there so.device so.tells;
     }
@@ -264,7 +270,7 @@ taken_more (On c act ∷ adds) log other v =
     let so = taken_more adds log other v in record {
       device = so.device;
       each = λ d. elim (cases_Bool (c == d)) [
-        | inl e ↦ rw e (same_act act (of d (adds ++ log)) (of d (adds ++ other)) (so.each d))
+        | inl e ↦ rw e (act_keeps_same_connection act (of d (adds ++ log)) (of d (adds ++ other)) (so.each d))
         | inr e ↦ rw e (so.each d)
       ];
       tells = so.tells;
@@ -323,14 +329,14 @@ took_event (Conn c) n config past log (before, polled, channel_log, is_event, wa
   before,
   was,
   λ other v. subst (λ (l : List Act). TakenAlike l other)
-      (sym (stays settles.0 config (On c (BytesTaken n) ∷ before) log
+      (sym (settled_log_stays settles.0 config (On c (BytesTaken n) ∷ before) log
       (still_settled c (BytesTaken n) config before (log_settled config past before was)) settles.1)) (took_conn c n before other v),
 )
 took_event (Intr c) n config past log (before, polled, channel_log, is_event, was, hears, free, said, settles) = (
   before,
   was,
   λ other v. subst (λ (l : List Act). TakenAlike l other)
-      (sym (stays settles.0 config (OnDevice (Channel (ChannelTaken c n)) ∷ before) log
+      (sym (settled_log_stays settles.0 config (OnDevice (Channel (ChannelTaken c n)) ∷ before) log
       (channel_settled (ChannelTaken c n) config before (log_settled config past before was)) settles.1)) (took_intr c n before other v),
 )
 
@@ -344,42 +350,42 @@ pub data Retook : List PlainEvent → List PlainEvent → Type 0 where
 
 pub logs_alike : (config : Config) {history other : List PlainEvent} → Retook history other → (log also : List Act)
     → IsLogOf config history log → IsLogOf config other also → TakenAlike log also
-logs_alike config Neither log also x y = moved TakenAlike [] [] log also x.1 y.1 taken_none
-logs_alike config (Both {past} {other} event retook) log also x y =
-    event_so TakenAlike taken_kept taken_next config event past other log also (logs_alike config retook) x y
-logs_alike config (One {past} {other} port n retook) log also x y =
-    let so = took_event port n config past log x in so.2 also (logs_alike config retook so.0 also so.1 y)
-logs_alike config (Other {past} {other} port n retook) log also x y =
+logs_alike config Neither log also x y = relation_of_equals TakenAlike [] [] log also x.1 y.1 taken_none
+logs_alike config (Both {past} {other} event retook_if_same_without_took) log also x y =
+    kept_through_event TakenAlike taken_kept taken_next config event past other log also (logs_alike config retook_if_same_without_took) x y
+logs_alike config (One {past} {other} port n retook_if_same_without_took) log also x y =
+    let so = took_event port n config past log x in so.2 also (logs_alike config retook_if_same_without_took so.0 also so.1 y)
+logs_alike config (Other {past} {other} port n retook_if_same_without_took) log also x y =
     let so = took_event port n config other also y in
-    taken_back also log (so.2 log (taken_back log so.0 (logs_alike config retook log so.0 x so.1)))
+    taken_back also log (so.2 log (taken_back log so.0 (logs_alike config retook_if_same_without_took log so.0 x so.1)))
 
-took_or : (event : PlainEvent) → ((port : Port) × (n : ℕ) × (event ≡ Took port n)) ⊎ (is_took event ≡ false)
-took_or (Took port n) = inl (port, n, refl)
-took_or (Open c role) = inr refl
-took_or (Bytes c piece) = inr refl
-took_or (Turn c) = inr refl
-took_or (Refuse c) = inr refl
-took_or (Close port) = inr refl
-took_or (Dialed c ok) = inr refl
-took_or (Input channel microvolts) = inr refl
-took_or External = inr refl
-took_or Tick = inr refl
+is_took_or_not : (event : PlainEvent) → ((port : Port) × (n : ℕ) × (event ≡ Took port n)) ⊎ (is_took event ≡ false)
+is_took_or_not (Took port n) = inl (port, n, refl)
+is_took_or_not (Open c role) = inr refl
+is_took_or_not (Bytes c piece) = inr refl
+is_took_or_not (Turn c) = inr refl
+is_took_or_not (Refuse c) = inr refl
+is_took_or_not (Close port) = inr refl
+is_took_or_not (Dialed c ok) = inr refl
+is_took_or_not (Input channel microvolts) = inr refl
+is_took_or_not External = inr refl
+is_took_or_not Tick = inr refl
 
-none_but : (other : List PlainEvent) → [] ≡ without_took other → Retook [] other
-none_but [] e = Neither
-none_but (event ∷ other) e = elim (took_or event) [
+retook_only_tooks : (other : List PlainEvent) → [] ≡ without_took other → Retook [] other
+retook_only_tooks [] e = Neither
+retook_only_tooks (event ∷ other) e = elim (is_took_or_not event) [
   | inl h ↦ subst (λ x. Retook [] (x ∷ other)) (sym h.2)
-      (Other h.0 h.1 (none_but other (let z : [] ≡ without_took other = rw h.2 at e in z)))
+      (Other h.0 h.1 (retook_only_tooks other (let z : [] ≡ without_took other = rw h.2 at e in z)))
   | inr h ↦ absurd (let z : [] ≡ event ∷ without_took other = rw h at e in cc)
 ]
 
-with_event : (event : PlainEvent) (past other : List PlainEvent) → ((o : List PlainEvent) → without_took past ≡ without_took o
+retook_with_event : (event : PlainEvent) (past other : List PlainEvent) → ((o : List PlainEvent) → without_took past ≡ without_took o
     → Retook past o)
     → event ∷ without_took past ≡ without_took other → Retook (event ∷ past) other
-with_event event past [] rest e = absurd cc
-with_event event past (next ∷ other) rest e = elim (took_or next) [
+retook_with_event event past [] rest e = absurd cc
+retook_with_event event past (next ∷ other) rest e = elim (is_took_or_not next) [
   | inl h ↦ subst (λ x. Retook (event ∷ past) (x ∷ other)) (sym h.2)
-      (Other h.0 h.1 (with_event event past other rest (let z : event ∷ without_took past ≡ without_took other = rw h.2 at e in z)))
+      (Other h.0 h.1 (retook_with_event event past other rest (let z : event ∷ without_took past ≡ without_took other = rw h.2 at e in z)))
   | inr h ↦
       let z : event ∷ without_took past ≡ next ∷ without_took other = rw h at e in
       let same : event ≡ next = cc in
@@ -387,12 +393,12 @@ with_event event past (next ∷ other) rest e = elim (took_or next) [
       subst (λ x. Retook (event ∷ past) (x ∷ other)) same (Both event (rest other left))
 ]
 
-pub retook : (history other : List PlainEvent) → without_took history ≡ without_took other → Retook history other
-retook [] other e = none_but other e
-retook (event ∷ history) other e = elim (took_or event) [
+pub retook_if_same_without_took : (history other : List PlainEvent) → without_took history ≡ without_took other → Retook history other
+retook_if_same_without_took [] other e = retook_only_tooks other e
+retook_if_same_without_took (event ∷ history) other e = elim (is_took_or_not event) [
   | inl h ↦ subst (λ x. Retook (x ∷ history) other) (sym h.2)
-      (One h.0 h.1 (retook history other (let z : without_took history ≡ without_took other = rw h.2 at e in z)))
-  | inr h ↦ with_event event history other (retook history)
+      (One h.0 h.1 (retook_if_same_without_took history other (let z : without_took history ≡ without_took other = rw h.2 at e in z)))
+  | inr h ↦ retook_with_event event history other (retook_if_same_without_took history)
       (let z : event ∷ without_took history ≡ without_took other = rw h at e in z)
 ]
 
@@ -410,13 +416,13 @@ sends_alike : (port : Port) (config : Config) (history other : List PlainEvent) 
     → IsLogOf config history log → IsLogOf config other also → HasSpare port config history → HasSpare port config other
     → TakenAlike log also → Sends port config history bytes → Sends port config other bytes
 sends_alike port config history other log also bytes x y h k v =
-    sends_moved port config history other log also bytes x y (λ channel_log hears.
+    sends_in_other_history port config history other log also bytes x y (λ channel_log hears.
     let so = v.tells channel_log hears in
     (so.0, so.1, sent_alike port config history other channel_log so.0 log also x y hears so.1 h k v so.2))
 
 pub taking : Taking
 taking config history other log also same x y port bytes h k =
-    let v = logs_alike config (retook history other same) log also x y in (
+    let v = logs_alike config (retook_if_same_without_took history other same) log also x y in (
       sends_alike port config history other log also bytes x y h k v,
       sends_alike port config other history also log bytes y x k h (taken_back log also v),
     )

@@ -8,7 +8,7 @@ use Rattle.sv_status.specs.declared.standard_event.StandardAct.TheVariants as st
 use Rattle.sv_status.specs.declared.status_byte.StatusAct.{StatusAct}
 use Rattle.sv_status.specs.Register as register
 use Rattle.sv_status.specs.StandardEvent as standards
-use Rattle.sv_status.proofs.Words.{enabled_is, no_bits}
+use Rattle.sv_status.proofs.Words.{some_enabled_bit, zero_has_no_bit}
 use Rattle.sv_status.proofs.Registers as registers
 use Rattle.sv_status.proofs.StandardEvents as events
 use Rattle.sv_status.specs.declared.register_name.RegisterName.TheVariants.{Operation, Questionable}
@@ -30,10 +30,11 @@ register_kept start [] = (
     rise = refl;
     fall = refl;
     enable = refl;
-    event = λ k. no_bits k _ (registers.event_none k);
+    event = λ k. zero_has_no_bit k _ (registers.event_none k);
   },
 )
-register_kept start (Condition word ∷ acts) = let h = register_kept start acts in (_, registers.stands_for_condition start h.0 acts word h.1)
+register_kept start (Condition word ∷ acts) = let h = register_kept start acts in
+    (_, registers.stands_for_condition start h.0 acts word h.1)
 register_kept start (SetFilter up down ∷ acts) =
     let h = register_kept start acts in (_, registers.stands_for_filter start h.0 acts up down h.1)
 register_kept start (SetEnable word ∷ acts) = let h = register_kept start acts in (_, registers.stands_for_enable start h.0 acts word h.1)
@@ -51,11 +52,11 @@ standard_kept (standard.Clear ∷ acts) = let h = standard_kept acts in (_, even
 -- a test whether an enabled bit stands
 register_test : (start : ℕ) (acts : List RegisterAct) → (stands : Bool) × ((stands ≡ true) ↔ register.Summary start acts)
 register_test start acts = let h = register_kept start acts in
-    (not (eqb (bit_and h.0.event h.0.enable) 0), enabled_is _ _ _ h.1.enable h.1.event)
+    (not (eqb (bit_and h.0.event h.0.enable) 0), some_enabled_bit _ _ _ h.1.enable h.1.event)
 
 standard_test : (acts : List StandardAct) → (stands : Bool) × ((stands ≡ true) ↔ standards.Summary acts)
 standard_test acts = let h = standard_kept acts in
-    (not (eqb (bit_and h.0.event h.0.enable) 0), enabled_is _ _ _ h.1.enable h.1.event)
+    (not (eqb (bit_and h.0.event h.0.enable) 0), some_enabled_bit _ _ _ h.1.enable h.1.event)
 
 -- a word has the summary bits
 some_summary : (at : LayerLogs) → (word : ℕ) × IsSummary word at

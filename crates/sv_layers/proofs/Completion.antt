@@ -1,7 +1,7 @@
 -- Whether an `*OPC` waits, and whether it completes at an act, as it is seen and as the log tells.
 use Rattle.std.proofs.Common.{◌≡◌, Bool, true, false, List, ◌∷◌, refl, ap, ◌∙◌, sym, ◌⊎◌, inl, inr}
 use Rattle.std.specs.Prelude.{◌↔◌, not, ◌&&◌}
-use Rattle.sv_logs.proofs.Since.{since_unique, step_kept, step_same, step_ended, then_same}
+use Rattle.sv_logs.proofs.Since.{since_unique, step_kept, step_same, step_ended, iff_transitive}
 use Rattle.sv_scan.specs.declared.acts.ScanAct.{ScanAct}
 use Rattle.sv_scan.specs.declared.acts.ScanAct.TheVariants.{Reset}
 use Rattle.sv_scan.specs.Scan.{state}
@@ -19,7 +19,7 @@ use Rattle.sv_layers.proofs.Projected.{begun_scanner}
 scanned_waits : (act : ScanAct) (log : List Act) (b : Bool)
     → ((b && not (resets act)) ≡ true) ↔ ((cancels (Scanned act) ≡ false) × (IsAsked (Scanned act ∷ log) ⊎ (b ≡ true)))
 scanned_waits Reset log b = step_ended (λ e. absurd cc) (λ e. absurd (let h = (and_not b true).0 e in cc))
-scanned_waits _ log b = step_same refl (λ none. none) (then_same (and_not b false) ((λ h. h.1), (λ e. (refl, e))))
+scanned_waits _ log b = step_same refl (λ none. none) (iff_transitive (and_not b false) ((λ h. h.1), (λ e. (refl, e))))
 
 -- where an act began; and an `*OPC` cancels none
 begun_waits : (act : Act) (log : List Act) (at : LayerLogs)

@@ -1,7 +1,7 @@
 -- A condition that isn't touched was told before, and need not be told again.
 use Rattle.std.proofs.Common.{◌≡◌, ℕ, ◌+◌, Bool, true, false, List, ◌∷◌, refl, ap, ◌∙◌, sym, subst, bit_or}
 use Rattle.std.proofs.lemmas.Bool.{cond_both}
-use Rattle.sv_logs.proofs.Since.{then_same}
+use Rattle.sv_logs.proofs.Since.{iff_transitive}
 use Rattle.sv_status.specs.declared.register_name.RegisterName.{RegisterName}
 use Rattle.sv_status.specs.declared.register.RegisterAct.{RegisterAct}
 use Rattle.sv_status.specs.declared.register.RegisterAct.TheVariants.{Condition}
@@ -31,7 +31,7 @@ stands_told start latches acts word same is = record {
   rise = is.rise;
   fall = is.fall;
   enable = is.enable;
-  event = λ k. let step = event_unchanged k word acts same in then_same (is.event k) ((step.1, step.0));
+  event = λ k. let step = event_unchanged k word acts same in iff_transitive (is.event k) ((step.1, step.0));
 }
 
 -- words of the scanner that aren't touched are what they were

@@ -42,7 +42,8 @@ small_of false mask word small = small
 
 enable_small : (name : RegisterName) (log : List Act) → enable name log < 2 ^ 16
 enable_small name [] = start_small name
-enable_small name (StatusChanged (Register other (Enable mask)) ∷ log) = small_of (is_same name other) mask (enable name log) (enable_small name log)
+enable_small name (StatusChanged (Register other (Enable mask)) ∷ log) =
+    small_of (is_same name other) mask (enable name log) (enable_small name log)
 enable_small name (Preset ∷ log) = start_small name
 enable_small name (_ ∷ log) = enable_small name log
 

@@ -4,7 +4,7 @@ use Rattle.std.proofs.Common.{◌≡◌, ℕ, Bool, true, List, [], ◌∷◌, �
 use Rattle.std.specs.Prelude.{◌&&◌, ◌||◌}
 use Rattle.std.specs.List.{range_with_len}
 use Rattle.sv_logs.specs.Since.{is_since}
-use Rattle.sv_logs.proofs.Since.{since_empty, since_step, since_same, since_ended}
+use Rattle.sv_logs.proofs.Since.{since_empty, since_step, since_same, since_not_kept}
 use Rattle.sv_status.specs.declared.register_name.RegisterName.{RegisterName}
 use Rattle.sv_status.specs.declared.register_name.RegisterName.TheVariants.{Operation, Questionable}
 use Rattle.sv_layers.specs.Act.{Act, Polled}
@@ -61,7 +61,7 @@ polled_asks k log asks =
     (bit, asks.1)
 
 pub polled_ended : (log : List Act) → Request (Polled ∷ log) → ⊥
-polled_ended log = since_ended Reason Lasts Polled log (λ lasts. lasts)
+polled_ended log = since_not_kept Reason Lasts Polled log (λ lasts. lasts)
 
 pub unraised : (log : List Act) → IsRaised (Polled ∷ log) → ⊥
 unraised log raised = polled_ended log raised.0

@@ -4,10 +4,10 @@ use Rattle.std.specs.Prelude.{◌↔◌}
 use Rattle.std.specs.Int.{bit_at}
 use Rattle.std.proofs.lemmas.Nat.Bits.{bit_at-lt, same_from_bits}
 use Rattle.sv_errors.specs.ErrorQueue.{entries}
-use Rattle.sv_logs.proofs.Since.{then_same}
+use Rattle.sv_logs.proofs.Since.{iff_transitive}
 use Rattle.sv_status.specs.declared.status_byte.StatusAct.{StatusAct}
 use Rattle.sv_status.specs.StatusByte.{bits}
-use Rattle.sv_status.proofs.StatusBytes.{with_six, shown_bit, polled_bit}
+use Rattle.sv_status.proofs.StatusBytes.{with_bit_six, shown_bit, polled_bit}
 use Rattle.sv_scan.specs.Condition.{bit}
 use Rattle.sv_exchange.specs.Exchange.{response, is_something}
 use Rattle.sv_layers.specs.Act.{Act}
@@ -40,9 +40,9 @@ pub polled_byte : (layered : LayerState) (log : List Act) → StandsFor layered 
     → (word : ℕ) × ((k : ℕ) → (bit_at word k ≡ 1) ↔ PolledBit k log)
 polled_byte layered log s =
     let small : layered.status.bits < 256 = rw s.joined.status.bits (told_small log s.status_log s.are) in (
-      with_six layered.status.request layered.status.bits,
-      λ k. then_same (shown_bit layered.status.request layered.status.bits k small)
-          (then_same (polled_bit layered.status s.status_log k s.joined.status) (same_status log s.status_log s.are k).0),
+      with_bit_six layered.status.request layered.status.bits,
+      λ k. iff_transitive (shown_bit layered.status.request layered.status.bits k small)
+          (iff_transitive (polled_bit layered.status s.status_log k s.joined.status) (same_status log s.status_log s.are k).0),
     )
 
 same_bit : (a b k : ℕ) → (bit_at a k ≡ 1) ↔ (bit_at b k ≡ 1) → bit_at a k ≡ bit_at b k

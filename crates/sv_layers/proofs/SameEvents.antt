@@ -1,7 +1,7 @@
 -- Which bits of a status register stand, as it is seen and as the log tells.
 use Rattle.std.proofs.Common.{◌≡◌, ℕ, Bool, true, false, List, [], ◌∷◌, refl, ◌⊎◌}
 use Rattle.std.specs.Prelude.{◌↔◌, not, if◌then◌else◌}
-use Rattle.sv_logs.proofs.Since.{since_unique, step_kept, step_ended, then_same}
+use Rattle.sv_logs.proofs.Since.{since_unique, step_kept, step_ended, iff_transitive}
 use Rattle.sv_status.specs.declared.register_name.RegisterName.{RegisterName}
 use Rattle.sv_status.specs.declared.register.RegisterAct.{RegisterAct}
 use Rattle.sv_status.specs.declared.register.RegisterAct.TheVariants as register
@@ -36,7 +36,7 @@ at_condition name k act log =
 where_event : {R : Type 0} (b : Bool) (k : ℕ) (act : RegisterAct) (acts : List RegisterAct)
     → stands.EventStands k (act ∷ acts) ↔ stands.EventStands k acts → stands.EventStands k acts ↔ R
     → stands.EventStands k (if b then act ∷ acts else acts) ↔ R
-where_event true k act acts same h = then_same same h
+where_event true k act acts same h = iff_transitive same h
 where_event false k act acts same h = h
 
 -- it is read, or the other
@@ -49,11 +49,14 @@ own_event : (name : RegisterName) (k : ℕ) (act : Act) (log : List Act) (acts :
     → stands.EventStands k acts ↔ (Passes name k (act ∷ log) ⊎ Q)
     → stands.EventStands k (own name act acts) ↔ (NotCleared name (act ∷ log) × (Passes name k (act ∷ log) ⊎ Q))
 own_event name k Cleared log acts Q h = step_ended (λ kept. absurd cc) (event_cleared k acts)
-own_event name k Preset log acts Q h = step_kept refl (then_same (event_preset k acts) h)
+own_event name k Preset log acts Q h = step_kept refl (iff_transitive (event_preset k acts) h)
 own_event name k (StatusChanged (Register other ReadEvents)) log acts Q h = where_read (is_same name other) k acts h
-own_event name k (StatusChanged (Register other (Enable mask))) log acts Q h = step_kept refl (where_event (is_same name other) k _ acts (event_enable k _ acts) h)
-own_event name k (StatusChanged (Register other (SetRise mask))) log acts Q h = step_kept refl (where_event (is_same name other) k _ acts (event_filter k _ _ acts) h)
-own_event name k (StatusChanged (Register other (SetFall mask))) log acts Q h = step_kept refl (where_event (is_same name other) k _ acts (event_filter k _ _ acts) h)
+own_event name k (StatusChanged (Register other (Enable mask))) log acts Q h =
+    step_kept refl (where_event (is_same name other) k _ acts (event_enable k _ acts) h)
+own_event name k (StatusChanged (Register other (SetRise mask))) log acts Q h =
+    step_kept refl (where_event (is_same name other) k _ acts (event_filter k _ _ acts) h)
+own_event name k (StatusChanged (Register other (SetFall mask))) log acts Q h =
+    step_kept refl (where_event (is_same name other) k _ acts (event_filter k _ _ acts) h)
 own_event name k _ log acts Q h = step_kept refl h
 
 event_step : (name : RegisterName) (k : ℕ) (act : Act) (log : List Act) → stands.EventStands k (register_acts name (layer_logs (act ∷ log)))

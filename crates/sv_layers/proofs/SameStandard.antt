@@ -5,7 +5,7 @@ use Rattle.sv_errors.specs.declared.code.Code.{Code}
 use Rattle.sv_errors.specs.declared.error_queue.QueueAct.{QueueAct}
 use Rattle.sv_errors.specs.Code.{standard_event_of}
 use Rattle.sv_errors.specs.ErrorQueue.{is_full}
-use Rattle.sv_logs.proofs.Since.{since_unique, step_kept, step_ended, then_same}
+use Rattle.sv_logs.proofs.Since.{since_unique, step_kept, step_ended, iff_transitive}
 use Rattle.sv_status.specs.declared.standard_event.StandardAct.{StandardAct}
 use Rattle.sv_status.specs.declared.standard_event.StandardAct.TheVariants as standard
 use Rattle.sv_status.specs.StandardEvent as stands
@@ -25,7 +25,7 @@ use Rattle.sv_layers.proofs.Completion.{completes, completes_is}
 completed : (k : ℕ) (act : Act) (log : List Act) (acts : List StandardAct)
     → stands.Stands k (standard.Occur (bit 0 (completes act log)) ∷ acts) ↔ (((k ≡ 0) × Completes (act ∷ log)) ⊎ stands.Stands k acts)
 completed k act log acts = either_same (stands_occurred k (bit 0 (completes act log)) acts)
-    (then_same (bit_of 0 (completes act log) k) (both_same (completes_is act log))) unchanged
+    (iff_transitive (bit_of 0 (completes act log) k) (both_same (completes_is act log))) unchanged
 
 -- an error is reported: its class, an overflow, and the completion of an operation
 reported : (k : ℕ) (code : Code) (log : List Act)
@@ -36,7 +36,7 @@ reported k code log =
     let full = is_full (layer_logs log).errors in
     let event = standard_event_of code in
     let queue = ap (λ (acts : List QueueAct). is_full acts) (projected log).1 in
-    let overflow = then_same (bit_of 3 full k) (both_same (equal_same full _ queue)) in
+    let overflow = iff_transitive (bit_of 3 full k) (both_same (equal_same full _ queue)) in
     four_same (completed k (Reported code) log (report_bits code full (layer_logs log).standard))
     (either_same (stands_occurred k (bit 3 full) (standard.Occur event ∷ (layer_logs log).standard)) overflow unchanged)
     (stands_occurred k event (layer_logs log).standard)
@@ -52,7 +52,7 @@ standard_step k (Reported code) log = (step_kept tt (reported k code log), λ sa
 standard_step k Cleared log = (step_ended (λ kept. kept) (stands_cleared k _), λ same. same)
 standard_step k (StatusChanged ReadStandard) log = (step_ended (λ kept. kept) (stands_read k _), λ same. same)
 standard_step k (StatusChanged (EnableStandard mask)) log =
-    (step_kept tt (then_same (stands_enable k mask _) (completed k (StatusChanged (EnableStandard mask)) log _)), λ same. refl)
+    (step_kept tt (iff_transitive (stands_enable k mask _) (completed k (StatusChanged (EnableStandard mask)) log _)), λ same. refl)
 standard_step k act log = (step_kept tt (completed k act log _), λ same. same)
 
 pub same_standard_events : SameStandardEvents

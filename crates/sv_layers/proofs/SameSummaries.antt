@@ -4,7 +4,7 @@ use Rattle.std.specs.Prelude.{◌↔◌}
 use Rattle.std.proofs.lemmas.Nat.Bits.{bit_at-zero}
 use Rattle.sv_errors.specs.declared.error_queue.QueueAct.{QueueAct}
 use Rattle.sv_errors.specs.ErrorQueue.{entries}
-use Rattle.sv_logs.proofs.Since.{then_same}
+use Rattle.sv_logs.proofs.Since.{iff_transitive}
 use Rattle.sv_status.specs.declared.register_name.RegisterName.{RegisterName}
 use Rattle.sv_status.specs.declared.register_name.RegisterName.TheVariants.{Operation, Questionable}
 use Rattle.sv_status.specs.Register as register
@@ -49,14 +49,14 @@ same_summaries word log is k =
     omega arith in
     let exchange = ap (λ (acts : List ExchangeAct). is_something (response acts)) (projected log).0 in
     let queue = ap (λ (acts : List QueueAct). is_something (entries acts)) (projected log).1 in
-    let operation = both_same (then_same is.operation (same_summary Operation log)) in
-    let standard = both_same (then_same is.standard (same_standard_summary log)) in
-    let questionable = both_same (then_same is.questionable (same_summary Questionable log)) in
+    let operation = both_same (iff_transitive is.operation (same_summary Operation log)) in
+    let standard = both_same (iff_transitive is.standard (same_standard_summary log)) in
+    let questionable = both_same (iff_transitive is.questionable (same_summary Questionable log)) in
     rw same_word (either_same (top_bit 7 is.operates _ k (omega arith)) operation
     (either_same (top_bit 5 is.happened _ k (omega arith)) standard
     (either_same (top_bit 4 available _ k (omega arith)) (both_same (equal_same available _ exchange))
     (either_same (top_bit 3 is.questioned _ k (omega arith)) questionable
-    (then_same (bit_of 2 errors k) (both_same (equal_same errors _ queue)))))))
+    (iff_transitive (bit_of 2 errors k) (both_same (equal_same errors _ queue)))))))
 
 -- before all acts no summary bit stands
 pub no_summary : IsSummary 0 (layer_logs [])

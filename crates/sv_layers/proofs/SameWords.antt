@@ -66,7 +66,8 @@ own_words : (name : RegisterName) (act : Act) (log : List Act) (acts : List Regi
     → WordsOf name (own name act acts) (act ∷ log)
 own_words name Preset log acts h = (h.0, refl, refl, refl)
 own_words name (StatusChanged (Register other ReadEvents)) log acts h = read_words (start name) (is_same name other) acts _ _ _ _ h
-own_words name (StatusChanged (Register other (Enable mask))) log acts h = enabled_words (start name) (is_same name other) mask acts _ _ _ _ h
+own_words name (StatusChanged (Register other (Enable mask))) log acts h =
+    enabled_words (start name) (is_same name other) mask acts _ _ _ _ h
 own_words name (StatusChanged (Register other (SetRise mask))) log acts h = rise_words (start name) (is_same name other) mask acts _ _ _ _ h
 own_words name (StatusChanged (Register other (SetFall mask))) log acts h = fall_words (start name) (is_same name other) mask acts _ _ _ _ h
 own_words name _ log acts h = h

@@ -30,7 +30,8 @@ mask_for name other mask = if is_same name other then Some (without_top_bit mask
 -- the positive transition filter of a register: the mask that was set last, without bit 15; 32767
 -- at power on and after a preset
 abbrev pub rise : RegisterName → List Act → ℕ
-rise name = last_given (elim [ StatusChanged (Register other (SetRise mask)) ↦ mask_for name other mask | Preset ↦ Some 32767 | _ ↦ None ]) 32767
+rise name = last_given (elim [ StatusChanged (Register other (SetRise mask)) ↦ mask_for name other mask | Preset ↦ Some 32767 | _ ↦ None ])
+    32767
 
 -- the negative transition filter of a register: the mask that was set last, without bit 15; 0 at
 -- power on and after a preset
@@ -40,7 +41,8 @@ fall name = last_given (elim [ StatusChanged (Register other (SetFall mask)) ↦
 -- the enable mask of a register: the mask that was set last, without bit 15; `start` at power on
 -- and after a preset
 abbrev pub enable : RegisterName → List Act → ℕ
-enable name = last_given (elim [ StatusChanged (Register other (Enable mask)) ↦ mask_for name other mask | Preset ↦ Some (start name) | _ ↦ None ]) (start name)
+enable name = last_given
+    (elim [ StatusChanged (Register other (Enable mask)) ↦ mask_for name other mask | Preset ↦ Some (start name) | _ ↦ None ]) (start name)
 
 -- whether bit k of this number is set
 abbrev pub has_bit : ℕ → ℕ → Bool

@@ -7,11 +7,11 @@ use Rattle.std.specs.List.{onto_first as onto}
 use Rattle.sv_lexer.specs.Parameters.{cut_outside, is_open, opens, first_size, part_place}
 
 -- The bytes before a text matter only by whether a parenthesis is open after them.
-cut_same : (a b bytes : List ℕ) → is_open a ≡ is_open b → cut_outside a bytes ≡ cut_outside b bytes
-cut_same a b [] e = refl
-cut_same a b (x ∷ bytes) e =
+cut_depends_on_open : (a b bytes : List ℕ) → is_open a ≡ is_open b → cut_outside a bytes ≡ cut_outside b bytes
+cut_depends_on_open a b [] e = refl
+cut_depends_on_open a b (x ∷ bytes) e =
     let next : is_open (x ∷ a) ≡ is_open (x ∷ b) = ap (λ o. opens o x) e in
-    rw (e, cut_same (x ∷ a) (x ∷ b) bytes next) refl
+    rw (e, cut_depends_on_open (x ∷ a) (x ∷ b) bytes next) refl
 
 -- A part that ends at a comma stays one if a byte is put in front of it.
 step_ended : (b n k : ℕ) (bytes : List ℕ) (cut : List (List ℕ)) → n ≡ 1 + k → cut ≡ take k bytes ∷ cut_outside [] (drop (k + 1) bytes)
@@ -38,7 +38,7 @@ cut_ended before (b ∷ bytes) n e lt = at (is_open before) refl (b == 44) refl 
     at false o true c e h =
         let is : b ≡ 44 = eqb-true b 44 c in
         let out : is_open (b ∷ before) ≡ false = rw is o in
-        rw e (ap (λ ps. [] ∷ ps) (cut_same (b ∷ before) [] bytes out))
+        rw e (ap (λ ps. [] ∷ ps) (cut_depends_on_open (b ∷ before) [] bytes out))
     at true o true c e h = step_ended b n _ bytes (cut_outside (b ∷ before) bytes) e (h (omega (arith, e, lt)))
     at true o false c e h = step_ended b n _ bytes (cut_outside (b ∷ before) bytes) e (h (omega (arith, e, lt)))
     at false o false c e h = step_ended b n _ bytes (cut_outside (b ∷ before) bytes) e (h (omega (arith, e, lt)))
@@ -59,10 +59,11 @@ cut_last before (b ∷ bytes) n e ge = at (is_open before) (b == 44) e
     at false false e h = ap (onto b) (h (omega (arith, e, ge)))
 
 -- The first part, a comma and the rest are the whole text.
-pub cut_whole : (inside : Bool) (bytes : List ℕ) (n : ℕ) → n ≡ first_size inside bytes → n < length bytes
+pub first_part_rejoins : (inside : Bool) (bytes : List ℕ) (n : ℕ) → n ≡ first_size inside bytes → n < length bytes
     → bytes ≡ take n bytes ++ 44 ∷ drop (n + 1) bytes
-cut_whole inside [] n e lt = absurd (omega arith)
-cut_whole inside (b ∷ bytes) n e lt = at inside (b == 44) refl e (cut_whole (opens inside b) bytes (first_size (opens inside b) bytes) refl)
+first_part_rejoins inside [] n e lt = absurd (omega arith)
+first_part_rejoins inside (b ∷ bytes) n e lt = at inside (b == 44) refl e
+    (first_part_rejoins (opens inside b) bytes (first_size (opens inside b) bytes) refl)
   where
     step : (k : ℕ) → n ≡ 1 + k → bytes ≡ take k bytes ++ 44 ∷ drop (k + 1) bytes
         → b ∷ bytes ≡ take n (b ∷ bytes) ++ 44 ∷ drop (n + 1) (b ∷ bytes)
@@ -81,24 +82,25 @@ cut_whole inside (b ∷ bytes) n e lt = at inside (b == 44) refl e (cut_whole (o
     at false false c e h = step _ e (h (omega (arith, e, lt)))
 
 -- If the remaining parts are one part, it is the last one.
-pub left_last : (k : ℕ) (cut : List (List ℕ)) (part : List ℕ) → drop k cut ≡ part ∷ [] → length cut ≡ k + 1
-left_last zero cut part h = ap length h
-left_last (suc k) [] part h = absurd cc
-left_last (suc k) (x ∷ cut) part h = let l = left_last k cut part h in omega (arith, l)
+pub last_part_index : (k : ℕ) (cut : List (List ℕ)) (part : List ℕ) → drop k cut ≡ part ∷ [] → length cut ≡ k + 1
+last_part_index zero cut part h = ap length h
+last_part_index (suc k) [] part h = absurd cc
+last_part_index (suc k) (x ∷ cut) part h = let l = last_part_index k cut part h in omega (arith, l)
 
 -- The first of the remaining parts is the one with the next index.
-pub left_at : (k : ℕ) (cut others : List (List ℕ)) (part : List ℕ) → drop k cut ≡ part ∷ others
+pub remaining_part : (k : ℕ) (cut others : List (List ℕ)) (part : List ℕ) → drop k cut ≡ part ∷ others
     → (k < length cut) × (slice_index_or cut k [] ≡ part)
-left_at zero [] others part h = absurd cc
-left_at zero (x ∷ cut) others part h = (omega arith, cc)
-left_at (suc k) [] others part h = absurd cc
-left_at (suc k) (x ∷ cut) others part h = let l = left_at k cut others part h in (omega (arith, l.0), l.1)
+remaining_part zero [] others part h = absurd cc
+remaining_part zero (x ∷ cut) others part h = (omega arith, cc)
+remaining_part (suc k) [] others part h = absurd cc
+remaining_part (suc k) (x ∷ cut) others part h = let l = remaining_part k cut others part h in (omega (arith, l.0), l.1)
 
-pub left_next : (k : ℕ) (cut others : List (List ℕ)) (part : List ℕ) → drop k cut ≡ part ∷ others → drop (k + 1) cut ≡ others
-left_next zero [] others part h = absurd cc
-left_next zero (x ∷ cut) others part h = cc
-left_next (suc k) [] others part h = absurd cc
-left_next (suc k) (x ∷ cut) others part h = let n : suc k + 1 ≡ suc (k + 1) = omega arith in rw n (left_next k cut others part h)
+pub remaining_after : (k : ℕ) (cut others : List (List ℕ)) (part : List ℕ) → drop k cut ≡ part ∷ others → drop (k + 1) cut ≡ others
+remaining_after zero [] others part h = absurd cc
+remaining_after zero (x ∷ cut) others part h = cc
+remaining_after (suc k) [] others part h = absurd cc
+remaining_after (suc k) (x ∷ cut) others part h = let n : suc k + 1 ≡ suc (k + 1) = omega arith in
+    rw n (remaining_after k cut others part h)
 
 take_next : (k : ℕ) (cut others : List (List ℕ)) (part : List ℕ) → drop k cut ≡ part ∷ others → take (k + 1) cut ≡ take k cut ++ part ∷ []
 take_next zero [] others part h = absurd cc
@@ -108,9 +110,9 @@ take_next (suc k) (x ∷ cut) others part h = let n : suc k + 1 ≡ suc (k + 1) 
     rw n (ap (λ ps. x ∷ ps) (take_next k cut others part h))
 
 -- The next part begins after this one and its comma.
-pub place_next : (k : ℕ) (cut others : List (List ℕ)) (part : List ℕ) → drop k cut ≡ part ∷ others
+pub part_place_next : (k : ℕ) (cut others : List (List ℕ)) (part : List ℕ) → drop k cut ≡ part ∷ others
     → part_place (k + 1) cut ≡ part_place k cut + (length part + 1)
-place_next k cut others part h =
+part_place_next k cut others part h =
     ap (sum_by (λ p. length p + 1)) (take_next k cut others part h)
     ∙ sum_by-append (λ p. length p + 1) (take k cut) (part ∷ [])
     ∙ omega arith

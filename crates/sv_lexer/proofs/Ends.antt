@@ -8,9 +8,9 @@ use Rattle.sv_text.specs.Front.{is_empty}
 use Rattle.sv_text.specs.White.{is_white, trim_start, trim_end, trim}
 use Rattle.sv_lexer.specs.Unit.{white_size, header_size, header}
 
-pub some_push : (xs : List ℕ) (b : ℕ) → is_empty (xs ++ b ∷ []) ≡ false
-some_push [] b = refl
-some_push (x ∷ xs) b = refl
+pub append_not_empty : (xs : List ℕ) (b : ℕ) → is_empty (xs ++ b ∷ []) ≡ false
+append_not_empty [] b = refl
+append_not_empty (x ∷ xs) b = refl
 
 none_of : (t : Bool) (xs : List ℕ) → cond (t && false) [] xs ≡ xs
 none_of true xs = refl
@@ -33,39 +33,40 @@ reversed : (b : ℕ) (t : Bool) (xs : List ℕ)
 reversed b true [] = refl
 reversed b false [] = refl
 reversed b true (x ∷ xs) =
-    let some : is_empty (reverse (x ∷ xs)) ≡ false = ap is_empty (reverse-append (x ∷ []) xs) ∙ some_push (reverse xs) x in
+    let some : is_empty (reverse (x ∷ xs)) ≡ false = ap is_empty (reverse-append (x ∷ []) xs) ∙ append_not_empty (reverse xs) x in
     reverse-append (x ∷ xs) (b ∷ []) ∙ sym (ap (λ (e : Bool). cond e [] (b ∷ reverse (x ∷ xs))) some)
 reversed b false (x ∷ xs) = reverse-append (x ∷ xs) (b ∷ [])
 
 -- Removing trailing white space, if a byte comes before the text.
-pub end_cons : (b : ℕ) (xs : List ℕ) → trim_end (b ∷ xs) ≡ cond (is_white b && is_empty (trim_end xs)) [] (b ∷ trim_end xs)
-end_cons b xs =
+pub trim_end_cons : (b : ℕ) (xs : List ℕ) → trim_end (b ∷ xs) ≡ cond (is_white b && is_empty (trim_end xs)) [] (b ∷ trim_end xs)
+trim_end_cons b xs =
     ap (λ (l : List ℕ). reverse (trim_start l)) (reverse-append (b ∷ []) xs) ∙ ap reverse (start_push (reverse xs) b)
     ∙ reversed b (is_white b) (trim_start (reverse xs))
 
-pub end_white : (xs : List ℕ) → list_all is_white xs ≡ true → trim_end xs ≡ []
-end_white [] e = refl
-end_white (b ∷ xs) e =
+pub trim_end_of_white : (xs : List ℕ) → list_all is_white xs ≡ true → trim_end xs ≡ []
+trim_end_of_white [] e = refl
+trim_end_of_white (b ∷ xs) e =
     let parts = and_parts (is_white b) (list_all is_white xs) e in
-    end_cons b xs ∙ ap (λ (t : Bool). cond (t && is_empty (trim_end xs)) [] (b ∷ trim_end xs)) parts.0
-    ∙ ap (λ (l : List ℕ). cond (is_empty l) [] (b ∷ l)) (end_white xs parts.1)
+    trim_end_cons b xs ∙ ap (λ (t : Bool). cond (t && is_empty (trim_end xs)) [] (b ∷ trim_end xs)) parts.0
+    ∙ ap (λ (l : List ℕ). cond (is_empty l) [] (b ∷ l)) (trim_end_of_white xs parts.1)
 
 -- Trailing white space doesn't change what is left without it.
-pub end_over : (xs tail : List ℕ) → list_all is_white tail ≡ true → trim_end (xs ++ tail) ≡ trim_end xs
-end_over [] tail e = end_white tail e
-end_over (b ∷ xs) tail e =
-    end_cons b (xs ++ tail) ∙ ap (λ (l : List ℕ). cond (is_white b && is_empty l) [] (b ∷ l)) (end_over xs tail e) ∙ sym (end_cons b xs)
+pub trim_end_over_white : (xs tail : List ℕ) → list_all is_white tail ≡ true → trim_end (xs ++ tail) ≡ trim_end xs
+trim_end_over_white [] tail e = trim_end_of_white tail e
+trim_end_over_white (b ∷ xs) tail e =
+    trim_end_cons b (xs ++ tail) ∙ ap (λ (l : List ℕ). cond (is_white b && is_empty l) [] (b ∷ l)) (trim_end_over_white xs tail e)
+        ∙ sym (trim_end_cons b xs)
 
 -- If the last byte isn't white space, nothing is removed.
-pub end_push : (xs : List ℕ) (b : ℕ) → is_white b ≡ false → trim_end (xs ++ b ∷ []) ≡ xs ++ b ∷ []
-end_push [] b e = end_cons b [] ∙ ap (λ (t : Bool). cond (t && is_empty (trim_end [])) [] (b ∷ trim_end [])) e
-end_push (x ∷ xs) b e =
-    end_cons x (xs ++ b ∷ []) ∙ ap (λ (l : List ℕ). cond (is_white x && is_empty l) [] (x ∷ l)) (end_push xs b e)
-    ∙ ap (λ (t : Bool). cond (is_white x && t) [] (x ∷ (xs ++ b ∷ []))) (some_push xs b) ∙ none_of (is_white x) (x ∷ (xs ++ b ∷ []))
+pub trim_end_of_non_white : (xs : List ℕ) (b : ℕ) → is_white b ≡ false → trim_end (xs ++ b ∷ []) ≡ xs ++ b ∷ []
+trim_end_of_non_white [] b e = trim_end_cons b [] ∙ ap (λ (t : Bool). cond (t && is_empty (trim_end [])) [] (b ∷ trim_end [])) e
+trim_end_of_non_white (x ∷ xs) b e =
+    trim_end_cons x (xs ++ b ∷ []) ∙ ap (λ (l : List ℕ). cond (is_white x && is_empty l) [] (x ∷ l)) (trim_end_of_non_white xs b e)
+    ∙ ap (λ (t : Bool). cond (is_white x && t) [] (x ∷ (xs ++ b ∷ []))) (append_not_empty xs b) ∙ none_of (is_white x) (x ∷ (xs ++ b ∷ []))
 
 end_some : (xs : List ℕ) → list_all is_white xs ≡ false → is_empty (trim_end xs) ≡ false
 end_some [] e = let f : true ≡ false = e in absurd cc
-end_some (b ∷ xs) e = ap is_empty (end_cons b xs) ∙ at (is_white b) e (end_some xs)
+end_some (b ∷ xs) e = ap is_empty (trim_end_cons b xs) ∙ at (is_white b) e (end_some xs)
   where
     at : (t : Bool) → (t && list_all is_white xs) ≡ false → (list_all is_white xs ≡ false → is_empty (trim_end xs) ≡ false)
         → is_empty (cond (t && is_empty (trim_end xs)) [] (b ∷ trim_end xs)) ≡ false
@@ -73,9 +74,9 @@ end_some (b ∷ xs) e = ap is_empty (end_cons b xs) ∙ at (is_white b) e (end_s
     at false e h = refl
 
 -- Removing trailing white space keeps the leading one, unless the text is all white space.
-pub white_kept : (xs : List ℕ) → list_all is_white xs ≡ false → white_size (trim_end xs) ≡ white_size xs
-white_kept [] e = refl
-white_kept (b ∷ xs) e = ap white_size (end_cons b xs) ∙ at (is_white b) refl e (white_kept xs)
+pub white_size_of_trim_end : (xs : List ℕ) → list_all is_white xs ≡ false → white_size (trim_end xs) ≡ white_size xs
+white_size_of_trim_end [] e = refl
+white_size_of_trim_end (b ∷ xs) e = ap white_size (trim_end_cons b xs) ∙ at (is_white b) refl e (white_size_of_trim_end xs)
   where
     at : (t : Bool) → is_white b ≡ t → (t && list_all is_white xs) ≡ false
         → (list_all is_white xs ≡ false → white_size (trim_end xs) ≡ white_size xs)
@@ -86,61 +87,63 @@ white_kept (b ∷ xs) e = ap white_size (end_cons b xs) ∙ at (is_white b) refl
     at false w e h = ap (λ (t : Bool). cond t (1 + white_size (trim_end xs)) 0) w
 
 -- The bytes before the first white space, and the others.
-abbrev pub run : List ℕ → List ℕ
-run [] = []
-run (b ∷ xs) = cond (is_white b) [] (b ∷ run xs)
+abbrev pub before_white : List ℕ → List ℕ
+before_white [] = []
+before_white (b ∷ xs) = cond (is_white b) [] (b ∷ before_white xs)
 
-abbrev pub behind_run : List ℕ → List ℕ
-behind_run [] = []
-behind_run (b ∷ xs) = cond (is_white b) (b ∷ xs) (behind_run xs)
+abbrev pub from_white_on : List ℕ → List ℕ
+from_white_on [] = []
+from_white_on (b ∷ xs) = cond (is_white b) (b ∷ xs) (from_white_on xs)
 
-run_taken : (xs : List ℕ) → take (position_or_len is_white xs) xs ≡ run xs
+run_taken : (xs : List ℕ) → take (position_or_len is_white xs) xs ≡ before_white xs
 run_taken [] = refl
 run_taken (b ∷ xs) = at (is_white b) (run_taken xs)
   where
-    at : (t : Bool) → take (position_or_len is_white xs) xs ≡ run xs
-        → take (cond (not t) (1 + position_or_len is_white xs) 0) (b ∷ xs) ≡ cond t [] (b ∷ run xs)
+    at : (t : Bool) → take (position_or_len is_white xs) xs ≡ before_white xs
+        → take (cond (not t) (1 + position_or_len is_white xs) 0) (b ∷ xs) ≡ cond t [] (b ∷ before_white xs)
     at true h = refl
     at false h =
         let n : 1 + position_or_len is_white xs ≡ suc (position_or_len is_white xs) = omega arith in rw n (ap (λ (l : List ℕ). b ∷ l) h)
 
-run_dropped : (xs : List ℕ) → drop (position_or_len is_white xs) xs ≡ behind_run xs
+run_dropped : (xs : List ℕ) → drop (position_or_len is_white xs) xs ≡ from_white_on xs
 run_dropped [] = refl
 run_dropped (b ∷ xs) = at (is_white b) (run_dropped xs)
   where
-    at : (t : Bool) → drop (position_or_len is_white xs) xs ≡ behind_run xs
-        → drop (cond (not t) (1 + position_or_len is_white xs) 0) (b ∷ xs) ≡ cond t (b ∷ xs) (behind_run xs)
+    at : (t : Bool) → drop (position_or_len is_white xs) xs ≡ from_white_on xs
+        → drop (cond (not t) (1 + position_or_len is_white xs) 0) (b ∷ xs) ≡ cond t (b ∷ xs) (from_white_on xs)
     at true h = refl
     at false h = let n : 1 + position_or_len is_white xs ≡ suc (position_or_len is_white xs) = omega arith in rw n h
 
-run_trimmed : (xs : List ℕ) → run (trim_end xs) ≡ run xs
+run_trimmed : (xs : List ℕ) → before_white (trim_end xs) ≡ before_white xs
 run_trimmed [] = refl
-run_trimmed (b ∷ xs) = ap run (end_cons b xs) ∙ at (is_white b) refl (trim_end xs) (run_trimmed xs)
+run_trimmed (b ∷ xs) = ap before_white (trim_end_cons b xs) ∙ at (is_white b) refl (trim_end xs) (run_trimmed xs)
   where
-    at : (t : Bool) → is_white b ≡ t → (l : List ℕ) → run l ≡ run xs → run (cond (t && is_empty l) [] (b ∷ l)) ≡ cond t [] (b ∷ run xs)
+    at : (t : Bool) → is_white b ≡ t → (l : List ℕ) → before_white l ≡ before_white xs
+        → before_white (cond (t && is_empty l) [] (b ∷ l)) ≡ cond t [] (b ∷ before_white xs)
     at true w [] h = refl
-    at true w (x ∷ l) h = ap (λ (t : Bool). cond t [] (b ∷ run (x ∷ l))) w
-    at false w l h = ap (λ (t : Bool). cond t [] (b ∷ run l)) w ∙ ap (λ (r : List ℕ). b ∷ r) h
+    at true w (x ∷ l) h = ap (λ (t : Bool). cond t [] (b ∷ before_white (x ∷ l))) w
+    at false w l h = ap (λ (t : Bool). cond t [] (b ∷ before_white l)) w ∙ ap (λ (r : List ℕ). b ∷ r) h
 
-begins_white : (t : Bool) (b : ℕ) (l : List ℕ) → is_white b ≡ true → behind_run (cond t [] (b ∷ l)) ≡ cond t [] (b ∷ l)
+begins_white : (t : Bool) (b : ℕ) (l : List ℕ) → is_white b ≡ true → from_white_on (cond t [] (b ∷ l)) ≡ cond t [] (b ∷ l)
 begins_white true b l w = refl
-begins_white false b l w = ap (λ (t : Bool). cond t (b ∷ l) (behind_run l)) w
+begins_white false b l w = ap (λ (t : Bool). cond t (b ∷ l) (from_white_on l)) w
 
-behind_trimmed : (xs : List ℕ) → behind_run (trim_end xs) ≡ trim_end (behind_run xs)
+behind_trimmed : (xs : List ℕ) → from_white_on (trim_end xs) ≡ trim_end (from_white_on xs)
 behind_trimmed [] = refl
 behind_trimmed (b ∷ xs) = at (is_white b) refl (behind_trimmed xs)
   where
-    at : (t : Bool) → is_white b ≡ t → behind_run (trim_end xs) ≡ trim_end (behind_run xs)
-        → behind_run (trim_end (b ∷ xs)) ≡ trim_end (cond t (b ∷ xs) (behind_run xs))
+    at : (t : Bool) → is_white b ≡ t → from_white_on (trim_end xs) ≡ trim_end (from_white_on xs)
+        → from_white_on (trim_end (b ∷ xs)) ≡ trim_end (cond t (b ∷ xs) (from_white_on xs))
     at true w h =
-        ap behind_run (end_cons b xs) ∙ begins_white (is_white b && is_empty (trim_end xs)) b (trim_end xs) w ∙ sym (end_cons b xs)
+        ap from_white_on (trim_end_cons b xs) ∙ begins_white (is_white b && is_empty (trim_end xs)) b (trim_end xs) w
+            ∙ sym (trim_end_cons b xs)
     at false w h =
-        ap behind_run (end_cons b xs) ∙ ap (λ (t : Bool). behind_run (cond (t && is_empty (trim_end xs)) [] (b ∷ trim_end xs))) w
-        ∙ ap (λ (t : Bool). cond t (b ∷ trim_end xs) (behind_run (trim_end xs))) w ∙ h
+        ap from_white_on (trim_end_cons b xs) ∙ ap (λ (t : Bool). from_white_on (cond (t && is_empty (trim_end xs)) [] (b ∷ trim_end xs))) w
+        ∙ ap (λ (t : Bool). cond t (b ∷ trim_end xs) (from_white_on (trim_end xs))) w ∙ h
 
 -- The header of a unit, and what follows it.
-pub header_is : (unit : List ℕ) → header unit ≡ run (trim_start unit)
+pub header_is : (unit : List ℕ) → header unit ≡ before_white (trim_start unit)
 header_is unit = run_taken (trim unit) ∙ run_trimmed (trim_start unit)
 
-pub behind_is : (unit : List ℕ) → drop (header_size unit) (trim unit) ≡ trim_end (behind_run (trim_start unit))
+pub behind_is : (unit : List ℕ) → drop (header_size unit) (trim unit) ≡ trim_end (from_white_on (trim_start unit))
 behind_is unit = run_dropped (trim unit) ∙ behind_trimmed (trim_start unit)

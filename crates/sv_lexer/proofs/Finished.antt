@@ -19,8 +19,8 @@ use Rattle.sv_lexer.specs.declared.stage.Stage.TheVariants.{WhiteSpace, Asterisk
 use Rattle.sv_lexer.proofs.Standing.{stands_within}
 use Rattle.sv_lexer.proofs.Tokens.{header_stands, rest_stands}
 use Rattle.sv_lexer.proofs.Headers.{header_some, longest_is}
-use Rattle.sv_lexer.proofs.Pushes.{all_push, rest_none, rest_there}
-use Rattle.sv_lexer.proofs.Stages.{at_next, header_at, may_end}
+use Rattle.sv_lexer.proofs.Pushes.{list_all_append_one, rest_none, rest_place_without_data}
+use Rattle.sv_lexer.proofs.Stages.{next_stage_is_right, is_header_at_stage, may_end}
 
 -- ---- another byte
 
@@ -66,8 +66,8 @@ legal_next stage b =
     at false false = none (not (is_illegal stage))
 
 -- Before the first byte, nothing was read.
-pub reads_none : (p : Progress) → p.stage ≡ WhiteSpace → p.size ≡ 0 → p.header_start ≡ 0 → p.mnemonic ≡ 0 → p.longest ≡ 0 → Reads p []
-reads_none p stage size start mnemonic front = record {
+pub nothing_was_read : (p : Progress) → p.stage ≡ WhiteSpace → p.size ≡ 0 → p.header_start ≡ 0 → p.mnemonic ≡ 0 → p.longest ≡ 0 → Reads p []
+nothing_was_read p stage size start mnemonic front = record {
   size = size;
   legal = ap (λ (s : Stage). not (is_illegal s)) (sym stage);
   known = subst (λ (s : Stage). At s p []) (sym stage) (record {
@@ -81,21 +81,21 @@ reads_none p stage size start mnemonic front = record {
 }
 
 -- One byte more is read.
-pub reads_push : (p new : Progress) (unit : List ℕ) (b : ℕ) → new ≡ progress_to (next p.stage b) p → Reads p unit
+pub reads_byte : (p new : Progress) (unit : List ℕ) (b : ℕ) → new ≡ progress_to (next p.stage b) p → Reads p unit
     → Reads new (unit ++ b ∷ [])
-reads_push p new unit b is h =
+reads_byte p new unit b is h =
     let long = length_push unit b in
     let size : one_more p.size ≡ in_u64 (length (unit ++ b ∷ [])) = omega (arith, long, h.size) in
     subst (λ (q : Progress). Reads q (unit ++ b ∷ [])) (sym is) (record {
       size = size;
-      legal = all_push is_legal unit b ∙ ap (λ (t : Bool). t && is_legal b) h.legal ∙ legal_next p.stage b;
-      known = at_next p.stage p unit b size h.known;
+      legal = list_all_append_one is_legal unit b ∙ ap (λ (t : Bool). t && is_legal b) h.legal ∙ legal_next p.stage b;
+      known = next_stage_is_right p.stage p unit b size h.known;
     })
 
 -- The next of several bytes is read.
-pub reads_more : (p : Progress) (before bytes : List ℕ) (i : ℕ) → i < length bytes
+pub reads_next_byte : (p : Progress) (before bytes : List ℕ) (i : ℕ) → i < length bytes
     → Reads p (before ++ take i bytes ++ get_or bytes i 0 ∷ []) → Reads p (before ++ take (i + 1) bytes)
-reads_more p before bytes i lt h =
+reads_next_byte p before bytes i lt h =
     subst (Reads p)
     (append_assoc before (take i bytes) (get_or bytes i 0 ∷ []) ∙ ap (λ (l : List ℕ). before ++ l) (sym (take_more bytes i 0 lt))) h
 
@@ -168,12 +168,12 @@ counts_brief stage p unit h =
 
 unspelled : (stage : Stage) (p : Progress) (unit : List ℕ) → may_end stage ≡ false → list_all is_legal unit ≡ true
     → IsRead stage p unit → unit_fault unit ≡ Some SyntaxError
-unspelled stage p unit none legal h = misspelled unit legal (header_at stage (header unit) h.spelled ∙ none)
+unspelled stage p unit none legal h = misspelled unit legal (is_header_at_stage stage (header unit) h.spelled ∙ none)
 
 spelled : (stage : Stage) (p : Progress) (unit : List ℕ) → may_end stage ≡ true → list_all is_legal unit ≡ true
     → IsRead stage p unit → unit_fault unit ≡ length_fault_of p
 spelled stage p unit some legal h =
-    well_spelled unit (nat_le (max p.longest p.mnemonic) 12) legal (header_at stage (header unit) h.spelled ∙ some)
+    well_spelled unit (nat_le (max p.longest p.mnemonic) 12) legal (is_header_at_stage stage (header unit) h.spelled ∙ some)
     (counts_brief stage p unit h)
 
 fault_at : (stage : Stage) (p : Progress) (unit : List ℕ) → list_all is_legal unit ≡ not (is_illegal stage) → At stage p unit
@@ -193,8 +193,8 @@ fault_is p unit h = fault_at p.stage p unit h.legal h.known
 -- ---- the positions of the unit's parts
 
 -- A position in a unit that isn't too long is stored exactly.
-whole : (place n : ℕ) (unit : List ℕ) → length unit ≤ 2 ^ 64 - 1 → n ≤ length unit → place ≡ in_u64 n → place ≡ n
-whole place n unit room within e = omega (arith, room, within, e)
+stored_exactly : (place n : ℕ) (unit : List ℕ) → length unit ≤ 2 ^ 64 - 1 → n ≤ length unit → place ≡ in_u64 n → place ≡ n
+stored_exactly place n unit room within e = omega (arith, room, within, e)
 
 header_within : (unit : List ℕ) → header_end unit ≤ length unit
 header_within unit = stands_within unit (header unit) (header_place unit) (header_stands unit)
@@ -207,9 +207,9 @@ cut_header : (stage : Stage) (p : Progress) (unit : List ℕ) → length unit �
     → IsRead stage p unit → IsCut unit p.header_start p.header_end p.header_end p.header_end
 cut_header stage p unit room is none h =
     let within = header_within unit in
-    let begins = whole p.header_start (header_place unit) unit room (omega (arith, within)) h.begins in
-    let ends = whole p.header_end (header_end unit) unit room within (h.closes (header_some (header unit) is)) in
-    let there = rest_there unit none in
+    let begins = stored_exactly p.header_start (header_place unit) unit room (omega (arith, within)) h.begins in
+    let ends = stored_exactly p.header_end (header_end unit) unit room within (h.closes (header_some (header unit) is)) in
+    let there = rest_place_without_data unit none in
     let nothing : length (rest unit) ≡ 0 = ap length none in
     record { header_begins = begins; header_ends = ends; data_begins = ends ∙ sym there; data_ends = omega (arith, ends, there, nothing) }
 
@@ -219,20 +219,20 @@ cut_data stage p unit room is d h =
     let within = header_within unit in
     let behind = rest_ends unit in
     record {
-      header_begins = whole p.header_start (header_place unit) unit room (omega (arith, within)) h.begins;
-      header_ends = whole p.header_end (header_end unit) unit room within (h.closes (header_some (header unit) is));
-      data_begins = whole p.data_start (rest_place unit) unit room (omega (arith, behind)) d.begins;
-      data_ends = whole p.data_end (rest_end unit) unit room behind d.ends;
+      header_begins = stored_exactly p.header_start (header_place unit) unit room (omega (arith, within)) h.begins;
+      header_ends = stored_exactly p.header_end (header_end unit) unit room within (h.closes (header_some (header unit) is));
+      data_begins = stored_exactly p.data_start (rest_place unit) unit room (omega (arith, behind)) d.begins;
+      data_ends = stored_exactly p.data_end (rest_end unit) unit room behind d.ends;
     }
 
 cut_at : (stage : Stage) (p : Progress) (unit : List ℕ) → length unit ≤ 2 ^ 64 - 1 → fault_of stage p ≡ None → At stage p unit
     → IsCut unit p.header_start p.header_end (data_of stage p.header_end p.data_start) (data_of stage p.header_end p.data_end)
 cut_at CommonMnemonic p unit room none h =
-    cut_header CommonMnemonic p unit room (header_at CommonMnemonic (header unit) h.spelled) (rest_none unit h.ends) h
+    cut_header CommonMnemonic p unit room (is_header_at_stage CommonMnemonic (header unit) h.spelled) (rest_none unit h.ends) h
 cut_at Mnemonic p unit room none h =
-    cut_header Mnemonic p unit room (header_at Mnemonic (header unit) h.spelled) (rest_none unit h.ends) h
+    cut_header Mnemonic p unit room (is_header_at_stage Mnemonic (header unit) h.spelled) (rest_none unit h.ends) h
 cut_at QuerySign p unit room none h =
-    cut_header QuerySign p unit room (header_at QuerySign (header unit) h.spelled) (rest_none unit h.ends) h
+    cut_header QuerySign p unit room (is_header_at_stage QuerySign (header unit) h.spelled) (rest_none unit h.ends) h
 cut_at HeaderSeparator p unit room none h = cut_header HeaderSeparator p unit room h.spelled h.ends.0 h
 cut_at ProgramData p unit room none h = cut_data ProgramData p unit room h.spelled h.ends.0 h
 cut_at DataSpace p unit room none h = cut_data DataSpace p unit room h.spelled h.ends.0 h

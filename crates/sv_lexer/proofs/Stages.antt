@@ -11,22 +11,22 @@ use Rattle.sv_lexer.specs.Inside.Stage.{behind_graphic, behind_space, next}
 use Rattle.sv_lexer.specs.Inside.Moved.{progress_to, one_more}
 use Rattle.sv_lexer.specs.declared.stage.Stage.{Stage}
 use Rattle.sv_lexer.specs.declared.stage.Stage.TheVariants.{WhiteSpace, Asterisk, Colon, CommonMnemonic, Mnemonic, QuerySign, HeaderSeparator, ProgramData, DataSpace, Misspelled, Illegal}
-use Rattle.sv_lexer.proofs.Ends.{run}
-use Rattle.sv_lexer.proofs.Words.{words_some, words_sign}
-use Rattle.sv_lexer.proofs.Headers.{IsCounted, Pushed, both, header_some, pushed, is_first}
-use Rattle.sv_lexer.proofs.Pushes.{IsLonger, IsSame, longer, wider, header_on, header_closed, rest_none, rest_within, end_same, gap_on, data_on, space_on}
+use Rattle.sv_lexer.proofs.Ends.{before_white}
+use Rattle.sv_lexer.proofs.Words.{words_some, words_with_question_mark}
+use Rattle.sv_lexer.proofs.Headers.{IsCounted, HeaderPushed, list_all_by_last, header_some, header_is_pushed, is_before_header_end}
+use Rattle.sv_lexer.proofs.Pushes.{IsLonger, IsSame, header_gets_longer, leading_white_gets_longer, header_continues, header_ends_at_white, rest_none, data_after_header, end_same, white_after_header, data_get_longer, white_after_data}
 
 -- ---- headers
 
 -- A header that ends in a question mark is complete.
 signed_header : (text : List ℕ) → HeaderEnds QuerySign text → is_header text ≡ true
 signed_header text h =
-    ap is_header h.1 ∙ ap (list_all is_mnemonic) (words_sign h.0 (header_some h.0 h.2.header) h.2.unsigned) ∙ h.2.header
+    ap is_header h.1 ∙ ap (list_all is_mnemonic) (words_with_question_mark h.0 (header_some h.0 h.2.header) h.2.unsigned) ∙ h.2.header
 
 -- If a mnemonic must follow, the header isn't complete yet.
 awaits_none : (text : List ℕ) → Awaits text → is_header text ≡ false
 awaits_none text h =
-    both is_mnemonic (words text) (words_some text)
+    list_all_by_last is_mnemonic (words text) (words_some text)
     ∙ ap (λ (word : List ℕ). list_all is_mnemonic (others (words text)) && is_mnemonic word) h.empty
     ∙ none (list_all is_mnemonic (others (words text)))
   where
@@ -41,14 +41,14 @@ may_end Asterisk = false
 may_end Colon = false
 may_end _ = true
 
-pub header_at : (stage : Stage) (text : List ℕ) → HeaderEnds stage text → is_header text ≡ may_end stage
-header_at WhiteSpace text h = ap is_header h
-header_at Asterisk text h = ap is_header h
-header_at Colon text h = awaits_none text h.1
-header_at CommonMnemonic text h = h.1.header
-header_at Mnemonic text h = h.1.header
-header_at QuerySign text h = signed_header text h
-header_at _ text h = h
+pub is_header_at_stage : (stage : Stage) (text : List ℕ) → HeaderEnds stage text → is_header text ≡ may_end stage
+is_header_at_stage WhiteSpace text h = ap is_header h
+is_header_at_stage Asterisk text h = ap is_header h
+is_header_at_stage Colon text h = awaits_none text h.1
+is_header_at_stage CommonMnemonic text h = h.1.header
+is_header_at_stage Mnemonic text h = h.1.header
+is_header_at_stage QuerySign text h = signed_header text h
+is_header_at_stage _ text h = h
 
 -- ---- another byte of the header
 
@@ -67,30 +67,30 @@ word_read stage q unit b l start end spelled counted ends =
 
 at_word : (stage : Stage) (p : Progress) (unit : List ℕ) (b : ℕ) → one_more p.size ≡ in_u64 (length (unit ++ b ∷ []))
     → p.header_start ≡ in_u64 (header_place unit) → IsLonger unit b
-    → ((more : List ℕ) → header ((unit ++ b ∷ []) ++ more) ≡ header unit ++ b ∷ run more)
-    → Pushed stage p.mnemonic p.longest (header unit) b → At stage (progress_to stage p) (unit ++ b ∷ [])
+    → ((more : List ℕ) → header ((unit ++ b ∷ []) ++ more) ≡ header unit ++ b ∷ before_white more)
+    → HeaderPushed stage p.mnemonic p.longest (header unit) b → At stage (progress_to stage p) (unit ++ b ∷ [])
 at_word WhiteSpace p unit b size start l over h = absurd h
 at_word HeaderSeparator p unit b size start l over h = absurd h
 at_word ProgramData p unit b size start l over h = absurd h
 at_word DataSpace p unit b size start l over h = absurd h
 at_word Illegal p unit b size start l over h = absurd h
-at_word Misspelled p unit b size start l over h = λ more. ap is_header (over more) ∙ h (run more)
+at_word Misspelled p unit b size start l over h = λ more. ap is_header (over more) ∙ h (before_white more)
 at_word stage p unit b size start l over h = word_read stage (progress_to stage p) unit b l start size h.spelled h.counted l.ends
 
-first_on : (stage : Stage) (p : Progress) (unit : List ℕ) (b : ℕ) → is_first stage ≡ true → header_end unit ≡ length unit
+first_on : (stage : Stage) (p : Progress) (unit : List ℕ) (b : ℕ) → is_before_header_end stage ≡ true → header_end unit ≡ length unit
     → one_more p.size ≡ in_u64 (length (unit ++ b ∷ [])) → is_white b ≡ false → IsRead stage p unit
     → At (behind_graphic stage b) (progress_to (behind_graphic stage b) p) (unit ++ b ∷ [])
 first_on stage p unit b first ends size w h =
-    at_word (behind_graphic stage b) p unit b size h.begins (longer unit b ends w)
-    (λ more. header_on unit b more ends w)
-    (pushed stage (header unit) b p.mnemonic p.longest first h.spelled (record { last_size = h.mnemonic; front_size = h.front }))
+    at_word (behind_graphic stage b) p unit b size h.begins (header_gets_longer unit b ends w)
+    (λ more. header_continues unit b more ends w)
+    (header_is_pushed stage (header unit) b p.mnemonic p.longest first h.spelled (record { last_size = h.mnemonic; front_size = h.front }))
 
 -- ---- leading white space
 
 wider_on : (p : Progress) (unit : List ℕ) (b : ℕ) → one_more p.size ≡ in_u64 (length (unit ++ b ∷ [])) → is_white b ≡ true
     → IsRead WhiteSpace p unit → IsRead WhiteSpace (progress_to WhiteSpace p) (unit ++ b ∷ [])
 wider_on p unit b size w h =
-    let g = wider unit b h.spelled w in
+    let g = leading_white_gets_longer unit b h.spelled w in
     let heads : header (unit ++ b ∷ []) ≡ header unit = g.heads ∙ sym h.spelled in
     let none : length (header (unit ++ b ∷ [])) ≡ 0 = ap length g.heads in record {
       spelled = g.heads;
@@ -126,7 +126,7 @@ gap_read : (stage : Stage) (p : Progress) (unit : List ℕ) (b : ℕ) → one_mo
     → IsRead HeaderSeparator (progress_to HeaderSeparator p) (unit ++ b ∷ [])
 gap_read stage p unit b size w is none h =
     let some = header_some (header unit) is in
-    let g = gap_on unit b some none w in
+    let g = white_after_header unit b some none w in
     carried stage HeaderSeparator p (progress_to HeaderSeparator p) unit (unit ++ b ∷ []) some
     (record { start = refl; end = refl; mnemonic = refl; longest_one = refl }) g.same is (g.rests, g.ends, size) h
 
@@ -147,7 +147,7 @@ data_read : (stage : Stage) (p : Progress) (unit : List ℕ) (b : ℕ) → one_m
     → IsRead stage p unit → IsRead ProgramData (progress_to ProgramData p) (unit ++ b ∷ [])
 data_read stage p unit b size w is lt none data_there h =
     let some = header_some (header unit) is in
-    let g = data_on unit b some lt w in
+    let g = data_get_longer unit b some lt w in
     carried stage ProgramData p (progress_to ProgramData p) unit (unit ++ b ∷ []) some
     (record { start = refl; end = refl; mnemonic = refl; longest_one = refl }) g.same is
     (record { some = g.some; begins = data_begun p unit _ none data_there g.begins; ends = size ∙ ap in_u64 (sym g.ends) }, g.ends) h
@@ -156,7 +156,7 @@ space_read : (stage : Stage) (p : Progress) (unit : List ℕ) (b : ℕ) → is_w
     → IsRead stage p unit → IsRead DataSpace (progress_to DataSpace p) (unit ++ b ∷ [])
 space_read stage p unit b w is d h =
     let some = header_some (header unit) is in
-    let g = space_on unit b some d.some w in
+    let g = white_after_data unit b some d.some w in
     let tail : length (rest (unit ++ b ∷ [])) ≡ length (rest unit) = ap length g.rests in
     let same : rest_end (unit ++ b ∷ []) ≡ rest_end unit = omega (arith, tail, g.begins) in
     carried stage DataSpace p (progress_to DataSpace p) unit (unit ++ b ∷ []) some
@@ -178,26 +178,26 @@ misspelled_on unit b h more = ap (λ (l : List ℕ). is_header (header l)) (appe
 -- White space ends an incomplete header, which can't be completed any more.
 ended : (unit : List ℕ) (b : ℕ) → header_end unit ≡ length unit → is_empty (header unit) ≡ false → is_white b ≡ true
     → is_header (header unit) ≡ false → (more : List ℕ) → is_header (header ((unit ++ b ∷ []) ++ more)) ≡ false
-ended unit b ends some w none more = ap is_header (header_closed unit b more ends some w) ∙ none
+ended unit b ends some w none more = ap is_header (header_ends_at_white unit b more ends some w) ∙ none
 
 at_space : (stage : Stage) (p : Progress) (unit : List ℕ) (b : ℕ) → one_more p.size ≡ in_u64 (length (unit ++ b ∷ [])) → is_white b ≡ true
     → At stage p unit → At (behind_space stage) (progress_to (behind_space stage) p) (unit ++ b ∷ [])
 at_space WhiteSpace p unit b size w h = wider_on p unit b size w h
-at_space Asterisk p unit b size w h = ended unit b h.ends (ap is_empty h.spelled) w (header_at Asterisk (header unit) h.spelled)
-at_space Colon p unit b size w h = ended unit b h.ends h.spelled.1.some w (header_at Colon (header unit) h.spelled)
+at_space Asterisk p unit b size w h = ended unit b h.ends (ap is_empty h.spelled) w (is_header_at_stage Asterisk (header unit) h.spelled)
+at_space Colon p unit b size w h = ended unit b h.ends h.spelled.1.some w (is_header_at_stage Colon (header unit) h.spelled)
 at_space HeaderSeparator p unit b size w h = gap_read HeaderSeparator p unit b size w h.spelled h.ends.0 h
 at_space ProgramData p unit b size w h = space_read ProgramData p unit b w h.spelled h.ends.0 h
 at_space DataSpace p unit b size w h = space_read DataSpace p unit b w h.spelled h.ends.0 h
 at_space Misspelled p unit b size w h = misspelled_on unit b h
 at_space Illegal p unit b size w h = tt
 at_space stage p unit b size w h =
-    gap_read stage p unit b size w (header_at stage (header unit) h.spelled) (rest_none unit h.ends) h
+    gap_read stage p unit b size w (is_header_at_stage stage (header unit) h.spelled) (rest_none unit h.ends) h
 
 data_more : (stage : Stage) (p : Progress) (unit : List ℕ) (b : ℕ) → one_more p.size ≡ in_u64 (length (unit ++ b ∷ [])) → is_white b ≡ false
     → is_header (header unit) ≡ true → HasData p unit → IsRead stage p unit
     → IsRead ProgramData (progress_to ProgramData p) (unit ++ b ∷ [])
 data_more stage p unit b size w is d h =
-    data_read stage p unit b size w is (rest_within unit d.some)
+    data_read stage p unit b size w is (data_after_header unit d.some)
     (λ e. (let f : false ≡ true = sym d.some ∙ e in absurd cc)) (λ e. d.begins) h
 
 at_graphic : (stage : Stage) (p : Progress) (unit : List ℕ) (b : ℕ) → one_more p.size ≡ in_u64 (length (unit ++ b ∷ []))
@@ -213,9 +213,10 @@ at_graphic Illegal p unit b size w h = tt
 at_graphic stage p unit b size w h = first_on stage p unit b refl h.ends size w h
 
 -- The next byte leads from each stage to the next.
-pub at_next : (stage : Stage) (p : Progress) (unit : List ℕ) (b : ℕ) → one_more p.size ≡ in_u64 (length (unit ++ b ∷ [])) → At stage p unit
+pub next_stage_is_right : (stage : Stage) (p : Progress) (unit : List ℕ) (b : ℕ) → one_more p.size ≡ in_u64 (length (unit ++ b ∷ []))
+    → At stage p unit
     → At (next stage b) (progress_to (next stage b) p) (unit ++ b ∷ [])
-at_next stage p unit b size h = at (is_white b) refl (is_ascii_graphic b)
+next_stage_is_right stage p unit b size h = at (is_white b) refl (is_ascii_graphic b)
   where
     at : (w : Bool) → is_white b ≡ w → (g : Bool) → At (cond w (behind_space stage) (cond g (behind_graphic stage b) Illegal))
         (progress_to (cond w (behind_space stage) (cond g (behind_graphic stage b) Illegal)) p) (unit ++ b ∷ [])

@@ -12,8 +12,8 @@ pub stands_self : (text : List ℕ) → StandsAt text 0 text
 stands_self text = ([], [], sym (append-nil text), refl)
 
 -- Positions add up: a part of a text is a part of whatever contains the text.
-pub stands_in : (unit text part : List ℕ) (p q : ℕ) → StandsAt unit p text → StandsAt text q part → StandsAt unit (p + q) part
-stands_in unit text part p q outer inner = (
+pub stands_transitive : (unit text part : List ℕ) (p q : ℕ) → StandsAt unit p text → StandsAt text q part → StandsAt unit (p + q) part
+stands_transitive unit text part p q outer inner = (
   outer.0 ++ inner.0,
   inner.1 ++ outer.1,
   outer.2 ∙ ap (λ t. outer.0 ++ (t ++ outer.1)) inner.2 ∙ simp append_assoc refl,
@@ -31,8 +31,9 @@ stands_drop n text le = (
   length-take-le n text le,
 )
 
-pub stands_behind : (text part behind : List ℕ) (b n : ℕ) → text ≡ part ++ b ∷ behind → n ≡ length part + 1 → StandsAt text n behind
-stands_behind text part behind b n e s = (part ++ b ∷ [], [], e ∙ simp (append_assoc, append-nil) refl, length-append part (b ∷ []) ∙ sym s)
+pub stands_after_byte : (text part behind : List ℕ) (b n : ℕ) → text ≡ part ++ b ∷ behind → n ≡ length part + 1 → StandsAt text n behind
+stands_after_byte text part behind b n e s =
+    (part ++ b ∷ [], [], e ∙ simp (append_assoc, append-nil) refl, length-append part (b ∷ []) ∙ sym s)
 
 -- Removing leading white space drops as many bytes as there are of it.
 pub start_dropped : (text : List ℕ) → trim_start text ≡ drop (white_size text) text
@@ -71,7 +72,7 @@ stands_end text = ([], reverse (take (white_size (reverse text)) (reverse text))
 -- Without white space around it, a text begins after its leading white space.
 pub stands_trim : (text : List ℕ) → StandsAt text (white_size text) (trim text)
 stands_trim text = rw (← plus_zero (white_size text))
-    (stands_in text (trim_start text) (trim text) (white_size text) 0 (stands_start text) (stands_end (trim_start text)))
+    (stands_transitive text (trim_start text) (trim text) (white_size text) 0 (stands_start text) (stands_end (trim_start text)))
   where
     plus_zero : (n : ℕ) → n + 0 ≡ n
     plus_zero n = omega arith

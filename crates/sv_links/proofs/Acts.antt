@@ -11,14 +11,14 @@ use Rattle.sv_links.specs.Limits.{max_connections}
 use Rattle.sv_links.specs.Channels.{ChannelAct, SrqEnabled, SrqDisabled, Requested, ChannelClosed, enabled_links, peer, bytes_taken, calls, add_call, handles_of}
 use Rattle.sv_links.specs.ChannelRepresentation.{Channel, Channels, AreChannels, without_links, IsChannel, IsChannelFor, IsQueued, opened_for}
 use Rattle.sv_links.proofs.Asking.{other_links}
-use Rattle.sv_links.proofs.Rising.{with_link, enabled_enabled, enabled_disabled}
+use Rattle.sv_links.proofs.Rising.{with_link, links_after_enable, links_after_disable}
 
 -- A link disables service requests.
 pub are_channels_disabled : (kept : Channels) (links : List Enabled) (lid : ℕ) (acts : List ChannelAct)
     → links ≡ other_links lid kept.enabled → AreChannels kept acts
     → AreChannels (record kept { enabled = links }) (SrqDisabled lid ∷ acts)
 are_channels_disabled kept links lid acts same is = record {
-  enabled = same ∙ ap (other_links lid) is.enabled ∙ sym (enabled_disabled lid acts);
+  enabled = same ∙ ap (other_links lid) is.enabled ∙ sym (links_after_disable lid acts);
   each = is.each;
   beyond = is.beyond;
 }
@@ -36,7 +36,7 @@ pub are_channels_enabled : (kept : Channels) (links : List Enabled) (link : Enab
     → links ≡ with_link link kept.enabled → AreChannels kept acts
     → AreChannels (record kept { enabled = links }) (SrqEnabled link.lid link.conn link.handle ∷ acts)
 are_channels_enabled kept links link acts same is = record {
-  enabled = same ∙ ap (with_link link) is.enabled ∙ sym (enabled_enabled link acts);
+  enabled = same ∙ ap (with_link link) is.enabled ∙ sym (links_after_enable link acts);
   each = is.each;
   beyond = is.beyond;
 }
@@ -64,18 +64,18 @@ is_channel_requested c old new links acts same stage sends is = (
 
 -- ---- replacing a channel
 
-pub at_set : (P : Channel → Type 0) (kept : List Channel) (i c : ℕ) (new other : Channel) → i < length kept → (c ≡ i → P new)
+pub after_slice_set : (P : Channel → Type 0) (kept : List Channel) (i c : ℕ) (new other : Channel) → i < length kept → (c ≡ i → P new)
     → (c ≢ i → P (slice_index_or kept c other)) → P (slice_index_or (slice_set kept i new) c other)
-at_set P kept i c new other within here there = elim (cases_eq c i) [
+after_slice_set P kept i c new other within here there = elim (cases_eq c i) [
   | inl e ↦
       let place = ap (λ (c : ℕ). slice_index_or (slice_set kept i new) c other) e in
       subst P (sym (place ∙ get_or-set_same kept i new other within)) (here e)
   | inr e ↦ subst P (sym (get_or-set_other kept i c new other e)) (there e)
 ]
 
-pub at_push : (P : Channel → Type 0) (kept : List Channel) (i c : ℕ) (new other : Channel) → length kept ≡ i → c < i + 1 → P new
+pub after_append : (P : Channel → Type 0) (kept : List Channel) (i c : ℕ) (new other : Channel) → length kept ≡ i → c < i + 1 → P new
     → (c < i → P (slice_index_or kept c other)) → P (slice_index_or (kept ++ new ∷ []) c other)
-at_push P kept i c new other long within here there = elim (cases_lt c i) [
+after_append P kept i c new other long within here there = elim (cases_lt c i) [
   | inl below ↦ rw (get_or_append_left kept (new ∷ []) other c (omega (arith, long, below))) (there below)
   | inr above ↦
       let last : c ≡ length kept = omega (arith, long, within, above) in
@@ -102,7 +102,8 @@ are_channels_kept kept i old new acts lt within value stage keeps is =
     record {
       enabled = is.enabled;
       each = λ k other le.
-          at_set (λ c. IsChannel c k acts) kept.channels i k new other within (λ same. subst (λ k. IsChannel new k acts) (sym same) after)
+          after_slice_set (λ c. IsChannel c k acts) kept.channels i k new other within
+              (λ same. subst (λ k. IsChannel new k acts) (sym same) after)
           (λ apart. is.each k other le);
       beyond = is.beyond;
     }
@@ -116,7 +117,7 @@ are_channels_closed kept i new acts within stage is =
     record {
       enabled = is.enabled;
       each = λ k other le.
-          at_set (λ c. IsChannel c k (ChannelClosed i ∷ acts)) kept.channels i k new other within
+          after_slice_set (λ c. IsChannel c k (ChannelClosed i ∷ acts)) kept.channels i k new other within
           (λ same. subst (λ k. IsChannel new k (ChannelClosed i ∷ acts)) (sym same) after)
           (λ apart. rw (ne_eqb i k (λ e. apart (sym e))) (is.each k other le));
       beyond = λ k past. elim (cases_eq i k) [

@@ -7,16 +7,16 @@ use Rattle.sv_links.specs.declared.waiting.Wait.{Wait}
 use Rattle.sv_links.specs.declared.waiting.Wait.TheVariants.{Lock}
 use Rattle.sv_links.specs.Waiting.{is_lock}
 use Rattle.sv_links.specs.Queue.{IsFree, IsOnce, anew, creates, creations, without, queue_measure, wait_measure}
-use Rattle.sv_links.proofs.Queues.{anew_none, kept_free}
+use Rattle.sv_links.proofs.Queues.{anew_none, without_free}
 
-pub rank_anew : (conn : ℕ) (wait : Wait) (last : Option ℕ) (xs : List Entry) → IsOnce xs
+pub measure_after_anew : (conn : ℕ) (wait : Wait) (last : Option ℕ) (xs : List Entry) → IsOnce xs
     → queue_measure (map (anew conn wait last) xs) ≤ queue_measure (without conn xs) + wait_measure wait
-rank_anew conn wait last [] once = omega arith
-rank_anew conn wait last (x ∷ xs) once = elim (cases_Bool (eqb x.conn conn)) [
+measure_after_anew conn wait last [] once = omega arith
+measure_after_anew conn wait last (x ∷ xs) once = elim (cases_Bool (eqb x.conn conn)) [
   | inl e ↦
       let free : IsFree conn xs = rw (← eqb-true x.conn conn e) once.0 in
-      rw (e, anew_none conn wait last xs free, kept_free conn xs free) (omega arith)
-  | inr e ↦ rw e (omega (arith, rank_anew conn wait last xs once.1))
+      rw (e, anew_none conn wait last xs free, without_free conn xs free) (omega arith)
+  | inr e ↦ rw e (omega (arith, measure_after_anew conn wait last xs once.1))
 ]
 
 not_lock : (wait : Wait) → (wait ≡ Lock → ⊥) → is_lock (Some wait) ≡ false

@@ -8,11 +8,11 @@ use Rattle.sv_links.specs.declared.enabled.Enabled.{Enabled}
 use Rattle.sv_links.specs.ChannelRepresentation.{IsSorted}
 
 -- The links with lower numbers, and those with higher ones.
-abbrev pub below : ℕ → List Enabled → List Enabled
-below lid = filter (λ other. ltb other.lid lid)
+abbrev pub lower_links : ℕ → List Enabled → List Enabled
+lower_links lid = filter (λ other. ltb other.lid lid)
 
-abbrev pub above : ℕ → List Enabled → List Enabled
-above lid = filter (λ other. ltb lid other.lid)
+abbrev pub higher_links : ℕ → List Enabled → List Enabled
+higher_links lid = filter (λ other. ltb lid other.lid)
 
 abbrev pub other_links : ℕ → List Enabled → List Enabled
 other_links lid = filter (λ other. not (eqb other.lid lid))
@@ -27,18 +27,18 @@ sorted_filter p (x ∷ xs) h = cond_both (p x) (x ∷ filter p xs) (filter p xs)
 
 -- ---- the position of a number
 
-pub none_below : (lid n : ℕ) (xs : List Enabled) → lid ≤ n → AllByRecursion (λ x. n < x.lid) xs → below lid xs ≡ []
+pub none_below : (lid n : ℕ) (xs : List Enabled) → lid ≤ n → AllByRecursion (λ x. n < x.lid) xs → lower_links lid xs ≡ []
 none_below lid n [] le h = refl
 none_below lid n (x ∷ xs) le h = rw (le-ltb x.lid lid (omega (arith, h.0))) (none_below lid n xs le h.1)
 
-pub all_above : (lid n : ℕ) (xs : List Enabled) → lid ≤ n → AllByRecursion (λ x. n < x.lid) xs → above lid xs ≡ xs
+pub all_above : (lid n : ℕ) (xs : List Enabled) → lid ≤ n → AllByRecursion (λ x. n < x.lid) xs → higher_links lid xs ≡ xs
 all_above lid n [] le h = refl
 all_above lid n (x ∷ xs) le h =
     rw (lt-ltb lid x.lid (omega (arith, h.0))) (ap (λ (ys : List Enabled). x ∷ ys) (all_above lid n xs le h.1))
 
 -- In a sorted list, the links with lower numbers come first, and then those with higher ones.
 abbrev Parts : ℕ → List Enabled → Type 0
-Parts lid xs = (take (length (below lid xs)) xs ≡ below lid xs) × (drop (length (below lid xs)) xs ≡ above lid xs)
+Parts lid xs = (take (length (lower_links lid xs)) xs ≡ lower_links lid xs) × (drop (length (lower_links lid xs)) xs ≡ higher_links lid xs)
 
 parts : (lid : ℕ) (xs : List Enabled) → IsSorted xs → AllByRecursion (λ x. x.lid ≢ lid) xs → Parts lid xs
 parts lid [] h free = (refl, refl)
@@ -61,7 +61,7 @@ free_other lid (x ∷ xs) = elim (cases_Bool (eqb x.lid lid)) [
   | inr e ↦ rw e (eqb-false x.lid lid e, free_other lid xs)
 ]
 
-pub below_other : (lid : ℕ) (xs : List Enabled) → below lid (other_links lid xs) ≡ below lid xs
+pub below_other : (lid : ℕ) (xs : List Enabled) → lower_links lid (other_links lid xs) ≡ lower_links lid xs
 below_other lid [] = refl
 below_other lid (x ∷ xs) = elim (cases_Bool (eqb x.lid lid)) [
   | inl e ↦ let same = eqb-true x.lid lid e in rw (e, le-ltb x.lid lid (omega arith)) (below_other lid xs)
@@ -71,7 +71,7 @@ below_other lid (x ∷ xs) = elim (cases_Bool (eqb x.lid lid)) [
   ]
 ]
 
-pub above_other : (lid : ℕ) (xs : List Enabled) → above lid (other_links lid xs) ≡ above lid xs
+pub above_other : (lid : ℕ) (xs : List Enabled) → higher_links lid (other_links lid xs) ≡ higher_links lid xs
 above_other lid [] = refl
 above_other lid (x ∷ xs) = elim (cases_Bool (eqb x.lid lid)) [
   | inl e ↦ let same = eqb-true x.lid lid e in rw (e, le-ltb lid x.lid (omega arith)) (above_other lid xs)
@@ -82,17 +82,17 @@ above_other lid (x ∷ xs) = elim (cases_Bool (eqb x.lid lid)) [
 ]
 
 -- A link that is inserted at its position stands between the lower and the higher ones.
-pub inserted : (lid : ℕ) (xs : List Enabled) (link : Enabled) → IsSorted (other_links lid xs)
-    → insert (other_links lid xs) (length (below lid (other_links lid xs))) link ≡ below lid xs ++ link ∷ above lid xs
-inserted lid xs link h =
+pub insert_between : (lid : ℕ) (xs : List Enabled) (link : Enabled) → IsSorted (other_links lid xs)
+    → insert (other_links lid xs) (length (lower_links lid (other_links lid xs))) link ≡ lower_links lid xs ++ link ∷ higher_links lid xs
+insert_between lid xs link h =
     let others = other_links lid xs in
     let both = parts lid others h (free_other lid xs) in
-    ap (λ (ys : List Enabled). ys ++ link ∷ drop (length (below lid others)) others) (both.0 ∙ below_other lid xs)
-    ∙ ap (λ (ys : List Enabled). below lid xs ++ link ∷ ys) (both.1 ∙ above_other lid xs)
+    ap (λ (ys : List Enabled). ys ++ link ∷ drop (length (lower_links lid others)) others) (both.0 ∙ below_other lid xs)
+    ∙ ap (λ (ys : List Enabled). lower_links lid xs ++ link ∷ ys) (both.1 ∙ above_other lid xs)
 
 -- ---- the list stays sorted
 
-above_all : (lid : ℕ) (xs : List Enabled) → AllByRecursion (λ x. lid < x.lid) (above lid xs)
+above_all : (lid : ℕ) (xs : List Enabled) → AllByRecursion (λ x. lid < x.lid) (higher_links lid xs)
 above_all lid [] = tt
 above_all lid (x ∷ xs) = elim (cases_Bool (ltb lid x.lid)) [
   | inl e ↦ rw e (ltb-true lid x.lid e, above_all lid xs)
@@ -104,16 +104,17 @@ all_joined : (P : Enabled → Type 0) (xs ys : List Enabled) (y : Enabled) → A
 all_joined P [] ys y h here k = (here, k)
 all_joined P (x ∷ xs) ys y h here k = (h.0, all_joined P xs ys y h.1 here k)
 
-pub sorted_put : (link : Enabled) (xs : List Enabled) → IsSorted xs → IsSorted (below link.lid xs ++ link ∷ above link.lid xs)
-sorted_put link [] h = (tt, tt)
-sorted_put link (x ∷ xs) h = elim (cases_Bool (ltb x.lid link.lid)) [
+pub sorted_between : (link : Enabled) (xs : List Enabled) → IsSorted xs
+    → IsSorted (lower_links link.lid xs ++ link ∷ higher_links link.lid xs)
+sorted_between link [] h = (tt, tt)
+sorted_between link (x ∷ xs) h = elim (cases_Bool (ltb x.lid link.lid)) [
   | inl e ↦
       let lt = ltb-true x.lid link.lid e in
       rw (e, le-ltb link.lid x.lid (omega arith)) (
-        all_joined (λ y. x.lid < y.lid) (below link.lid xs) (above link.lid xs) link
+        all_joined (λ y. x.lid < y.lid) (lower_links link.lid xs) (higher_links link.lid xs) link
             (all_filter (λ y. x.lid < y.lid) (λ y. ltb y.lid link.lid) xs h.0) lt
             (all_filter (λ y. x.lid < y.lid) (λ y. ltb link.lid y.lid) xs h.0),
-        sorted_put link xs h.1,
+        sorted_between link xs h.1,
       )
   | inr e ↦
       let le : link.lid ≤ x.lid = ltb-false x.lid link.lid e in
@@ -123,6 +124,6 @@ sorted_put link (x ∷ xs) h = elim (cases_Bool (ltb x.lid link.lid)) [
 
 -- Inserting a link at its position keeps the list sorted.
 pub sorted_inserted : (lid : ℕ) (xs : List Enabled) (link : Enabled) → link.lid ≡ lid → IsSorted (other_links lid xs)
-    → IsSorted (insert (other_links lid xs) (length (below lid (other_links lid xs))) link)
-sorted_inserted lid xs link same h = rw (inserted lid xs link h, ← below_other lid xs, ← above_other lid xs, ← same)
-    (sorted_put link (other_links link.lid xs) (rw (← same) at h))
+    → IsSorted (insert (other_links lid xs) (length (lower_links lid (other_links lid xs))) link)
+sorted_inserted lid xs link same h = rw (insert_between lid xs link h, ← below_other lid xs, ← above_other lid xs, ← same)
+    (sorted_between link (other_links link.lid xs) (rw (← same) at h))

@@ -28,28 +28,30 @@ handles_other conn (first ∷ links) link e = elim (cases_Bool (eqb first.conn c
 ]
 
 -- The calls of the channel after the first `n` links were handled.
-abbrev pub called_for : Peer → ℕ → ℕ → List Enabled → ℕ → List (List ℕ) → List (List ℕ)
-called_for peer count conn links n calls = fold (add_call (Some peer) count) calls (handles_of conn (take n links))
+abbrev pub calls_after_links : Peer → ℕ → ℕ → List Enabled → ℕ → List (List ℕ) → List (List ℕ)
+calls_after_links peer count conn links n calls = fold (add_call (Some peer) count) calls (handles_of conn (take n links))
 
 -- A link of the channel's connection adds a call.
-pub called_own : (peer : Peer) (count conn : ℕ) (links : List Enabled) (i : ℕ) (link : Enabled) (calls : List (List ℕ)) → i < length links
+pub link_adds_call : (peer : Peer) (count conn : ℕ) (links : List Enabled) (i : ℕ) (link : Enabled) (calls : List (List ℕ))
+    → i < length links
     → link ≡ get_or links i link → link.conn ≡ conn
-    → add_call (Some peer) count (called_for peer count conn links i calls) link.handle
-    ≡ called_for peer count conn links (i + 1) calls
-called_own peer count conn links i link calls lt at own =
+    → add_call (Some peer) count (calls_after_links peer count conn links i calls) link.handle
+    ≡ calls_after_links peer count conn links (i + 1) calls
+link_adds_call peer count conn links i link calls lt at own =
     sym (fold-append (add_call (Some peer) count) calls (handles_of conn (take i links)) (link.handle ∷ []))
     ∙ ap (fold (add_call (Some peer) count) calls)
     (sym (ap (handles_of conn) (take_more links i link lt ∙ ap (λ (x : Enabled). take i links ++ x ∷ []) (sym at))
     ∙ handles_own conn (take i links) link (eq-eqb link.conn conn own)))
 
 -- A link of another connection adds none.
-pub called_other : (peer : Peer) (count conn : ℕ) (links : List Enabled) (i : ℕ) (link : Enabled) (calls : List (List ℕ)) → i < length links
+pub other_link_adds_none : (peer : Peer) (count conn : ℕ) (links : List Enabled) (i : ℕ) (link : Enabled) (calls : List (List ℕ))
+    → i < length links
     → link ≡ get_or links i link → link.conn ≢ conn
-    → called_for peer count conn links i calls ≡ called_for peer count conn links (i + 1) calls
-called_other peer count conn links i link calls lt at apart =
+    → calls_after_links peer count conn links i calls ≡ calls_after_links peer count conn links (i + 1) calls
+other_link_adds_none peer count conn links i link calls lt at apart =
     ap (fold (add_call (Some peer) count) calls)
     (sym (ap (handles_of conn) (take_more links i link lt ∙ ap (λ (x : Enabled). take i links ++ x ∷ []) (sym at))
     ∙ handles_other conn (take i links) link (ne_eqb link.conn conn apart)))
 
-pub open_for : (stage : Stage) (what peer : Peer) → stage ≡ Open what → opened_for stage ≡ Some peer → peer ≡ what
-open_for stage what peer e k = let same : Some what ≡ Some peer = sym (ap opened_for e) ∙ k in cc
+pub open_peer_is : (stage : Stage) (what peer : Peer) → stage ≡ Open what → opened_for stage ≡ Some peer → peer ≡ what
+open_peer_is stage what peer e k = let same : Some what ≡ Some peer = sym (ap opened_for e) ∙ k in cc

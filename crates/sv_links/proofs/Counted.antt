@@ -40,9 +40,9 @@ pub creations_without : (c : ℕ) (xs : List Entry) → creations (without c xs)
 creations_without c xs = fewer creates (λ entry. not (entry.conn == c)) xs
 
 -- A call that enters the queue adds at most one.
-pub creations_push : (xs : List Entry) (x : Entry) → creations (xs ++ x ∷ []) ≤ creations xs + 1
-creations_push xs x = omega (arith, pushed creates xs x, at_most_one (creates x))
+pub creations_after_entering : (xs : List Entry) (x : Entry) → creations (xs ++ x ∷ []) ≤ creations xs + 1
+creations_after_entering xs x = omega (arith, pushed creates xs x, at_most_one (creates x))
 
 -- It adds none if it isn't a create_link.
-pub creations_other : (xs : List Entry) (x : Entry) → creates x ≡ false → creations (xs ++ x ∷ []) ≡ creations xs
-creations_other xs x other = rw (pushed creates xs x, other) (omega arith)
+pub creations_after_other_call : (xs : List Entry) (x : Entry) → creates x ≡ false → creations (xs ++ x ∷ []) ≡ creations xs
+creations_after_other_call xs x other = rw (pushed creates xs x, other) (omega arith)

@@ -9,17 +9,18 @@ use Rattle.sv_links.specs.Queue.{IsQueue, IsEntry, IsOnce, IsBelow, creates, cre
 use Rattle.sv_links.proofs.Counted.{creations_without}
 
 -- It passes the test, and has what all entries have.
-found : (P : Entry → Type 0) (test : Entry → Bool) (xs : List Entry) → AllByRecursion P xs
+found_has_property : (P : Entry → Type 0) (test : Entry → Bool) (xs : List Entry) → AllByRecursion P xs
     → IfSome (find test xs) (λ x. (test x ≡ true) × P x)
-found P test [] h = tt
-found P test (x ∷ xs) h = elim (cases_Bool (test x)) [ inl e ↦ rw e (e, h.0) | inr e ↦ rw e (found P test xs h.1) ]
+found_has_property P test [] h = tt
+found_has_property P test (x ∷ xs) h =
+    elim (cases_Bool (test x)) [ inl e ↦ rw e (e, h.0) | inr e ↦ rw e (found_has_property P test xs h.1) ]
 
 weaker : (P Q : Entry → Type 0) → ((x : Entry) → P x → Q x) → (o : Option Entry) → IfSome o P → IfSome o Q
 weaker P Q f None h = tt
 weaker P Q f (Some x) h = f x h
 
 pub found_each : (P : Entry → Type 0) (test : Entry → Bool) (xs : List Entry) → AllByRecursion P xs → IfSome (find test xs) P
-found_each P test xs h = weaker (λ x. (test x ≡ true) × P x) P (λ x k. k.1) (find test xs) (found P test xs h)
+found_each P test xs h = weaker (λ x. (test x ≡ true) × P x) P (λ x k. k.1) (find test xs) (found_has_property P test xs h)
 
 -- The entry that is found is the one of its connection.
 both_found : (P Q : Entry → Type 0) (o : Option Entry) → IfSome o P → IfSome o Q → IfSome o (λ x. P x × Q x)
@@ -51,31 +52,31 @@ entry_for conn acts (Some x) all h = (eqb-true x.conn conn h.0, h.1)
 pub entry_waits : (conn : ℕ) (acts : List WaitAct) (xs : List Entry) → IsQueue xs acts
     → MatchOption (entry_of conn xs) (waits conn acts ≡ None) (λ x. (x.conn ≡ conn) × IsEntry acts x)
 entry_waits conn acts xs is =
-    entry_for conn acts (entry_of conn xs) (is.all conn) (found (IsEntry acts) (λ x. eqb x.conn conn) xs is.each)
+    entry_for conn acts (entry_of conn xs) (is.all conn) (found_has_property (IsEntry acts) (λ x. eqb x.conn conn) xs is.each)
 
 -- ---- by how much an entry's removal lowers the measures
 
-pub rank_without : (c : ℕ) (xs : List Entry) → queue_measure (without c xs) ≤ queue_measure xs
-rank_without c [] = omega arith
-rank_without c (x ∷ xs) = elim (cases_Bool (eqb x.conn c)) [
-  | inl e ↦ rw e (omega (arith, rank_without c xs))
-  | inr e ↦ rw e (omega (arith, rank_without c xs))
+pub measure_without : (c : ℕ) (xs : List Entry) → queue_measure (without c xs) ≤ queue_measure xs
+measure_without c [] = omega arith
+measure_without c (x ∷ xs) = elim (cases_Bool (eqb x.conn c)) [
+  | inl e ↦ rw e (omega (arith, measure_without c xs))
+  | inr e ↦ rw e (omega (arith, measure_without c xs))
 ]
 
 rank_cons : (c : ℕ) (x : Entry) (xs : List Entry) → queue_measure (without c (x ∷ xs)) ≤ wait_measure x.wait + queue_measure (without c xs)
 rank_cons c x xs = elim (cases_Bool (eqb x.conn c)) [ inl e ↦ rw e (omega arith) | inr e ↦ rw e (omega arith) ]
 
 rank_itself : (x : Entry) (xs : List Entry) → queue_measure (without x.conn (x ∷ xs)) ≤ queue_measure xs
-rank_itself x xs = rw (eq-eqb x.conn x.conn refl) (rank_without x.conn xs)
+rank_itself x xs = rw (eq-eqb x.conn x.conn refl) (measure_without x.conn xs)
 
-pub found_rank : (test : Entry → Bool) (xs : List Entry) → IfSome (find test xs) (λ x. queue_measure (without x.conn xs)
+pub measure_after_found : (test : Entry → Bool) (xs : List Entry) → IfSome (find test xs) (λ x. queue_measure (without x.conn xs)
     + wait_measure x.wait ≤ queue_measure xs)
-found_rank test [] = tt
-found_rank test (x ∷ xs) = elim (cases_Bool (test x)) [
+measure_after_found test [] = tt
+measure_after_found test (x ∷ xs) = elim (cases_Bool (test x)) [
   | inl e ↦ rw e (omega (arith, rank_itself x xs))
   | inr e ↦ rw e (weaker (λ y. queue_measure (without y.conn xs) + wait_measure y.wait ≤ queue_measure xs)
       (λ y. queue_measure (without y.conn (x ∷ xs)) + wait_measure y.wait ≤ queue_measure (x ∷ xs))
-      (λ y h. omega (arith, h, rank_cons y.conn x xs)) (find test xs) (found_rank test xs))
+      (λ y h. omega (arith, h, rank_cons y.conn x xs)) (find test xs) (measure_after_found test xs))
 ]
 
 head : (p : Entry → Bool) (x : Entry) (xs : List Entry) → length (filter p (x ∷ xs)) ≡ length (filter p (x ∷ [])) + length (filter p xs)
@@ -97,12 +98,12 @@ creations_itself : (x : Entry) (xs : List Entry) → creates x ≡ true → crea
 creations_itself x xs e =
     rw (creations_head x xs, creations_one creates x e, eq-eqb x.conn x.conn refl) (omega (arith, creations_without x.conn xs))
 
-pub found_creations : (test : Entry → Bool) (xs : List Entry)
+pub creations_after_found : (test : Entry → Bool) (xs : List Entry)
     → IfSome (find test xs) (λ x. creates x ≡ true → creations (without x.conn xs) + 1 ≤ creations xs)
-found_creations test [] = tt
-found_creations test (x ∷ xs) = elim (cases_Bool (test x)) [
+creations_after_found test [] = tt
+creations_after_found test (x ∷ xs) = elim (cases_Bool (test x)) [
   | inl e ↦ rw e (creations_itself x xs)
   | inr e ↦ rw e (weaker (λ y. creates y ≡ true → creations (without y.conn xs) + 1 ≤ creations xs)
       (λ y. creates y ≡ true → creations (without y.conn (x ∷ xs)) + 1 ≤ creations (x ∷ xs))
-      (λ y h k. omega (arith, h k, creations_cons y.conn x xs, creations_head x xs)) (find test xs) (found_creations test xs))
+      (λ y h k. omega (arith, h k, creations_cons y.conn x xs, creations_head x xs)) (find test xs) (creations_after_found test xs))
 ]

@@ -35,9 +35,9 @@ left_bytes count (call ∷ calls) = elim (cases_Bool (ltb count (length call))) 
 ]
 
 -- Taking `m` bytes and then `n` more leaves what taking `m + n` bytes leaves.
-pub left_left : (m n : ℕ) (calls : List (List ℕ)) → calls_left n (calls_left m calls) ≡ calls_left (m + n) calls
-left_left m n [] = refl
-left_left m n (call ∷ calls) = elim (cases_Bool (ltb m (length call))) [
+pub calls_left_twice : (m n : ℕ) (calls : List (List ℕ)) → calls_left n (calls_left m calls) ≡ calls_left (m + n) calls
+calls_left_twice m n [] = refl
+calls_left_twice m n (call ∷ calls) = elim (cases_Bool (ltb m (length call))) [
   | inl e ↦
       let lt = ltb-true m (length call) e in
       let size = length-drop m call in
@@ -54,20 +54,20 @@ left_left m n (call ∷ calls) = elim (cases_Bool (ltb m (length call))) [
       let le = ltb-false m (length call) e in
       let rest : m - length call + n ≡ m + n - length call = omega arith in
       rw (e, le-ltb (m + n) (length call) (omega arith))
-      (left_left (m - length call) n calls ∙ ap (λ (n : ℕ). calls_left n calls) rest)
+      (calls_left_twice (m - length call) n calls ∙ ap (λ (n : ℕ). calls_left n calls) rest)
 ]
 
 -- A call that is appended remains whole if no more bytes were taken than the others have.
-pub left_push : (count : ℕ) (calls : List (List ℕ)) (call : List ℕ) → 0 < length call → count ≤ length (concat calls)
+pub calls_left_append : (count : ℕ) (calls : List (List ℕ)) (call : List ℕ) → 0 < length call → count ≤ length (concat calls)
     → calls_left count (calls ++ call ∷ []) ≡ calls_left count calls ++ call ∷ []
-left_push count [] call some h = rw (lt-ltb count (length call) (omega arith)) (
+calls_left_append count [] call some h = rw (lt-ltb count (length call) (omega arith)) (
     let none : count ≡ 0 = omega arith in rw none refl
     )
-left_push count (first ∷ calls) call some h = elim (cases_Bool (ltb count (length first))) [
+calls_left_append count (first ∷ calls) call some h = elim (cases_Bool (ltb count (length first))) [
   | inl e ↦ rw e refl
   | inr e ↦
       let le = ltb-false count (length first) e in
-      rw e (left_push (count - length first) calls call some (omega (arith, length-append first (concat calls), le)))
+      rw e (calls_left_append (count - length first) calls call some (omega (arith, length-append first (concat calls), le)))
 ]
 
 -- ---- sizes
@@ -76,21 +76,21 @@ sum_cons : (n : ℕ) (ns : List ℕ) → sum (n ∷ ns) ≡ n + sum ns
 sum_cons n ns = sum_by-cons (λ (x : ℕ). x) n ns
 
 -- The bytes that were taken and those that remain are all bytes.
-pub sum_left : (count : ℕ) (sizes : List ℕ) → count ≤ sum sizes → count + sum (left_in count sizes) ≡ sum sizes
-sum_left count [] h = omega arith
-sum_left count (size ∷ sizes) h = elim (cases_Bool (ltb count size)) [
+pub taken_and_left_are_all : (count : ℕ) (sizes : List ℕ) → count ≤ sum sizes → count + sum (left_in count sizes) ≡ sum sizes
+taken_and_left_are_all count [] h = omega arith
+taken_and_left_are_all count (size ∷ sizes) h = elim (cases_Bool (ltb count size)) [
   | inl e ↦ let lt = ltb-true count size e in rw e (omega (arith, sum_cons (size - count) sizes, sum_cons size sizes))
   | inr e ↦
       let le = ltb-false count size e in
-      rw e (omega (arith, sum_left (count - size) sizes (omega (arith, sum_cons size sizes)), sum_cons size sizes))
+      rw e (omega (arith, taken_and_left_are_all (count - size) sizes (omega (arith, sum_cons size sizes)), sum_cons size sizes))
 ]
 
-pub all_left : (most count : ℕ) (sizes : List ℕ) → AllByRecursion (λ size. size ≤ most) sizes
+pub left_sizes_bounded : (most count : ℕ) (sizes : List ℕ) → AllByRecursion (λ size. size ≤ most) sizes
     → AllByRecursion (λ size. size ≤ most) (left_in count sizes)
-all_left most count [] h = tt
-all_left most count (size ∷ sizes) h = elim (cases_Bool (ltb count size)) [
+left_sizes_bounded most count [] h = tt
+left_sizes_bounded most count (size ∷ sizes) h = elim (cases_Bool (ltb count size)) [
   | inl e ↦ rw e (omega (arith, h.0), h.1)
-  | inr e ↦ rw e (all_left most (count - size) sizes h.1)
+  | inr e ↦ rw e (left_sizes_bounded most (count - size) sizes h.1)
 ]
 
 pub length_left : (count : ℕ) (sizes : List ℕ) → length (left_in count sizes) ≤ length sizes

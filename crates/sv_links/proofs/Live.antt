@@ -6,7 +6,7 @@ use mathlib.Core.List.{reverse_aux-eq}
 use Rattle.sv_links.specs.declared.links.Link.{Link}
 use Rattle.sv_links.specs.Links.{LinkAct, Destroyed, live, closing}
 use Rattle.sv_links.proofs.Tables.{other_than}
-use Rattle.sv_links.proofs.Closing.{gone, of_conn}
+use Rattle.sv_links.proofs.Closing.{with_destroyed, of_conn}
 
 length_filter_le : (p : Link → Bool) (xs : List Link) → length (filter p xs) ≤ length xs
 length_filter_le p [] = omega arith
@@ -15,12 +15,13 @@ length_filter_le p (x ∷ xs) = elim (cases_Bool (p x)) [
   | inr e ↦ rw e (omega (arith, length_filter_le p xs))
 ]
 
-pub destroyed_live : (lid : ℕ) (acts : List LinkAct) → length (live (Destroyed lid ∷ acts)) ≤ length (live acts)
-destroyed_live lid acts = length_filter_le (other_than lid) (live acts)
+pub destroyed_adds_no_live : (lid : ℕ) (acts : List LinkAct) → length (live (Destroyed lid ∷ acts)) ≤ length (live acts)
+destroyed_adds_no_live lid acts = length_filter_le (other_than lid) (live acts)
 
-gone_live : (ys : List Link) (acts : List LinkAct) → length (live (gone ys acts)) ≤ length (live acts)
-gone_live [] acts = omega arith
-gone_live (y ∷ ys) acts = omega (arith, gone_live ys (Destroyed y.lid ∷ acts), destroyed_live y.lid acts)
+destroying_adds_no_live : (ys : List Link) (acts : List LinkAct) → length (live (with_destroyed ys acts)) ≤ length (live acts)
+destroying_adds_no_live [] acts = omega arith
+destroying_adds_no_live (y ∷ ys) acts =
+    omega (arith, destroying_adds_no_live ys (Destroyed y.lid ∷ acts), destroyed_adds_no_live y.lid acts)
 
-pub closing_live : (c : ℕ) (acts : List LinkAct) → length (live (closing c acts ++ acts)) ≤ length (live acts)
-closing_live c acts = rw (← reverse_aux-eq) (gone_live (filter (of_conn c) (live acts)) acts)
+pub closing_adds_no_live : (c : ℕ) (acts : List LinkAct) → length (live (closing c acts ++ acts)) ≤ length (live acts)
+closing_adds_no_live c acts = rw (← reverse_aux-eq) (destroying_adds_no_live (filter (of_conn c) (live acts)) acts)

@@ -55,30 +55,30 @@ not_not : (b : Bool) → not (not b) ≡ b
 not_not true = refl
 not_not false = refl
 
-pub may_lock : (m lid : ℕ) → eqb m lid ≡ not (is_locked_out (Some m) (Some lid))
-may_lock m lid = swap m lid ∙ sym (not_not (eqb lid m))
+pub own_number_not_locked_out : (m lid : ℕ) → eqb m lid ≡ not (is_locked_out (Some m) (Some lid))
+own_number_not_locked_out m lid = swap m lid ∙ sym (not_not (eqb lid m))
 
 -- ---- the lock after an act
 
-pub lock_free : (lid : ℕ) (acts : List LinkAct) → ((n : ℕ) → is_locked n acts ≡ false)
+pub lock_taken_when_free : (lid : ℕ) (acts : List LinkAct) → ((n : ℕ) → is_locked n acts ≡ false)
     → (n : ℕ) → is_locked n (Locked lid ∷ acts) ≡ is_this n (Some lid)
-lock_free lid acts h n = elim (cases_Bool (eqb lid n)) [ inl e ↦ rw e refl | inr e ↦ rw e (h n) ]
+lock_taken_when_free lid acts h n = elim (cases_Bool (eqb lid n)) [ inl e ↦ rw e refl | inr e ↦ rw e (h n) ]
 
-pub lock_again : (lid : ℕ) (acts : List LinkAct) → ((n : ℕ) → is_locked n acts ≡ eqb lid n)
+pub lock_taken_again : (lid : ℕ) (acts : List LinkAct) → ((n : ℕ) → is_locked n acts ≡ eqb lid n)
     → (n : ℕ) → is_locked n (Locked lid ∷ acts) ≡ is_this n (Some lid)
-lock_again lid acts h n = elim (cases_Bool (eqb lid n)) [ inl e ↦ rw e refl | inr e ↦ rw e (h n ∙ e) ]
+lock_taken_again lid acts h n = elim (cases_Bool (eqb lid n)) [ inl e ↦ rw e refl | inr e ↦ rw e (h n ∙ e) ]
 
 pub lock_unlocked : (lid : ℕ) (acts : List LinkAct) → ((n : ℕ) → is_locked n acts ≡ eqb lid n)
     → (n : ℕ) → is_locked n (Unlocked lid ∷ acts) ≡ false
 lock_unlocked lid acts h n = elim (cases_Bool (eqb lid n)) [ inl e ↦ rw e refl | inr e ↦ rw e (h n ∙ e) ]
 
 -- The lock holder after a link is destroyed: none if it was this link.
-abbrev pub freed : ℕ → Option ℕ → Option ℕ
-freed lid None = None
-freed lid (Some m) = cond (eqb m lid) None (Some m)
+abbrev pub holder_after_destroying : ℕ → Option ℕ → Option ℕ
+holder_after_destroying lid None = None
+holder_after_destroying lid (Some m) = cond (eqb m lid) None (Some m)
 
 pub lock_destroyed : (lid : ℕ) (o : Option ℕ) (acts : List LinkAct) → ((n : ℕ) → is_locked n acts ≡ is_this n o)
-    → (n : ℕ) → is_locked n (Destroyed lid ∷ acts) ≡ is_this n (freed lid o)
+    → (n : ℕ) → is_locked n (Destroyed lid ∷ acts) ≡ is_this n (holder_after_destroying lid o)
 lock_destroyed lid None acts h n = elim (cases_Bool (eqb lid n)) [ inl e ↦ rw e refl | inr e ↦ rw e (h n) ]
 lock_destroyed lid (Some m) acts h n = elim (cases_Bool (eqb m lid)) [
   | inl k ↦ elim (cases_Bool (eqb lid n)) [
@@ -104,15 +104,15 @@ not_false : (b : Bool) → not b ≡ false → b ≡ true
 not_false true e = refl
 not_false false e = absurd (true≢false e)
 
-pub other_holds : (lid : ℕ) (o : Option ℕ) (r : Bool) → r ≡ not (option_eq eqb o (Some lid)) → r ≡ true → false ≡ is_this lid o
-other_holds lid o r told e = sym (not_true (option_eq eqb o (Some lid)) (sym told ∙ e)) ∙ this_is lid o
+pub other_link_holds : (lid : ℕ) (o : Option ℕ) (r : Bool) → r ≡ not (option_eq eqb o (Some lid)) → r ≡ true → false ≡ is_this lid o
+other_link_holds lid o r told e = sym (not_true (option_eq eqb o (Some lid)) (sym told ∙ e)) ∙ this_is lid o
 
-pub this_holds : (lid : ℕ) (o : Option ℕ) (r : Bool) → r ≡ not (option_eq eqb o (Some lid)) → r ≡ false → true ≡ is_this lid o
-this_holds lid o r told e = sym (not_false (option_eq eqb o (Some lid)) (sym told ∙ e)) ∙ this_is lid o
+pub this_link_holds : (lid : ℕ) (o : Option ℕ) (r : Bool) → r ≡ not (option_eq eqb o (Some lid)) → r ≡ false → true ≡ is_this lid o
+this_link_holds lid o r told e = sym (not_false (option_eq eqb o (Some lid)) (sym told ∙ e)) ∙ this_is lid o
 
-pub is_holder : (lid : ℕ) (o : Option ℕ) → true ≡ is_this lid o → o ≡ Some lid
-is_holder lid None e = absurd (true≢false e)
-is_holder lid (Some m) e = ap Some (eqb-true m lid (sym e))
+pub holder_is_this_link : (lid : ℕ) (o : Option ℕ) → true ≡ is_this lid o → o ≡ Some lid
+holder_is_this_link lid None e = absurd (true≢false e)
+holder_is_this_link lid (Some m) e = ap Some (eqb-true m lid (sym e))
 
 pub is_table_unlocked : (table : Table) (lid : ℕ) (acts : List LinkAct) → true ≡ is_this lid table.holder → IsTable table acts
     → IsTable (record table { holder = None }) (Unlocked lid ∷ acts)
@@ -120,7 +120,7 @@ is_table_unlocked table lid acts holds is = record {
   made = is.made;
   kept = is.kept;
   rising = is.rising;
-  lock = lock_unlocked lid acts (λ n. is.lock n ∙ ap (is_this n) (is_holder lid table.holder holds));
+  lock = lock_unlocked lid acts (λ n. is.lock n ∙ ap (is_this n) (holder_is_this_link lid table.holder holds));
 }
 
 pub is_table_locked : (table : Table) (lid : ℕ) (acts : List LinkAct) → table.holder ≡ None → IsTable table acts
@@ -129,7 +129,7 @@ is_table_locked table lid acts none is = record {
   made = is.made;
   kept = is.kept;
   rising = is.rising;
-  lock = lock_free lid acts (λ n. is.lock n ∙ ap (is_this n) none);
+  lock = lock_taken_when_free lid acts (λ n. is.lock n ∙ ap (is_this n) none);
 }
 
 pub is_table_locked_again : (table : Table) (lid : ℕ) (acts : List LinkAct) → table.holder ≡ Some lid → IsTable table acts
@@ -138,5 +138,5 @@ is_table_locked_again table lid acts holds is = record {
   made = is.made;
   kept = is.kept;
   rising = is.rising;
-  lock = λ n. lock_again lid acts (λ n. is.lock n ∙ ap (is_this n) holds) n ∙ ap (is_this n) (sym holds);
+  lock = λ n. lock_taken_again lid acts (λ n. is.lock n ∙ ap (is_this n) holds) n ∙ ap (is_this n) (sym holds);
 }

@@ -5,11 +5,11 @@ use Rattle.sv_links.specs.Waiting.{WaitAct, Entered, Again, Left, waits, arrival
 use Rattle.sv_links.proofs.Queues.{newest_le}
 
 -- No two calls were suspended by the same act.
-same_arrival : (acts : List WaitAct) (c d : ℕ) → (arrival c acts ≡ 0 → ⊥) → arrival c acts ≡ arrival d acts → c ≡ d
-same_arrival [] c d came same = absurd (came refl)
-same_arrival (Again conn wait last ∷ acts) c d came same = same_arrival acts c d came same
-same_arrival (Left conn ∷ acts) c d came same = same_arrival acts c d came same
-same_arrival (Entered conn link wait last ∷ acts) c d came same = elim (cases_Bool (eqb conn c)) [
+arrival_unique : (acts : List WaitAct) (c d : ℕ) → (arrival c acts ≡ 0 → ⊥) → arrival c acts ≡ arrival d acts → c ≡ d
+arrival_unique [] c d came same = absurd (came refl)
+arrival_unique (Again conn wait last ∷ acts) c d came same = arrival_unique acts c d came same
+arrival_unique (Left conn ∷ acts) c d came same = arrival_unique acts c d came same
+arrival_unique (Entered conn link wait last ∷ acts) c d came same = elim (cases_Bool (eqb conn c)) [
   | inl e ↦ elim (cases_Bool (eqb conn d)) [
     | inl k ↦ sym (eqb-true conn c e) ∙ eqb-true conn d k
     | inr k ↦ let same : suc (length acts) ≡ arrival d acts = rw (e, k) at same in
@@ -18,7 +18,7 @@ same_arrival (Entered conn link wait last ∷ acts) c d came same = elim (cases_
   | inr e ↦ elim (cases_Bool (eqb conn d)) [
     | inl k ↦ let same : arrival c acts ≡ suc (length acts) = rw (e, k) at same in
         absurd (omega (arith, same, newest_le (enters c) acts))
-    | inr k ↦ same_arrival acts c d (rw e at came) (rw (e, k) at same)
+    | inr k ↦ arrival_unique acts c d (rw e at came) (rw (e, k) at same)
   ]
 ]
 
@@ -31,23 +31,23 @@ one acts IsSuch (Some c) None same h k = absurd (k c h.0)
 one acts IsSuch (Some c) (Some d) same h k = ap Some (same c d h.0 k.0 (omega (arith, h.1 d k.0, k.1 c h.0)))
 
 -- A suspended call was suspended by an act.
-waits_came : (c : ℕ) (acts : List WaitAct) → (waits c acts ≡ None → ⊥) → arrival c acts ≡ 0 → ⊥
-waits_came c [] does = λ e. does refl
-waits_came c (Entered conn link wait last ∷ acts) does = elim (cases_Bool (eqb conn c)) [
+suspended_has_arrival : (c : ℕ) (acts : List WaitAct) → (waits c acts ≡ None → ⊥) → arrival c acts ≡ 0 → ⊥
+suspended_has_arrival c [] does = λ e. does refl
+suspended_has_arrival c (Entered conn link wait last ∷ acts) does = elim (cases_Bool (eqb conn c)) [
   | inl e ↦ rw e (λ none. omega (arith, none))
-  | inr e ↦ rw e (waits_came c acts (rw e at does))
+  | inr e ↦ rw e (suspended_has_arrival c acts (rw e at does))
 ]
-waits_came c (Again conn wait last ∷ acts) does = elim (cases_Bool (eqb conn c)) [
-  | inl e ↦ waits_came c acts (λ none. (rw (e, none) at does) refl)
-  | inr e ↦ waits_came c acts (rw e at does)
+suspended_has_arrival c (Again conn wait last ∷ acts) does = elim (cases_Bool (eqb conn c)) [
+  | inl e ↦ suspended_has_arrival c acts (λ none. (rw (e, none) at does) refl)
+  | inr e ↦ suspended_has_arrival c acts (rw e at does)
 ]
-waits_came c (Left conn ∷ acts) does = elim (cases_Bool (eqb conn c)) [
+suspended_has_arrival c (Left conn ∷ acts) does = elim (cases_Bool (eqb conn c)) [
   | inl e ↦ absurd ((rw e at does) refl)
-  | inr e ↦ waits_came c acts (rw e at does)
+  | inr e ↦ suspended_has_arrival c acts (rw e at does)
 ]
 
 -- If only suspended calls have the property, at most one of them is the oldest.
-pub one_oldest : (acts : List WaitAct) (IsSuch : ℕ → Type 0) (a b : Option ℕ) → ((c : ℕ) → IsSuch c → waits c acts ≡ None → ⊥)
+pub oldest_unique : (acts : List WaitAct) (IsSuch : ℕ → Type 0) (a b : Option ℕ) → ((c : ℕ) → IsSuch c → waits c acts ≡ None → ⊥)
     → IsOldest acts IsSuch a → IsOldest acts IsSuch b → a ≡ b
-one_oldest acts IsSuch a b does h k = one acts IsSuch a b
-    (λ c d x y same. same_arrival acts c d (waits_came c acts (does c x)) same) h k
+oldest_unique acts IsSuch a b does h k = one acts IsSuch a b
+    (λ c d x y same. arrival_unique acts c d (suspended_has_arrival c acts (does c x)) same) h k

@@ -248,15 +248,15 @@ anew_none conn wait last (x ∷ xs) h = rw (ne_eqb x.conn conn h.0, anew_none co
 
 -- ---- at most one entry for each connection
 
-pub kept_free : (n : ℕ) (xs : List Entry) → IsFree n xs → filter (other_than n) xs ≡ xs
-kept_free n [] h = refl
-kept_free n (x ∷ xs) h = rw (ne_eqb x.conn n h.0, kept_free n xs h.1) refl
+pub without_free : (n : ℕ) (xs : List Entry) → IsFree n xs → filter (other_than n) xs ≡ xs
+without_free n [] h = refl
+without_free n (x ∷ xs) h = rw (ne_eqb x.conn n h.0, without_free n xs h.1) refl
 
-one_less : (n : ℕ) (xs : List Entry) → IsOnce xs → length xs ≤ length (filter (other_than n) xs) + 1
-one_less n [] h = omega arith
-one_less n (x ∷ xs) h = elim (cases_Bool (eqb x.conn n)) [
-  | inl e ↦ let free : IsFree n xs = rw (← eqb-true x.conn n e) h.0 in rw (e, kept_free n xs free) (omega arith)
-  | inr e ↦ rw e (omega (arith, one_less n xs h.1))
+at_most_one_less : (n : ℕ) (xs : List Entry) → IsOnce xs → length xs ≤ length (filter (other_than n) xs) + 1
+at_most_one_less n [] h = omega arith
+at_most_one_less n (x ∷ xs) h = elim (cases_Bool (eqb x.conn n)) [
+  | inl e ↦ let free : IsFree n xs = rw (← eqb-true x.conn n e) h.0 in rw (e, without_free n xs free) (omega arith)
+  | inr e ↦ rw e (omega (arith, at_most_one_less n xs h.1))
 ]
 
 pub below_less : (n : ℕ) (xs : List Entry) → IsBelow (suc n) xs → IsBelow n (filter (other_than n) xs)
@@ -266,32 +266,33 @@ below_less n (x ∷ xs) h = elim (cases_Bool (eqb x.conn n)) [
   | inr e ↦ let apart : x.conn ≢ n = eqb-false x.conn n e in rw e (omega (arith, h.0, apart), below_less n xs h.1)
 ]
 
-pub at_most : (n : ℕ) (xs : List Entry) → IsOnce xs → IsBelow n xs → length xs ≤ n
-at_most zero [] once below = omega arith
-at_most zero (x ∷ xs) once below = absurd (omega (arith, below.0))
-at_most (suc n) xs once below =
-    let rest = at_most n (filter (other_than n) xs) (once_filter (other_than n) xs once) (below_less n xs below) in
-    omega (arith, rest, one_less n xs once)
+pub entries_at_most : (n : ℕ) (xs : List Entry) → IsOnce xs → IsBelow n xs → length xs ≤ n
+entries_at_most zero [] once below = omega arith
+entries_at_most zero (x ∷ xs) once below = absurd (omega (arith, below.0))
+entries_at_most (suc n) xs once below =
+    let rest = entries_at_most n (filter (other_than n) xs) (once_filter (other_than n) xs once) (below_less n xs below) in
+    omega (arith, rest, at_most_one_less n xs once)
 
 -- If a connection has no entry, the queue isn't full.
-pub has_room : (entry : Entry) (n : ℕ) (xs : List Entry) → IsFree entry.conn xs → entry.conn < n → IsOnce xs → IsBelow n xs → length xs < n
-has_room entry n xs free lt once below =
-    let most = at_most n (entry ∷ xs) (free, once) (lt, below) in omega (arith, most)
+pub queue_has_room : (entry : Entry) (n : ℕ) (xs : List Entry) → IsFree entry.conn xs → entry.conn < n → IsOnce xs → IsBelow n xs
+    → length xs < n
+queue_has_room entry n xs free lt once below =
+    let most = entries_at_most n (entry ∷ xs) (free, once) (lt, below) in omega (arith, most)
 
 -- ---- the first entry with a property is the oldest
 
-abbrev pub Among : ℕ → List Entry → Type 0
-Among c [] = ⊥
-Among c (x ∷ xs) = (x.conn ≡ c) ⊎ Among c xs
+abbrev pub HasEntryOf : ℕ → List Entry → Type 0
+HasEntryOf c [] = ⊥
+HasEntryOf c (x ∷ xs) = (x.conn ≡ c) ⊎ HasEntryOf c xs
 
-pub among_from_find : (c : ℕ) (xs : List Entry) → (entry_of c xs ≡ None → ⊥) → Among c xs
-among_from_find c [] h = absurd (h refl)
-among_from_find c (x ∷ xs) h = elim (cases_Bool (eqb x.conn c)) [
+pub entry_from_find : (c : ℕ) (xs : List Entry) → (entry_of c xs ≡ None → ⊥) → HasEntryOf c xs
+entry_from_find c [] h = absurd (h refl)
+entry_from_find c (x ∷ xs) h = elim (cases_Bool (eqb x.conn c)) [
   | inl e ↦ inl (eqb-true x.conn c e)
-  | inr e ↦ inr (among_from_find c xs (rw e at h))
+  | inr e ↦ inr (entry_from_find c xs (rw e at h))
 ]
 
-later : (acts : List WaitAct) (n c : ℕ) (xs : List Entry) → AllByRecursion (λ x. n < arrival x.conn acts) xs → Among c xs
+later : (acts : List WaitAct) (n c : ℕ) (xs : List Entry) → AllByRecursion (λ x. n < arrival x.conn acts) xs → HasEntryOf c xs
     → n ≤ arrival c acts
 later acts n c [] h k = absurd k
 later acts n c (x ∷ xs) h (inl e) = rw (← e) (omega (arith, h.0))
@@ -299,7 +300,7 @@ later acts n c (x ∷ xs) h (inr k) = later acts n c xs h.1 k
 
 first_oldest : (acts : List WaitAct) (IsSuch : ℕ → Type 0) (test : Entry → Bool)
     → ((x : Entry) → IsEntry acts x → test x ≡ true → IsSuch x.conn) → ((x : Entry) → IsEntry acts x → IsSuch x.conn → test x ≡ true)
-    → (xs : List Entry) → AllByRecursion (IsEntry acts) xs → IsOrdered acts xs → ((c : ℕ) → IsSuch c → Among c xs)
+    → (xs : List Entry) → AllByRecursion (IsEntry acts) xs → IsOrdered acts xs → ((c : ℕ) → IsSuch c → HasEntryOf c xs)
     → IsOldest acts IsSuch (option_map (λ x. x.conn) (find test xs))
 first_oldest acts IsSuch test sound complete [] each ordered among = λ c such. among c such
 first_oldest acts IsSuch test sound complete (x ∷ xs) each ordered among = elim (cases_Bool (test x)) [
@@ -320,11 +321,11 @@ pub is_oldest_find : (acts : List WaitAct) (IsSuch : ℕ → Type 0) (test : Ent
     → ((x : Entry) → IsEntry acts x → test x ≡ true → IsSuch x.conn) → ((x : Entry) → IsEntry acts x → IsSuch x.conn → test x ≡ true)
     → ((c : ℕ) → IsSuch c → waits c acts ≡ None → ⊥) → IsQueue xs acts → IsOldest acts IsSuch (option_map (λ x. x.conn) (find test xs))
 is_oldest_find acts IsSuch test xs sound complete does is = first_oldest acts IsSuch test sound complete xs is.each is.ordered
-    (λ c such. among_from_find c xs (λ none. does c such (is.all c ∙ ap (option_map (λ x. x.wait)) none)))
+    (λ c such. entry_from_find c xs (λ none. does c such (is.all c ∙ ap (option_map (λ x. x.wait)) none)))
 
-there : (holder : Option ℕ) (can_write can_read : Bool) (acts : List WaitAct) (x : Entry) → IsEntry acts x
+able_by_entry : (holder : Option ℕ) (can_write can_read : Bool) (acts : List WaitAct) (x : Entry) → IsEntry acts x
     → is_there holder can_write can_read (link x.conn acts) (waits x.conn acts) ≡ is_there holder can_write can_read x.lid (Some x.wait)
-there holder can_write can_read acts x each =
+able_by_entry holder can_write can_read acts x each =
     ap (λ named. is_there holder can_write can_read named (waits x.conn acts)) each.2 ∙ ap (is_there holder can_write can_read x.lid) each.0
 
 pub oldest_able : (holder : Option ℕ) (can_write can_read : Bool) (acts : List WaitAct) (xs : List Entry) → IsQueue xs acts
@@ -332,12 +333,13 @@ pub oldest_able : (holder : Option ℕ) (can_write can_read : Bool) (acts : List
     (option_map (λ x. x.conn) (find (λ x. is_there holder can_write can_read x.lid (Some x.wait)) xs))
 oldest_able holder can_write can_read acts xs is =
     is_oldest_find acts (IsAble holder can_write can_read acts) (λ x. is_there holder can_write can_read x.lid (Some x.wait)) xs
-    (λ x each e. there holder can_write can_read acts x each ∙ e) (λ x each such. sym (there holder can_write can_read acts x each) ∙ such)
+    (λ x each e. able_by_entry holder can_write can_read acts x each ∙ e)
+        (λ x each such. sym (able_by_entry holder can_write can_read acts x each) ∙ such)
     (λ c such none. false≢true (rw none at such)) is
 
-past : (clock : ℕ) (o : Option ℕ) → is_past clock o ≡ true → (last : ℕ) × (o ≡ Some last) × (last ≤ clock)
-past clock None e = absurd (false≢true e)
-past clock (Some last) e = (last, refl, leb-true last clock e)
+deadline_is_past : (clock : ℕ) (o : Option ℕ) → is_past clock o ≡ true → (last : ℕ) × (o ≡ Some last) × (last ≤ clock)
+deadline_is_past clock None e = absurd (false≢true e)
+deadline_is_past clock (Some last) e = (last, refl, leb-true last clock e)
 
 some≢none : (wait : Wait) (o : Option Wait) → o ≡ Some wait → o ≡ None → ⊥
 some≢none wait o some none = true≢false (ap is_some (sym some ∙ none))
@@ -345,7 +347,7 @@ some≢none wait o some none = true≢false (ap is_some (sym some ∙ none))
 pub oldest_expired : (clock : ℕ) (acts : List WaitAct) (xs : List Entry) → IsQueue xs acts
     → IsOldest acts (IsExpired clock acts) (option_map (λ x. x.conn) (find (λ x. is_past clock x.deadline) xs))
 oldest_expired clock acts xs is = is_oldest_find acts (IsExpired clock acts) (λ x. is_past clock x.deadline) xs
-    (λ x each e. let found = past clock x.deadline e in (x.wait, found.0, each.0, each.1 ∙ found.1, found.2))
+    (λ x each e. let found = deadline_is_past clock x.deadline e in (x.wait, found.0, each.0, each.1 ∙ found.1, found.2))
     (λ x each such. rw (sym each.1 ∙ such.3) (le-leb such.1 clock such.4))
     (λ c such none. some≢none such.0 (waits c acts) such.2 none) is
 

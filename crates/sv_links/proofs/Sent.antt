@@ -12,7 +12,7 @@ use Rattle.sv_links.specs.Limits.{max_calls}
 use Rattle.sv_links.specs.Request.{request}
 use Rattle.sv_links.specs.Channels.{calls_left, may_call, add_call}
 use Rattle.sv_links.specs.ChannelRepresentation.{Channel, IsQueued, left_in}
-use Rattle.sv_links.proofs.Left.{left_sizes, left_bytes, left_left, left_push}
+use Rattle.sv_links.proofs.Left.{left_sizes, left_bytes, calls_left_twice, calls_left_append}
 use Rattle.sv_links.proofs.Requests.{request_is_some}
 
 -- The peer takes bytes.
@@ -21,8 +21,9 @@ pub is_queued_taken : (old new : Channel) (before count : ℕ) (calls : List (Li
     → IsQueued old before calls → IsQueued new (before + count) calls
 is_queued_taken old new before count calls made sizes bytes within is = (
   made ∙ is.0,
-  sizes ∙ ap (left_in count) is.1 ∙ sym (left_sizes count (calls_left before calls)) ∙ ap (map length) (left_left before count calls),
-  bytes ∙ ap (drop count) is.2 ∙ sym (left_bytes count (calls_left before calls)) ∙ ap concat (left_left before count calls),
+  sizes ∙ ap (left_in count) is.1 ∙ sym (left_sizes count (calls_left before calls))
+      ∙ ap (map length) (calls_left_twice before count calls),
+  bytes ∙ ap (drop count) is.2 ∙ sym (left_bytes count (calls_left before calls)) ∙ ap concat (calls_left_twice before count calls),
   omega (arith, within, ap length is.2, ap length (left_bytes before calls), length-drop before (concat calls), is.3),
 )
 
@@ -34,7 +35,7 @@ pub is_queued_called : (old new : Channel) (count : ℕ) (calls : List (List ℕ
     → new.sizes ≡ old.sizes ++ length call ∷ [] → new.bytes ≡ old.bytes ++ call → 0 < length call
     → IsQueued old count calls → IsQueued new count (calls ++ call ∷ [])
 is_queued_called old new count calls call made sizes bytes some is =
-    let left = left_push count calls call some is.3 in (
+    let left = calls_left_append count calls call some is.3 in (
       made ∙ ap (λ (n : ℕ). n + 1) is.0 ∙ sym (length_push calls call),
       sizes ∙ ap (λ (ns : List ℕ). ns ++ length call ∷ []) is.1 ∙ sym (map_push length (calls_left count calls) call)
           ∙ ap (map length) (sym left),
@@ -48,23 +49,23 @@ sizes_are : (kept : Channel) (count : ℕ) (calls : List (List ℕ)) → IsQueue
     → length kept.sizes ≡ length (calls_left count calls)
 sizes_are kept count calls is = ap length is.1 ∙ length-map (calls_left count calls) length
 
-pub may_be_sent : (kept : Channel) (count : ℕ) (calls : List (List ℕ)) → IsQueued kept count calls → length kept.sizes < max_calls
+pub may_call_with_room : (kept : Channel) (count : ℕ) (calls : List (List ℕ)) → IsQueued kept count calls → length kept.sizes < max_calls
     → kept.made < 4294967295 → may_call count calls ≡ true
-may_be_sent kept count calls is h k =
+may_call_with_room kept count calls is h k =
     rw (← sizes_are kept count calls is, ← is.0, lt-ltb (length kept.sizes) max_calls h, lt-ltb kept.made 4294967295 k) refl
 
 and_false : (b : Bool) (m : ℕ) → 4294967295 ≤ m → (b && nat_lt m 4294967295) ≡ false
 and_false true m h = rw (le-ltb m 4294967295 h) refl
 and_false false m h = refl
 
-pub is_last : (kept : Channel) (count : ℕ) (calls : List (List ℕ)) → IsQueued kept count calls → 4294967295 ≤ kept.made
+pub no_number_is_left : (kept : Channel) (count : ℕ) (calls : List (List ℕ)) → IsQueued kept count calls → 4294967295 ≤ kept.made
     → may_call count calls ≡ false
-is_last kept count calls is h =
+no_number_is_left kept count calls is h =
     rw (← is.0) (and_false (nat_lt (length (calls_left count calls)) max_calls) kept.made h)
 
 -- The calls, with one more if it may be appended.
-abbrev with_call : Peer → List ℕ → List (List ℕ) → Bool → List (List ℕ)
-with_call peer handle calls can = if can then calls ++ request (length calls + 1) peer handle ∷ [] else calls
+abbrev calls_with_one_more : Peer → List ℕ → List (List ℕ) → Bool → List (List ℕ)
+calls_with_one_more peer handle calls can = if can then calls ++ request (length calls + 1) peer handle ∷ [] else calls
 
 -- If the queue has room and a number is left, the call is appended.
 pub is_queued_sent : (old new : Channel) (peer : Peer) (handle : List ℕ) (count : ℕ) (calls : List (List ℕ)) (size : ℕ)
@@ -76,7 +77,8 @@ is_queued_sent old new peer handle count calls size made sizes bytes total few l
     let bytes : new.bytes ≡ old.bytes ++ call = bytes ∙ ap (λ (n : ℕ). old.bytes ++ request (n + 1) peer handle) is.0 in
     let size_is : size ≡ length call = omega (arith, total, ap length bytes, length-append old.bytes call) in
     let sizes = sizes ∙ ap (λ (n : ℕ). old.sizes ++ n ∷ []) size_is in
-    subst (λ (can : Bool). IsQueued new count (with_call peer handle calls can)) (sym (may_be_sent old count calls is few left))
+    subst (λ (can : Bool). IsQueued new count (calls_with_one_more peer handle calls can))
+        (sym (may_call_with_room old count calls is few left))
     (is_queued_called old new count calls call made sizes bytes (request_is_some (length calls + 1) peer handle) is)
 
 pub open≢closed : (stage : Stage) (peer : Peer) → stage ≡ Open peer → stage ≡ Closed → ⊥

@@ -59,8 +59,9 @@ count_keep p (Some x ∷ slots) = elim (cases_Bool (p x)) [
   | inr e ↦ rw e (omega (arith, count_keep p slots, count_some x slots, count_none (map (keep p) slots)))
 ]
 
-pub no_more : (p : Link → Bool) (old new : List (Option Link)) → new ≡ map (keep p) old → count_by is_some new ≤ count_by is_some old
-no_more p old new e = rw e (count_keep p old)
+pub retain_adds_none : (p : Link → Bool) (old new : List (Option Link)) → new ≡ map (keep p) old
+    → count_by is_some new ≤ count_by is_some old
+retain_adds_none p old new e = rw e (count_keep p old)
 
 -- ---- another link
 
@@ -71,47 +72,49 @@ some≢none : (x : Link) → Some x ≡ None → ⊥
 some≢none x e = true≢false (ap is_some e)
 
 -- Slots with the same contents at each key hold the same links.
-same_slots : (old new : List (Option Link)) (links : List Link) → ((key : ℕ) → at new key ≡ at old key)
+same_slots_same_links : (old new : List (Option Link)) (links : List Link) → ((key : ℕ) → at new key ≡ at old key)
     → IsKept old links → IsKept new links
-same_slots [] [] links same h = h
-same_slots [] (None ∷ new) links same h = same_slots [] new links (λ key. same (suc key)) h
-same_slots [] (Some y ∷ new) links same h = absurd (some≢none y (same 0))
-same_slots (None ∷ old) [] links same h = same_slots old [] links (λ key. same (suc key)) h
-same_slots (Some x ∷ old) [] links same h = absurd (some≢none x (sym (same 0)))
-same_slots (None ∷ old) (None ∷ new) links same h = same_slots old new links (λ key. same (suc key)) h
-same_slots (None ∷ old) (Some y ∷ new) links same h = absurd (some≢none y (same 0))
-same_slots (Some x ∷ old) (None ∷ new) links same h = absurd (some≢none x (sym (same 0)))
-same_slots (Some x ∷ old) (Some y ∷ new) links same h =
+same_slots_same_links [] [] links same h = h
+same_slots_same_links [] (None ∷ new) links same h = same_slots_same_links [] new links (λ key. same (suc key)) h
+same_slots_same_links [] (Some y ∷ new) links same h = absurd (some≢none y (same 0))
+same_slots_same_links (None ∷ old) [] links same h = same_slots_same_links old [] links (λ key. same (suc key)) h
+same_slots_same_links (Some x ∷ old) [] links same h = absurd (some≢none x (sym (same 0)))
+same_slots_same_links (None ∷ old) (None ∷ new) links same h = same_slots_same_links old new links (λ key. same (suc key)) h
+same_slots_same_links (None ∷ old) (Some y ∷ new) links same h = absurd (some≢none y (same 0))
+same_slots_same_links (Some x ∷ old) (None ∷ new) links same h = absurd (some≢none x (sym (same 0)))
+same_slots_same_links (Some x ∷ old) (Some y ∷ new) links same h =
     subst (λ slot. IsKept (slot ∷ new) links) (sym (same 0))
-    (h.0, h.1, h.2, same_slots old new (h.0 ++ h.1) (λ key. same (suc key)) h.3)
+    (h.0, h.1, h.2, same_slots_same_links old new (h.0 ++ h.1) (λ key. same (suc key)) h.3)
 
 apart_suc : (m n : ℕ) → m ≢ n → suc m ≢ suc n
 apart_suc m n apart e = apart (omega (arith, e))
 
 -- A link that is put into an empty slot is added to the links.
-pub kept_put : (old new : List (Option Link)) (key : ℕ) (x : Link) (links : List Link) → at old key ≡ None → at new key ≡ Some x
+pub kept_after_insert : (old new : List (Option Link)) (key : ℕ) (x : Link) (links : List Link) → at old key ≡ None → at new key ≡ Some x
     → ((other : ℕ) → other ≢ key → at new other ≡ at old other) → IsKept old links → IsKept new (links ++ x ∷ [])
-kept_put old [] key x links free put others h = absurd (some≢none x (sym put))
-kept_put [] (slot ∷ new) zero x links free put others h =
+kept_after_insert old [] key x links free put others h = absurd (some≢none x (sym put))
+kept_after_insert [] (slot ∷ new) zero x links free put others h =
     subst (λ slot. IsKept (slot ∷ new) (links ++ x ∷ [])) (sym put)
-    (links, [], refl, rw (append-nil links) (same_slots [] new links (λ key. others (suc key) (λ e. absurd (omega (arith, e)))) h))
-kept_put (None ∷ old) (slot ∷ new) zero x links free put others h =
+    (links, [], refl, rw (append-nil links)
+        (same_slots_same_links [] new links (λ key. others (suc key) (λ e. absurd (omega (arith, e)))) h))
+kept_after_insert (None ∷ old) (slot ∷ new) zero x links free put others h =
     subst (λ slot. IsKept (slot ∷ new) (links ++ x ∷ [])) (sym put)
-    (links, [], refl, rw (append-nil links) (same_slots old new links (λ key. others (suc key) (λ e. absurd (omega (arith, e)))) h))
-kept_put (Some y ∷ old) (slot ∷ new) zero x links free put others h = absurd (some≢none y free)
-kept_put [] (slot ∷ new) (suc key) x links free put others h =
+    (links, [], refl, rw (append-nil links)
+        (same_slots_same_links old new links (λ key. others (suc key) (λ e. absurd (omega (arith, e)))) h))
+kept_after_insert (Some y ∷ old) (slot ∷ new) zero x links free put others h = absurd (some≢none y free)
+kept_after_insert [] (slot ∷ new) (suc key) x links free put others h =
     subst (λ slot. IsKept (slot ∷ new) (links ++ x ∷ [])) (sym (others 0 (λ e. absurd (omega (arith, e)))))
-    (kept_put [] new key x links refl put (λ other apart. others (suc other) (apart_suc other key apart)) h)
-kept_put (None ∷ old) (slot ∷ new) (suc key) x links free put others h =
+    (kept_after_insert [] new key x links refl put (λ other apart. others (suc other) (apart_suc other key apart)) h)
+kept_after_insert (None ∷ old) (slot ∷ new) (suc key) x links free put others h =
     subst (λ slot. IsKept (slot ∷ new) (links ++ x ∷ [])) (sym (others 0 (λ e. absurd (omega (arith, e)))))
-    (kept_put old new key x links free put (λ other apart. others (suc other) (apart_suc other key apart)) h)
-kept_put (Some y ∷ old) (slot ∷ new) (suc key) x links free put others h =
+    (kept_after_insert old new key x links free put (λ other apart. others (suc other) (apart_suc other key apart)) h)
+kept_after_insert (Some y ∷ old) (slot ∷ new) (suc key) x links free put others h =
     subst (λ slot. IsKept (slot ∷ new) (links ++ x ∷ [])) (sym (others 0 (λ e. absurd (omega (arith, e))))) (
       h.0,
       h.1 ++ x ∷ [],
       ap (λ (xs : List Link). xs ++ x ∷ []) h.2 ∙ append_assoc h.0 (y ∷ h.1) (x ∷ []),
       subst (IsKept new) (append_assoc h.0 h.1 (x ∷ []))
-          (kept_put old new key x (h.0 ++ h.1) free put (λ other apart. others (suc other) (apart_suc other key apart)) h.3),
+          (kept_after_insert old new key x (h.0 ++ h.1) free put (λ other apart. others (suc other) (apart_suc other key apart)) h.3),
     )
 
 -- ---- the slab's retain

@@ -19,11 +19,11 @@ since_empty {A} F K = (
 )
 
 -- `F` holds after the newest act, or the search succeeded before that act.
-newest_or : {A : Type 0} (F K : List A → Type 0) (a : A) (log : List A) (ago : ℕ) → ago ≤ length (a ∷ log) → F (drop ago (a ∷ log))
+since_to_either : {A : Type 0} (F K : List A → Type 0) (a : A) (log : List A) (ago : ℕ) → ago ≤ length (a ∷ log) → F (drop ago (a ∷ log))
     → ((n : ℕ) → n ≤ ago → K (drop n (a ∷ log)))
     → F (a ∷ log) ⊎ Since F K log
-newest_or F K a log zero within found kept = inl found
-newest_or F K a log (suc ago) within found kept =
+since_to_either F K a log zero within found kept = inl found
+since_to_either F K a log (suc ago) within found kept =
     inr (record { ago = ago; within = omega arith; found = found; kept = λ n le. kept (suc n) (omega arith) })
 
 -- `K` holds after the newest act, and after each older act since the find.
@@ -36,17 +36,18 @@ kept_here : {A : Type 0} (K : List A → Type 0) (a : A) (log : List A) → K (a
 kept_here K a log k zero le = k
 kept_here K a log k (suc n) le = absurd (omega arith)
 
-found_or : {A : Type 0} (F K : List A → Type 0) (a : A) (log : List A) → K (a ∷ log) → F (a ∷ log) ⊎ Since F K log → Since F K (a ∷ log)
-found_or F K a log k (inl f) = record { ago = 0; within = omega arith; found = f; kept = kept_here K a log k }
-found_or F K a log k (inr s) = let within = s.within in
+since_from_either : {A : Type 0} (F K : List A → Type 0) (a : A) (log : List A) → K (a ∷ log) → F (a ∷ log) ⊎ Since F K log
+    → Since F K (a ∷ log)
+since_from_either F K a log k (inl f) = record { ago = 0; within = omega arith; found = f; kept = kept_here K a log k }
+since_from_either F K a log k (inr s) = let within = s.within in
     record { ago = suc s.ago; within = omega arith; found = s.found; kept = kept_more K a log s.ago k s.kept }
 
 -- One more act: `K` has to hold after it, and `F` holds after it or the search succeeded before.
 pub since_step : {A : Type 0} (F K : List A → Type 0) (a : A) (log : List A)
     → Since F K (a ∷ log) ↔ (K (a ∷ log) × (F (a ∷ log) ⊎ Since F K log))
 since_step F K a log = (
-  (λ (s : Since F K (a ∷ log)). (s.kept 0 (omega arith), newest_or F K a log s.ago s.within s.found s.kept)),
-  (λ (h : K (a ∷ log) × (F (a ∷ log) ⊎ Since F K log)). found_or F K a log h.0 h.1),
+  (λ (s : Since F K (a ∷ log)). (s.kept 0 (omega arith), since_to_either F K a log s.ago s.within s.found s.kept)),
+  (λ (h : K (a ∷ log) × (F (a ∷ log) ⊎ Since F K log)). since_from_either F K a log h.0 h.1),
 )
 
 -- If `K` holds after the act, the search succeeds if `F` holds, or if it succeeded before.
@@ -57,9 +58,9 @@ since_kept F K a log k =
     ((λ (s : Since F K (a ∷ log)). (law.0 s).1), (λ (h : F (a ∷ log) ⊎ Since F K log). law.1 (k, h)))
 
 -- If `F` doesn't hold after the act, and `K` holds if something was found, the act changes nothing.
-pub since_over : {A : Type 0} (F K : List A → Type 0) (a : A) (log : List A) → (F (a ∷ log) → ⊥) → (Since F K log → K (a ∷ log))
+pub since_skips_act : {A : Type 0} (F K : List A → Type 0) (a : A) (log : List A) → (F (a ∷ log) → ⊥) → (Since F K log → K (a ∷ log))
     → Since F K (a ∷ log) ↔ Since F K log
-since_over F K a log none kept =
+since_skips_act F K a log none kept =
     let step = since_step F K a log in (
       (λ s. elim (step.0 s).1 [ inl f ↦ absurd (none f) | inr before ↦ before ]),
       (λ s. step.1 (kept s, inr s)),
@@ -67,20 +68,20 @@ since_over F K a log none kept =
 
 pub since_same : {A : Type 0} (F K : List A → Type 0) (a : A) (log : List A) → K (a ∷ log) → (F (a ∷ log) → ⊥)
     → Since F K (a ∷ log) ↔ Since F K log
-since_same F K a log k none = since_over F K a log none (λ before. k)
+since_same F K a log k none = since_skips_act F K a log none (λ before. k)
 
 -- If two logs agree on `F` and `K` after an act and on the search before it, they agree after it.
-pub since_alike : {A : Type 0} (F K : List A → Type 0) (a : A) (log other : List A) → F (a ∷ log) ↔ F (a ∷ other)
+pub since_agrees : {A : Type 0} (F K : List A → Type 0) (a : A) (log other : List A) → F (a ∷ log) ↔ F (a ∷ other)
     → K (a ∷ log) ↔ K (a ∷ other) → Since F K log ↔ Since F K other → Since F K (a ∷ log) ↔ Since F K (a ∷ other)
-since_alike F K a log other found kept before =
+since_agrees F K a log other found kept before =
     let one = since_step F K a log in
     let two = since_step F K a other in (
       (λ s. let h = one.0 s in two.1 (kept.0 h.0, elim h.1 [ inl f ↦ inl (found.0 f) | inr b ↦ inr (before.0 b) ])),
       (λ s. let h = two.0 s in one.1 (kept.1 h.0, elim h.1 [ inl f ↦ inl (found.1 f) | inr b ↦ inr (before.1 b) ])),
     )
 
-pub since_ended : {A : Type 0} (F K : List A → Type 0) (a : A) (log : List A) → (K (a ∷ log) → ⊥) → Since F K (a ∷ log) → ⊥
-since_ended F K a log ends s = ends ((since_step F K a log).0 s).0
+pub since_not_kept : {A : Type 0} (F K : List A → Type 0) (a : A) (log : List A) → (K (a ∷ log) → ⊥) → Since F K (a ∷ log) → ⊥
+since_not_kept F K a log ends s = ends ((since_step F K a log).0 s).0
 
 -- Any property with this recursion is equivalent to the search.
 pub since_unique : {A : Type 0} (F K P : List A → Type 0) → P [] ↔ (F [] × K [])
@@ -111,8 +112,8 @@ step_same k none same = ((λ p. (k, inr (same.0 p))), (λ h. elim h.1 [ inl f �
 pub step_ended : {F K P Q : Type 0} → (K → ⊥) → (P → ⊥) → P ↔ (K × (F ⊎ Q))
 step_ended ends none = ((λ p. absurd (none p)), (λ h. absurd (ends h.0)))
 
-pub then_same : {P Q R : Type 0} → P ↔ Q → Q ↔ R → P ↔ R
-then_same f g = ((λ p. g.0 (f.0 p)), (λ r. f.1 (g.1 r)))
+pub iff_transitive : {P Q R : Type 0} → P ↔ Q → Q ↔ R → P ↔ R
+iff_transitive f g = ((λ p. g.0 (f.0 p)), (λ r. f.1 (g.1 r)))
 
 -- ---- the search as a test
 

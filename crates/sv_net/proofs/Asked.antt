@@ -40,40 +40,40 @@ explain_replay : codes "explain" ≡ codes "replay" → ⊥
 explain_replay is = cc
 
 -- Words that ask for nothing by `replay`, `explain` or `serve` ask for nothing at all.
-pub none_asked : (texts : List Text)
+pub words_ask_nothing : (texts : List Text)
     → ((ports : Ports) → slice_get texts 0 ≡ Some (codes "replay") → AsksToReplay texts ports → ⊥)
     → ((ports : Ports) → slice_get texts 0 ≡ Some (codes "explain") → AsksToReplay texts ports → ⊥)
     → ((serve : Serve) → slice_get texts 0 ≡ Some (codes "serve") → AsksToServe texts serve → ⊥)
     → (asked : Words) → AsksFor texts asked → ⊥
-none_asked [] replay explain serve asked asks = asks
-none_asked (t ∷ ts) replay explain serve (Replay ports) asks = replay ports (ap Some asks.0) asks.1
-none_asked (t ∷ ts) replay explain serve (Explain ports) asks = explain ports (ap Some asks.0) asks.1
-none_asked (t ∷ ts) replay explain serve (Server server) asks = serve server (ap Some asks.0) asks.1
+words_ask_nothing [] replay explain serve asked asks = asks
+words_ask_nothing (t ∷ ts) replay explain serve (Replay ports) asks = replay ports (ap Some asks.0) asks.1
+words_ask_nothing (t ∷ ts) replay explain serve (Explain ports) asks = explain ports (ap Some asks.0) asks.1
+words_ask_nothing (t ∷ ts) replay explain serve (Server server) asks = serve server (ap Some asks.0) asks.1
 
 -- A fault in the options after the word `serve` is the fault of the whole command line.
 pub serve_fault : (texts : List Text) (fault : ProgramFault) → slice_get texts 0 ≡ Some (codes "serve")
     → ReadsWords (AsksToServe texts) (Err fault) → ReadsWords (AsksFor texts) (Err fault)
-serve_fault texts BadWords e none = none_asked texts (λ ports is asks. replay_serve (same_Some _ _ (sym is ∙ e)))
+serve_fault texts BadWords e none = words_ask_nothing texts (λ ports is asks. replay_serve (same_Some _ _ (sym is ∙ e)))
     (λ ports is asks. explain_serve (same_Some _ _ (sym is ∙ e))) (λ serve is asks. none serve asks)
 serve_fault texts (Run fault) e is = is
 serve_fault texts Socket e never = never
 
 pub replay_fault : (texts : List Text) (fault : ProgramFault) → slice_get texts 0 ≡ Some (codes "replay")
     → ReadsWords (AsksToReplay texts) (Err fault) → ReadsWords (AsksFor texts) (Err fault)
-replay_fault texts BadWords e none = none_asked texts (λ ports is asks. none ports asks)
+replay_fault texts BadWords e none = words_ask_nothing texts (λ ports is asks. none ports asks)
     (λ ports is asks. explain_replay (same_Some _ _ (sym is ∙ e))) (λ serve is asks. replay_serve (same_Some _ _ (sym e ∙ is)))
 replay_fault texts (Run fault) e is = is
 replay_fault texts Socket e never = never
 
 pub explain_fault : (texts : List Text) (fault : ProgramFault) → slice_get texts 0 ≡ Some (codes "explain")
     → ReadsWords (AsksToReplay texts) (Err fault) → ReadsWords (AsksFor texts) (Err fault)
-explain_fault texts BadWords e none = none_asked texts (λ ports is asks. explain_replay (same_Some _ _ (sym e ∙ is)))
+explain_fault texts BadWords e none = words_ask_nothing texts (λ ports is asks. explain_replay (same_Some _ _ (sym e ∙ is)))
     (λ ports is asks. none ports asks) (λ serve is asks. explain_serve (same_Some _ _ (sym e ∙ is)))
 explain_fault texts (Run fault) e is = is
 explain_fault texts Socket e never = never
 
 -- Any other first word asks for nothing.
-pub other_word : (texts : List Text) (word : Text) → slice_get texts 0 ≡ Some word → (word ≡ codes "replay" → ⊥)
+pub other_word_asks_nothing : (texts : List Text) (word : Text) → slice_get texts 0 ≡ Some word → (word ≡ codes "replay" → ⊥)
     → (word ≡ codes "explain" → ⊥) → (word ≡ codes "serve" → ⊥) → (asked : Words) → AsksFor texts asked → ⊥
-other_word texts word e replay explain serve = none_asked texts (λ ports is asks. replay (same_Some _ _ (sym e ∙ is)))
+other_word_asks_nothing texts word e replay explain serve = words_ask_nothing texts (λ ports is asks. replay (same_Some _ _ (sym e ∙ is)))
     (λ ports is asks. explain (same_Some _ _ (sym e ∙ is))) (λ server is asks. serve (same_Some _ _ (sym e ∙ is)))

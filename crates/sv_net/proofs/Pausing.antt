@@ -82,35 +82,35 @@ module _ {W J M : Type 0} (hears : W → Heard → W → Type 0) (notes : J → 
   pub no_wait : (left swept time : ℕ) (now : M) → Pauses hears notes answers driver is_quiet is_quiet left swept time time now now
   no_wait left swept time now = record { goes = λ sweeps many start first remain r. r }
 
-pub from_quiet : {W J M : Type 0} {hears : W → Heard → W → Type 0} {notes : J → List PlainEvent → J → Type 0}
+pub pauses_from_quiet : {W J M : Type 0} {hears : W → Heard → W → Type 0} {notes : J → List PlainEvent → J → Type 0}
     {answers : M → Doing W → M → Type 0} {driver : DriverState W J}
     {is_so : List (Doing W) → Bool} {left swept began time : ℕ} {old now : M}
     → Pauses hears notes answers driver is_told is_so left swept began time old now
     → Pauses hears notes answers driver is_quiet is_so left swept began time old now
-from_quiet {hears = hears} {notes = notes} {answers = answers} {driver = driver} pauses =
+pauses_from_quiet {hears = hears} {notes = notes} {answers = answers} {driver = driver} pauses =
     record {
       goes = λ sweeps many start first remain r. pauses.goes sweeps many start first remain
           (also hears notes answers driver told_where_quiet r);
     }
 
-pub to_fresh : {W J M : Type 0} {hears : W → Heard → W → Type 0} {notes : J → List PlainEvent → J → Type 0}
+pub pauses_to_fresh : {W J M : Type 0} {hears : W → Heard → W → Type 0} {notes : J → List PlainEvent → J → Type 0}
     {answers : M → Doing W → M → Type 0} {driver : DriverState W J}
     {was : List (Doing W) → Bool} {left swept began time : ℕ} {old now : M}
     → Pauses hears notes answers driver was is_quiet left swept began time old now
     → Pauses hears notes answers driver was is_fresh left swept began time old now
-to_fresh {hears = hears} {notes = notes} {answers = answers} {driver = driver} pauses =
+pauses_to_fresh {hears = hears} {notes = notes} {answers = answers} {driver = driver} pauses =
     record {
       goes = λ sweeps many start first remain r. also hears notes answers driver fresh_where_quiet
           (pauses.goes sweeps many start first remain r);
     }
 
-pub and_then : {W J M : Type 0} {hears : W → Heard → W → Type 0} {notes : J → List PlainEvent → J → Type 0}
+pub pauses_then : {W J M : Type 0} {hears : W → Heard → W → Type 0} {notes : J → List PlainEvent → J → Type 0}
     {answers : M → Doing W → M → Type 0} {driver : DriverState W J}
     {was between is_so : List (Doing W) → Bool} {left swept began at time : ℕ} {old mid now : M}
     → Pauses hears notes answers driver was between left swept began at old mid
     → Pauses hears notes answers driver between is_so left swept at time mid now
     → Pauses hears notes answers driver was is_so left swept began time old now
-and_then one other = record {
+pauses_then one other = record {
   goes = λ sweeps many start first remain r. other.goes sweeps many start first remain (one.goes sweeps many start first remain r);
 }
 
@@ -147,14 +147,14 @@ fails_from_quiet {hears = hears} {notes = notes} {answers = answers} {driver = d
     }
 
 -- Some waits don't fail, and then one fails.
-pub then_fails : {W J M : Type 0} {hears : W → Heard → W → Type 0} {notes : J → List PlainEvent → J → Type 0}
+pub pauses_then_fails : {W J M : Type 0} {hears : W → Heard → W → Type 0} {notes : J → List PlainEvent → J → Type 0}
     {answers : M → Doing W → M → Type 0}
     {fails : M → Option Duration → M → Type 0}
     {driver : DriverState W J} {was between : List (Doing W) → Bool} {left swept began at : ℕ} {old mid now : M}
     → Pauses hears notes answers driver was between left swept began at old mid
     → Fails hears notes answers fails driver between left swept at mid now
     → Fails hears notes answers fails driver was left swept began old now
-then_fails one other = record {
+pauses_then_fails one other = record {
   goes = λ sweeps many start first remain r. other.goes sweeps many start first remain (one.goes sweeps many start first remain r);
 }
 

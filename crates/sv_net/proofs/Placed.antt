@@ -6,13 +6,13 @@ use Rattle.sv_serve.specs.declared.wire.Answer.{Answer}
 use Rattle.sv_serve.specs.declared.wire.Answer.TheVariants.{Failed}
 use Rattle.sv_net.specs.Sockets.{Does, At}
 
-pub there : {S A : Type 0} (items : List (Option S)) (n m : ℕ) (step : S → S → Type 0) (answer : Answer A) (old new : Option S) → m ≡ n
+pub at_index : {S A : Type 0} (items : List (Option S)) (n m : ℕ) (step : S → S → Type 0) (answer : Answer A) (old new : Option S) → m ≡ n
     → old ≡ slice_index_or items m None → Does step answer old new → At n step answer items (slice_set items m new)
-there items n m step answer old new same is does =
+at_index items n m step answer old new same is does =
     let found : old ≡ slice_index_or items n None = rw (sym same) is in
     (new, rw (sym found) does, rw same refl)
 
 -- There is no socket beyond the last number, so the method returns `Failed`.
-pub absent : {S A : Type 0} (items : List (Option S)) (n : ℕ) (step : S → S → Type 0) (answer : Answer A)
+pub at_no_index : {S A : Type 0} (items : List (Option S)) (n : ℕ) (step : S → S → Type 0) (answer : Answer A)
     → length items ≤ n → answer ≡ Failed → At n step answer items items
-absent items n step answer past failed = (None, rw (get_or_past items n None past) (failed, refl), sym (set_past items n None past))
+at_no_index items n step answer past failed = (None, rw (get_or_past items n None past) (failed, refl), sym (set_past items n None past))

@@ -50,12 +50,12 @@ stopped_by {hears = hears} {notes = notes} {sweeps = sweeps} {start = start} {dr
     )
 
 -- The journal had lost an event after a sweep.
-pub lost_after : {W J M : Type 0} {hears : W → Heard → W → Type 0} {notes : J → List PlainEvent → J → Type 0}
+pub stopped_by_lost_event : {W J M : Type 0} {hears : W → Heard → W → Type 0} {notes : J → List PlainEvent → J → Type 0}
     {answers : M → Doing W → M → Type 0} {sweeps many swept time : ℕ} {start driver : DriverState W J} {first now : M} (lost : J → Bool)
     (fails : M → Option Duration → M → Type 0) → 0 < many → many ≤ sweeps → lost driver.journal ≡ true
     → Running hears notes answers is_told sweeps many swept time start driver first now
     → Stopped sweeps hears notes lost answers fails start driver first now
-lost_after {hears = hears} {notes = notes} {sweeps = sweeps} {start = start} {driver = driver} lost fails some most gone r = (
+stopped_by_lost_event {hears = hears} {notes = notes} {sweeps = sweeps} {start = start} {driver = driver} lost fails some most gone r = (
   r.doings,
   _,
   rw r.made some,
@@ -68,11 +68,11 @@ not_any : {P : Type 0} {ticks : ℕ} → ticks ≡ 0 → 0 < ticks → P
 not_any none some = absurd (omega (arith, none, some))
 
 -- No whole millisecond has passed, so the wire gets the reports before the sweep.
-pub told_first : {W J M : Type 0} (hears : W → Heard → W → Type 0) (notes : J → List PlainEvent → J → Type 0)
+pub reports_before_sweep : {W J M : Type 0} (hears : W → Heard → W → Type 0) (notes : J → List PlainEvent → J → Type 0)
     (answers : M → Doing W → M → Type 0) (ticks : ℕ) (old new : DriverState W J)
     (first now : M) → ticks ≡ 0 → answers first (Told old.wire) now → Steps notes (Sweeps hears ticks) old new
     → Rounds hears notes answers ticks old new first now
-told_first hears notes answers ticks old new first now none told goes = record {
+reports_before_sweep hears notes answers ticks old new first now none told goes = record {
   goes = λ sweeps many swept time start machine is r. record {
     doings = MadeSweep ∷ Told old.wire ∷ r.doings;
     made = omega (arith, r.made);
@@ -85,11 +85,11 @@ told_first hears notes answers ticks old new first now none told goes = record {
 }
 
 -- The sweep lets its milliseconds pass, and then the wire gets the reports.
-pub swept_first : {W J M : Type 0} (hears : W → Heard → W → Type 0) (notes : J → List PlainEvent → J → Type 0)
+pub sweep_before_reports : {W J M : Type 0} (hears : W → Heard → W → Type 0) (notes : J → List PlainEvent → J → Type 0)
     (answers : M → Doing W → M → Type 0) (ticks : ℕ) (old new : DriverState W J)
     (first now : M) → answers first (Told new.wire) now → Steps notes (Sweeps hears ticks) old new
     → Rounds hears notes answers ticks old new first now
-swept_first hears notes answers ticks old new first now told goes = record {
+sweep_before_reports hears notes answers ticks old new first now told goes = record {
   goes = λ sweeps many swept time start machine is r. record {
     doings = Told new.wire ∷ MadeSweep ∷ r.doings;
     made = omega (arith, r.made);
@@ -102,11 +102,11 @@ swept_first hears notes answers ticks old new first now told goes = record {
 }
 
 -- No stimulus is there, and the driver stays as it is.
-pub asked_none : {W J M : Type 0} (hears : W → Heard → W → Type 0) (notes : J → List PlainEvent → J → Type 0)
+pub hands_no_stimulus : {W J M : Type 0} (hears : W → Heard → W → Type 0) (notes : J → List PlainEvent → J → Type 0)
     (answers : M → Doing W → M → Type 0) (driver : DriverState W J)
     (answer : Option Stimulus) (first now : M) → answer ≡ None → answers first (Asked answer) now
     → Hands hears notes answers driver driver first now
-asked_none hears notes answers driver answer first now none asked = record {
+hands_no_stimulus hears notes answers driver answer first now none asked = record {
   goes = λ sweeps many swept time start machine r. record {
     doings = Asked None ∷ r.doings;
     made = r.made;
@@ -119,11 +119,11 @@ asked_none hears notes answers driver answer first now none asked = record {
 }
 
 -- A stimulus is there, and is handed to the driver.
-pub asked_some : {W J M : Type 0} (hears : W → Heard → W → Type 0) (notes : J → List PlainEvent → J → Type 0)
+pub hands_stimulus : {W J M : Type 0} (hears : W → Heard → W → Type 0) (notes : J → List PlainEvent → J → Type 0)
     (answers : M → Doing W → M → Type 0) (old new : DriverState W J)
     (answer : Option Stimulus) (stimulus : Stimulus) (first now : M) → answer ≡ Some stimulus → answers first (Asked answer) now
     → IsAccepted stimulus → Steps notes (Stimulates stimulus) old new → Hands hears notes answers old new first now
-asked_some hears notes answers old new answer stimulus first now some asked accepted goes = record {
+hands_stimulus hears notes answers old new answer stimulus first now some asked accepted goes = record {
   goes = λ sweeps many swept time start machine r. record {
     doings = Asked (Some stimulus) ∷ r.doings;
     made = r.made;

@@ -26,28 +26,28 @@ appends_then (Some xs) None new a b x y = elim x [ ]
 appends_then (Some xs) (Some ys) None a b x y = elim y [ ]
 
 -- If the first write fails, the writer accepted a prefix of both texts.
-pub takes_stop : {E F : Type 0} (old new : Option (List ℕ)) (a b : List ℕ) (e : E) (r : Result ⊤ F) → IsErr r
+pub first_text_fails : {E F : Type 0} (old new : Option (List ℕ)) (a b : List ℕ) (e : E) (r : Result ⊤ F) → IsErr r
     → IsTakenByWriter old new (Err e) a
     → IsTakenByWriter old new r (a ++ b)
-takes_stop old new a b e (Ok all) h x = absurd cc
-takes_stop old new a b e (Err f) h x = (x.0, (x.1.0 ++ b, ap (λ (l : List ℕ). l ++ b) x.1.1 ∙ append_assoc x.0 x.1.0 b), x.2)
+first_text_fails old new a b e (Ok all) h x = absurd cc
+first_text_fails old new a b e (Err f) h x = (x.0, (x.1.0 ++ b, ap (λ (l : List ℕ). l ++ b) x.1.1 ∙ append_assoc x.0 x.1.0 b), x.2)
 
 -- After the first text was accepted, the second decides.
-pub takes_then : {E : Type 0} (old mid new : Option (List ℕ)) (a b : List ℕ) (r : Result ⊤ E) → Appends old mid a
+pub second_text_decides : {E : Type 0} (old mid new : Option (List ℕ)) (a b : List ℕ) (r : Result ⊤ E) → Appends old mid a
     → IsTakenByWriter mid new r b
     → IsTakenByWriter old new r (a ++ b)
-takes_then old mid new a b (Ok all) x y = appends_then old mid new a b x y
-takes_then old mid new a b (Err e) x y = (
+second_text_decides old mid new a b (Ok all) x y = appends_then old mid new a b x y
+second_text_decides old mid new a b (Err e) x y = (
   a ++ y.0,
   (y.1.0, ap (λ (l : List ℕ). a ++ l) y.1.1 ∙ sym (append_assoc a y.0 y.1.0)),
   appends_then old mid new a y.0 x y.2,
 )
 
 -- More bytes of a text were accepted.
-pub took_more : (text done rest : List ℕ) (n : ℕ) (old mid new : Option (List ℕ)) → text ≡ done ++ rest → n ≤ length rest
+pub more_bytes_taken : (text done rest : List ℕ) (n : ℕ) (old mid new : Option (List ℕ)) → text ≡ done ++ rest → n ≤ length rest
     → Appends old mid done → Appends mid new (take n rest)
     → (more : List ℕ) × (text ≡ more ++ take (length rest - n) (drop n rest)) × Appends old new more
-took_more text done rest n old mid new e within x y =
+more_bytes_taken text done rest n old mid new e within x y =
     let all : take (length rest - n) (drop n rest) ≡ drop n rest =
     take_all (length rest - n) (drop n rest) (omega (arith, length-drop n rest)) in (
       done ++ take n rest,
@@ -87,11 +87,11 @@ hex_stop bytes done rest piece others old mid new e r is split h x y =
     ∙ encode_append lower_digits (done ++ piece) others
     ∙ ap (λ (l : List ℕ). l ++ encode_lower others) (encode_append lower_digits done piece) in
     subst (λ (l : List ℕ). IsTakenByWriter old new r l) (sym whole)
-    (takes_stop old new (encode_lower done ++ encode_lower piece) (encode_lower others) e r h
-    (takes_then old mid new (encode_lower done) (encode_lower piece) (Err e) x y))
+    (first_text_fails old new (encode_lower done ++ encode_lower piece) (encode_lower others) e r h
+    (second_text_decides old mid new (encode_lower done) (encode_lower piece) (Err e) x y))
 
-pub halves : (n : ℕ) (all front back : List ℕ) → front ≡ take n all → back ≡ drop n all → all ≡ front ++ back
-halves n all front back e f = sym (take-append-drop n all) ∙ ap (λ (l : List ℕ). l ++ drop n all) (sym e)
+pub take_and_drop_join : (n : ℕ) (all front back : List ℕ) → front ≡ take n all → back ≡ drop n all → all ≡ front ++ back
+take_and_drop_join n all front back e f = sym (take-append-drop n all) ∙ ap (λ (l : List ℕ). l ++ drop n all) (sym e)
     ∙ ap (λ (l : List ℕ). front ++ l) (sym f)
 
 -- ---- the texts of a list's elements
@@ -131,8 +131,8 @@ module _ {X : Type 0} (f : X → List ℕ) where
       let front : List ℕ = concat (map f (take i xs)) in
       let own : List ℕ = f (slice_index_or xs i d) in
       subst (λ (l : List ℕ). IsTakenByWriter old new r l) (sym (texts_cut xs i d h))
-      (takes_stop old new (front ++ own) (concat (map f (drop (i + 1) xs))) e r is
-      (takes_then old mid new front own (Err e) x y))
+      (first_text_fails old new (front ++ own) (concat (map f (drop (i + 1) xs))) e r is
+      (second_text_decides old mid new front own (Err e) x y))
 
 -- ---- printers, which write nothing after a failure
 
@@ -158,12 +158,12 @@ prints_then old mid new false false true a b x y = (
   appends_then old mid new a y.0 x y.2,
 )
 
-pub prints_as : (old new : Option (List ℕ)) (f g : Bool) (a b : List ℕ) → a ≡ b → Prints old f new g a → Prints old f new g b
-prints_as old new f g a b e x = subst (λ (l : List ℕ). Prints old f new g l) e x
+pub prints_equal_text : (old new : Option (List ℕ)) (f g : Bool) (a b : List ℕ) → a ≡ b → Prints old f new g a → Prints old f new g b
+prints_equal_text old new f g a b e x = subst (λ (l : List ℕ). Prints old f new g l) e x
 
 -- A loop prints the text of another element.
 pub prints_more : {X : Type 0} (f : X → List ℕ) (xs : List X) (i : ℕ) (d : X) (old mid new : Option (List ℕ)) (a b c : Bool) → i < length xs
     → Prints old a mid b (concat (map f (take i xs))) → Prints mid b new c (f (slice_index_or xs i d))
     → Prints old a new c (concat (map f (take (i + 1) xs)))
-prints_more f xs i d old mid new a b c h x y = prints_as old new a c _ _ (sym (texts_more f xs i d h))
+prints_more f xs i d old mid new a b c h x y = prints_equal_text old new a c _ _ (sym (texts_more f xs i d h))
     (prints_then old mid new a b c (concat (map f (take i xs))) (f (slice_index_or xs i d)) x y)

@@ -13,8 +13,8 @@ still_fine : (old new : Option (List ℕ)) (f g : Bool) (text : List ℕ) → Pr
 still_fine old new true g text printed fine = absurd (let z : true ≡ false = sym printed.0 ∙ fine in cc)
 still_fine old new false g text printed fine = refl
 
-pub some_ticks : (text : List ℕ) (n : ℕ) → (n ≡ 0 → ⊥) → text ++ numbered (codes "tick ") n (10 ∷ []) ≡ text ++ ticks_line n
-some_ticks text n some = rw (ne_eqb n 0 some) refl
+pub ticks_line_is : (text : List ℕ) (n : ℕ) → (n ≡ 0 → ⊥) → text ++ numbered (codes "tick ") n (10 ∷ []) ≡ text ++ ticks_line n
+ticks_line_is text n some = rw (ne_eqb n 0 some) refl
 
 -- Whether an event has a line of its own in the script.
 abbrev pub has_line : PlainEvent → Bool

@@ -18,59 +18,59 @@ use Rattle.sv_replay.specs.declared.fault.RunFault.TheVariants.{BadLine, Input, 
 use Rattle.sv_replay.specs.Run.{Runs, RunsExplained}
 use Rattle.sv_replay.specs.Stage.{StepsRun, RunsIn, ScriptRuns}
 use Rattle.sv_replay.proofs.Going.{consumes_none}
-use Rattle.sv_replay.proofs.Staged.{output_instead}
+use Rattle.sv_replay.proofs.Staged.{output_fault_replaces}
 
 -- In either mode, a fault that stops the lines is a fault of the run.
-runs_fault : (config : Config) (mode : Mode) (read text : List ℕ) (rest : Option (List ℕ)) (fault : RunFault)
+fault_in_both_modes : (config : Config) (mode : Mode) (read text : List ℕ) (rest : Option (List ℕ)) (fault : RunFault)
     → Runs config mode read rest (Err fault) text
     → RunsIn config mode read rest (Err fault) text
-runs_fault config Plain read text rest fault runs = runs
-runs_fault config Explained read text rest (BadLine n) runs = runs
-runs_fault config Explained read text rest Input runs = runs
-runs_fault config Explained read text rest Output runs = inl runs
-runs_fault config Explained read text rest Memory runs = runs
+fault_in_both_modes config Plain read text rest fault runs = runs
+fault_in_both_modes config Explained read text rest (BadLine n) runs = runs
+fault_in_both_modes config Explained read text rest Input runs = runs
+fault_in_both_modes config Explained read text rest Output runs = inl runs
+fault_in_both_modes config Explained read text rest Memory runs = runs
 
 -- If memory is refused at the start, the run stops with `Memory`; nothing is read or printed.
-pub no_memory : (config : Config) (mode : Mode) (reader first : Option (List ℕ)) (result : Result ⊤ RunFault) → IsErr result
+pub memory_refused_at_start : (config : Config) (mode : Mode) (reader first : Option (List ℕ)) (result : Result ⊤ RunFault) → IsErr result
     → IsErrAnd result (λ e. e ≡ Memory) → ScriptRuns config mode reader reader first first result
-no_memory config mode reader first (Ok all) failed is = absurd cc
-no_memory config mode reader first (Err e) failed is = (
+memory_refused_at_start config mode reader first (Ok all) failed is = absurd cc
+memory_refused_at_start config mode reader first (Err e) failed is = (
   [],
   [],
   consumes_none reader,
   appends_none first,
   subst (λ (f : RunFault). RunsIn config mode [] reader (Err f) []) (sym is)
-      (runs_fault config mode [] [] reader Memory (inl (refl, refl))),
+      (fault_in_both_modes config mode [] [] reader Memory (inl (refl, refl))),
 )
 
 -- If a step stops with a fault, the run stops with this fault.
-pub end_stop : (config : Config) (mode own : Mode) (server : State) (reader after first last : Option (List ℕ)) (fault : RunFault)
+pub fault_ends_run : (config : Config) (mode own : Mode) (server : State) (reader after first last : Option (List ℕ)) (fault : RunFault)
     (result : Result ⊤ RunFault) → own ≡ mode → IsErr result → IsErrAnd result (λ e. e ≡ fault)
     → StepsRun config own server reader after first last (Err fault) → ScriptRuns config mode reader after first last result
-end_stop config mode own server reader after first last fault (Ok all) same failed is steps = absurd cc
-end_stop config mode own server reader after first last fault (Err e) same failed is (read, text, took, put, runs) = (
+fault_ends_run config mode own server reader after first last fault (Ok all) same failed is steps = absurd cc
+fault_ends_run config mode own server reader after first last fault (Err e) same failed is (read, text, took, put, runs) = (
   read,
   text,
   took,
   put,
   subst (λ (f : RunFault). RunsIn config mode read after (Err f) text) (sym is)
-      (runs_fault config mode read text after fault (subst (λ (m : Mode). Runs config m read after (Err fault) text) same runs)),
+      (fault_in_both_modes config mode read text after fault (subst (λ (m : Mode). Runs config m read after (Err fault) text) same runs)),
 )
 
 -- A plain replay prints nothing after its last line.
-pub end_plain : (config : Config) (server : State) (reader after first last : Option (List ℕ))
+pub plain_run_ends : (config : Config) (server : State) (reader after first last : Option (List ℕ))
     → StepsRun config Plain server reader after first last (Ok tt)
     → ScriptRuns config Plain reader after first last (Ok tt)
-end_plain config server reader after first last (read, text, took, put, (events, history, script, prints, stands)) =
+plain_run_ends config server reader after first last (read, text, took, put, (events, history, script, prints, stands)) =
     (read, text, took, put, (events, history, script, prints))
 
 -- An explained replay prints the line with the clock after its last line.
-pub end_explained : (config : Config) (server : State) (reader after first mid last : Option (List ℕ)) (result : Result ⊤ RunFault)
+pub explained_run_ends : (config : Config) (server : State) (reader after first mid last : Option (List ℕ)) (result : Result ⊤ RunFault)
     → IsAtEnd after → StepsRun config Explained server reader after first mid (Ok tt)
     → ((config : Config) (history : List PlainEvent) (log : List Act) → StandsFor server config history → IsLogOf config history log
     → IsTakenByWriter mid last result (end_line (clock_at config log)))
     → IfErr result (λ e. e ≡ Output) → ScriptRuns config Explained reader after first last result
-end_explained config server reader after first mid last (Ok all) end (read, text, took, put, done) taken is =
+explained_run_ends config server reader after first mid last (Ok all) end (read, text, took, put, done) taken is =
     let (events, history, script, prints, stands) = done in (
       read,
       text ++ end_line (clock_at config stands.log),
@@ -78,7 +78,7 @@ end_explained config server reader after first mid last (Ok all) end (read, text
       appends_then first mid last text _ put (taken config history stands.log stands stands.is_log),
       (text, _, (events, history, stands.log, script, prints, stands.is_log, refl), refl),
     )
-end_explained config server reader after first mid last (Err e) end (read, text, took, put, done) taken is =
+explained_run_ends config server reader after first mid last (Err e) end (read, text, took, put, done) taken is =
     let (events, history, script, prints, stands) = done in
     let (part, front, more) = taken config history stands.log stands stands.is_log in (
       read,
@@ -90,43 +90,45 @@ end_explained config server reader after first mid last (Err e) end (read, text,
     )
 
 -- If the output fails after the last step, the text is that of a run that stops with `Output`.
-instead : (config : Config) (mode : Mode) (read text : List ℕ) (tail : Option (List ℕ)) (answer : Result ⊤ RunFault)
+runs_with_output_fault : (config : Config) (mode : Mode) (read text : List ℕ) (tail : Option (List ℕ)) (answer : Result ⊤ RunFault)
     → OnOk answer (IsAtEnd tail)
     → RunsIn config mode read tail answer text → RunsIn config mode read tail (Err Output) text
-instead config Plain read text tail answer end runs = output_instead config Plain read text tail answer end runs
-instead config Explained read text tail (Ok all) end (front, last, printed, is) =
+runs_with_output_fault config Plain read text tail answer end runs = output_fault_replaces config Plain read text tail answer end runs
+runs_with_output_fault config Explained read text tail (Ok all) end (front, last, printed, is) =
     inr (front, last, last, printed, ([], sym (append-nil last)), end, is)
-instead config Explained read text tail (Err (BadLine n)) end runs = inl
-    (output_instead config Explained read text tail (Err (BadLine n)) end runs)
-instead config Explained read text tail (Err Input) end runs = inl (output_instead config Explained read text tail (Err Input) end runs)
-instead config Explained read text tail (Err Output) end runs = runs
-instead config Explained read text tail (Err Memory) end runs = inl (output_instead config Explained read text tail (Err Memory) end runs)
+runs_with_output_fault config Explained read text tail (Err (BadLine n)) end runs = inl
+    (output_fault_replaces config Explained read text tail (Err (BadLine n)) end runs)
+runs_with_output_fault config Explained read text tail (Err Input) end runs =
+    inl (output_fault_replaces config Explained read text tail (Err Input) end runs)
+runs_with_output_fault config Explained read text tail (Err Output) end runs = runs
+runs_with_output_fault config Explained read text tail (Err Memory) end runs =
+    inl (output_fault_replaces config Explained read text tail (Err Memory) end runs)
 
 -- After the output is flushed, the run returns its result, or `Output` if flushing failed.
-pub run_told : (config : Config) (mode : Mode) (reader after first mid last : Option (List ℕ)) (answer result : Result ⊤ RunFault)
+pub run_after_flush : (config : Config) (mode : Mode) (reader after first mid last : Option (List ℕ)) (answer result : Result ⊤ RunFault)
     → OnOk answer (IsAtEnd after) → (result ≡ answer) ⊎ (result ≡ Err Output) → Keeps mid last
     → ScriptRuns config mode reader after first mid answer → ScriptRuns config mode reader after first last result
-run_told config mode reader after first mid last answer result end (inl same) kept (read, text, took, put, runs) = (
+run_after_flush config mode reader after first mid last answer result end (inl same) kept (read, text, took, put, runs) = (
   read,
   text,
   took,
   appends_keeps first mid last text put kept,
   subst (λ (r : Result ⊤ RunFault). RunsIn config mode read after r text) (sym same) runs,
 )
-run_told config mode reader after first mid last answer result end (inr failed) kept (read, text, took, put, runs) = (
+run_after_flush config mode reader after first mid last answer result end (inr failed) kept (read, text, took, put, runs) = (
   read,
   text,
   took,
   appends_keeps first mid last text put kept,
   subst (λ (r : Result ⊤ RunFault). RunsIn config mode read after r text) (sym failed)
-      (instead config mode read text after answer end runs),
+      (runs_with_output_fault config mode read text after answer end runs),
 )
 
-pub end_told : (after : Option (List ℕ)) (answer result : Result ⊤ RunFault) → OnOk answer (IsAtEnd after)
+pub at_end_after_flush : (after : Option (List ℕ)) (answer result : Result ⊤ RunFault) → OnOk answer (IsAtEnd after)
     → (result ≡ answer) ⊎ (result ≡ Err Output) → OnOk result (IsAtEnd after)
-end_told after answer result end (inl same) = subst (λ (r : Result ⊤ RunFault). OnOk r (IsAtEnd after)) (sym same) end
-end_told after answer result end (inr failed) = subst (λ (r : Result ⊤ RunFault). OnOk r (IsAtEnd after)) (sym failed) tt
+at_end_after_flush after answer result end (inl same) = subst (λ (r : Result ⊤ RunFault). OnOk r (IsAtEnd after)) (sym same) end
+at_end_after_flush after answer result end (inr failed) = subst (λ (r : Result ⊤ RunFault). OnOk r (IsAtEnd after)) (sym failed) tt
 
-pub end_holds : (after : Option (List ℕ)) (result : Result ⊤ RunFault) → IsAtEnd after → OnOk result (IsAtEnd after)
-end_holds after (Ok all) end = end
-end_holds after (Err e) end = tt
+pub at_end_if_ok : (after : Option (List ℕ)) (result : Result ⊤ RunFault) → IsAtEnd after → OnOk result (IsAtEnd after)
+at_end_if_ok after (Ok all) end = end
+at_end_if_ok after (Err e) end = tt

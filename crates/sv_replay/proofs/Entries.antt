@@ -12,35 +12,35 @@ use Rattle.sv_replay.specs.Reading.{cut_at, numbered_at, short_at, voltage_at}
 use Rattle.sv_replay.specs.Entry.{stimulus_event, IsAccepted, SaysEntry}
 use Rattle.sv_replay.specs.Scenario.{SaysFrom, IsBadFrom}
 use Rattle.sv_replay.specs.EntryReading.{accepted_at, lone_stimulus_at, worded_stimulus_at, cut_stimulus_at, stimulus_at, entry_at, entry_from}
-use Rattle.sv_replay.proofs.Options.{chosen, by_word}
+use Rattle.sv_replay.proofs.Options.{from_cond, from_word_match}
 use Rattle.sv_replay.proofs.Numbers.{voltage_reads, voltage_takes, short_reads, short_takes}
 use Rattle.sv_replay.proofs.Lines.{cut_reads, cut_takes, numbered_reads, numbered_takes}
 
-none_is : {A : Type 0} (o : Option A) → is_none o ≡ true → o ≡ None
-none_is None is = refl
-none_is (Some x) is = absurd cc
+none_from_test : {A : Type 0} (o : Option A) → is_none o ≡ true → o ≡ None
+none_from_test None is = refl
+none_from_test (Some x) is = absurd cc
 
 -- A text that describes a stimulus is read as this stimulus, if the server accepts it.
-pub accepted_reads : (text : List ℕ) (stimulus : Stimulus) → SaysEvent text (stimulus_event stimulus) → IsAccepted stimulus
+pub stimulus_reads : (text : List ℕ) (stimulus : Stimulus) → SaysEvent text (stimulus_event stimulus) → IsAccepted stimulus
     → stimulus_at text ≡ Some stimulus
 unfolding stimulus_at cut_at lone_stimulus_at worded_stimulus_at accepted_at
-accepted_reads text (Input channel microvolts) is fine =
+stimulus_reads text (Input channel microvolts) is fine =
     rw (is.4, numbered_reads channel is.0 is.1 is.2, voltage_reads is.1 microvolts is.3)
     (ap (λ o. cond (is_none o) (Some (Input channel microvolts)) None) fine)
-accepted_reads text External is fine = rw is refl
+stimulus_reads text External is fine = rw is refl
 
 -- A text that is read as an `input` describes it, and the server accepts it.
-accepted_takes : (text rest : List ℕ) (stimulus : Stimulus) → text ≡ codes "input" ++ 32 ∷ rest → accepted_at rest ≡ Some stimulus
+input_stimulus_takes : (text rest : List ℕ) (stimulus : Stimulus) → text ≡ codes "input" ++ 32 ∷ rest → accepted_at rest ≡ Some stimulus
     → SaysEvent text (stimulus_event stimulus) × IsAccepted stimulus
 unfolding accepted_at
-accepted_takes text rest stimulus text_is e =
+input_stimulus_takes text rest stimulus text_is e =
     option_and_then_some _ (numbered_at rest) stimulus e (λ x numbered e1.
     option_and_then_some _ (voltage_at x.1) stimulus e1 (λ microvolts read e2.
-    chosen (is_none (input_refusal x.0 microvolts)) _ _ (Some stimulus) e2
+    from_cond (is_none (input_refusal x.0 microvolts)) _ _ (Some stimulus) e2
     (λ fine e3. numbered_takes rest x numbered (λ number plain rest_is.
     subst (λ (s : Stimulus). SaysEvent text (stimulus_event s) × IsAccepted s) (same_Some (Input x.0 microvolts) stimulus e3) (
       (number, x.1, plain, voltage_takes x.1 microvolts read, text_is ∙ ap (λ t. codes "input " ++ t) rest_is),
-      none_is (input_refusal x.0 microvolts) fine,
+      none_from_test (input_refusal x.0 microvolts) fine,
     )))
     (λ _ none. absurd (none-some stimulus none))))
 
@@ -49,12 +49,12 @@ cut_takes_stimulus : (text : List ℕ) (cut : Option (List ℕ × List ℕ)) (st
     → cut_stimulus_at text cut ≡ Some stimulus → SaysEvent text (stimulus_event stimulus) × IsAccepted stimulus
 unfolding lone_stimulus_at worded_stimulus_at
 cut_takes_stimulus text None stimulus cut_is e =
-    by_word text (codes "external") _ _ (Some stimulus) e
+    from_word_match text (codes "external") _ _ (Some stimulus) e
     (λ is e1. subst (λ (s : Stimulus). SaysEvent text (stimulus_event s) × IsAccepted s) (same_Some External stimulus e1) (is, tt))
     (λ none. absurd (none-some stimulus none))
 cut_takes_stimulus text (Some cut) stimulus cut_is e =
-    by_word cut.0 (codes "input") _ _ (Some stimulus) e
-    (λ is e1. accepted_takes text cut.1 stimulus
+    from_word_match cut.0 (codes "input") _ _ (Some stimulus) e
+    (λ is e1. input_stimulus_takes text cut.1 stimulus
     (subst (λ (w : List ℕ). text ≡ w ++ 32 ∷ cut.1) is (cut_takes text cut cut_is)) e1)
     (λ none. absurd (none-some stimulus none))
 
@@ -68,7 +68,7 @@ stimulus_takes text stimulus e = cut_takes_stimulus text (cut_at text) stimulus 
 pub entry_reads : (line : List ℕ) (entry : Entry) → SaysEntry line entry → entry_at line ≡ Some entry
 unfolding entry_at
 entry_reads line entry (digits, text, is, short, says, fine, line_is) =
-    rw (line_is, cut_reads digits text is.1, short_reads entry.tick digits is short, accepted_reads text entry.stimulus says fine) refl
+    rw (line_is, cut_reads digits text is.1, short_reads entry.tick digits is short, stimulus_reads text entry.stimulus says fine) refl
 
 -- A line that is read as an entry describes it.
 entry_takes : (line : List ℕ) (entry : Entry) → entry_at line ≡ Some entry → SaysEntry line entry
@@ -82,31 +82,31 @@ entry_takes line entry e =
     let says = stimulus_takes cut.1 stimulus acts in
     subst (SaysEntry line) (same_Some found entry e3) (cut.0, cut.1, takes.0, takes.1, says.0, says.1, cut_takes line cut cut_is))))
 
-pub stimulus_found : (text : List ℕ) (result : Option Stimulus) → result ≡ stimulus_at text
+pub found_stimulus_is_said : (text : List ℕ) (result : Option Stimulus) → result ≡ stimulus_at text
     → IfSome result (λ stimulus. SaysEvent text (stimulus_event stimulus) × IsAccepted stimulus)
-stimulus_found text None is = tt
-stimulus_found text (Some stimulus) is = stimulus_takes text stimulus (sym is)
+found_stimulus_is_said text None is = tt
+found_stimulus_is_said text (Some stimulus) is = stimulus_takes text stimulus (sym is)
 
 -- A line describes at most one entry.
-pub one_entry : (line : List ℕ) (a b : Entry) → SaysEntry line a → SaysEntry line b → a ≡ b
-one_entry line a b says_a says_b = same_Some a b (sym (entry_reads line a says_a) ∙ entry_reads line b says_b)
+pub entry_unique : (line : List ℕ) (a b : Entry) → SaysEntry line a → SaysEntry line b → a ≡ b
+entry_unique line a b says_a says_b = same_Some a b (sym (entry_reads line a says_a) ∙ entry_reads line b says_b)
 
 -- A line that is read as an entry at `least` or later describes such an entry.
-pub from_takes : (least : ℕ) (line : List ℕ) (entry : Entry) → entry_from least line ≡ Some entry → SaysFrom least line entry
+pub later_entry_takes : (least : ℕ) (line : List ℕ) (entry : Entry) → entry_from least line ≡ Some entry → SaysFrom least line entry
 unfolding entry_from
-from_takes least line entry e =
-    chosen (ltb 65536 (length line)) _ _ (Some entry) e
+later_entry_takes least line entry e =
+    from_cond (ltb 65536 (length line)) _ _ (Some entry) e
     (λ long none. absurd (none-some entry none))
     (λ short e1. option_and_then_some _ (entry_at line) entry e1 (λ found read e2.
-    chosen (ltb found.tick least) _ _ (Some entry) e2
+    from_cond (ltb found.tick least) _ _ (Some entry) e2
     (λ early none. absurd (none-some entry none))
     (λ late e3. subst (SaysFrom least line) (same_Some found entry e3)
     (ltb-false 65536 (length line) short, entry_takes line found read, ltb-false found.tick least late))))
 
 -- A line that can't be read as an entry at `least` or later is bad, unless it is empty.
-pub from_none : (least : ℕ) (line : List ℕ) → line ≢ [] → entry_from least line ≡ None → IsBadFrom least line
+pub unreadable_line_is_bad : (least : ℕ) (line : List ℕ) → line ≢ [] → entry_from least line ≡ None → IsBadFrom least line
 unfolding entry_from
-from_none least line some e = elim (cases_Bool (ltb 65536 (length line))) [
+unreadable_line_is_bad least line some e = elim (cases_Bool (ltb 65536 (length line))) [
   | inl long ↦ inl (ltb-true 65536 (length line) long)
   | inr short ↦
       inr (

@@ -13,8 +13,8 @@ use Rattle.sv_replay.specs.Text.{first_end}
 use Rattle.sv_replay.specs.Script.{parts}
 use Rattle.sv_replay.specs.Run.{Runs}
 use Rattle.sv_replay.specs.Stage.{IsStage, IsDone, Goes, Further, StepsRun}
-use Rattle.sv_replay.proofs.Parts.{parts_found, parts_none, parts_never}
-use Rattle.sv_replay.proofs.Staged.{LineDone, stage_start, stage_line, stage_last, stage_stop, stage_read, stage_long, stage_output, stage_input}
+use Rattle.sv_replay.proofs.Parts.{parts_at_newline, parts_of_no_newline, parts_never_empty}
+use Rattle.sv_replay.proofs.Staged.{DoesLine, stage_start, stage_line, stage_last, stage_stop, stage_read, stage_long, stage_output, stage_input}
 
 pub consumes_none : (old : Option (List ℕ)) → Consumes old old []
 consumes_none None = tt
@@ -27,99 +27,101 @@ keeps_appends (Some xs) (Some ys) None a x y = elim y [ ]
 keeps_appends (Some xs) (Some ys) (Some zs) a x y = y ∙ ap (λ (l : List ℕ). l ++ a) x
 
 -- If nothing more was read, a fact about what was read still holds.
-still : (fact : List ℕ → Type 0) (read more : List ℕ) → more ≡ [] → fact read → fact (read ++ more)
-still fact read more none holds = subst fact (sym (append-nil read) ∙ ap (λ (l : List ℕ). read ++ l) (sym none)) holds
+nothing_more_read : (fact : List ℕ → Type 0) (read more : List ℕ) → more ≡ [] → fact read → fact (read ++ more)
+nothing_more_read fact read more none holds = subst fact (sym (append-nil read) ∙ ap (λ (l : List ℕ). read ++ l) (sym none)) holds
 
 -- A step that passes a fault on stops the run with this fault.
-goes_err : (config : Config) (mode : Mode) (server : State) (left : List ℕ) (number : ℕ) (rest : Option (List ℕ)) (fault : RunFault)
+goes_with_fault : (config : Config) (mode : Mode) (server : State) (left : List ℕ) (number : ℕ) (rest : Option (List ℕ)) (fault : RunFault)
     (result : Result Bool RunFault)
     (read text : List ℕ) → IsErr result → IsErrAnd result (λ e. e ≡ fault)
     → Runs config mode read rest (Err fault) text → Goes config mode server left number rest result read text
-goes_err config mode server left number rest fault (Ok more) read text failed is runs = absurd cc
-goes_err config mode server left number rest fault (Err e) read text failed is runs =
+goes_with_fault config mode server left number rest fault (Ok more) read text failed is runs = absurd cc
+goes_with_fault config mode server left number rest fault (Err e) read text failed is runs =
     subst (λ (f : RunFault). Runs config mode read rest (Err f) text) (sym is) runs
 
 -- A step leads from `IsStage` to what `Goes` states of its result.
-abbrev pub Going : Config → Mode → State → State → List ℕ → List ℕ → ℕ → ℕ → Option (List ℕ) → Option (List ℕ) → Option (List ℕ)
+abbrev pub StepLeads : Config → Mode → State → State → List ℕ → List ℕ → ℕ → ℕ → Option (List ℕ) → Option (List ℕ) → Option (List ℕ)
     → Option (List ℕ)
     → Result Bool RunFault → Type 0
-Going config mode old new left rest number next reader after first last result =
+StepLeads config mode old new left rest number next reader after first last result =
     Further reader after first last (IsStage config mode old left number) (Goes config mode new rest next after result)
 
 pub go_line : (config : Config) (mode : Mode) (old new : State) (left line rest : List ℕ) (len number next : ℕ)
     (reader first last : Option (List ℕ))
     → first_end left ≡ Some len → line ≡ take len left → rest ≡ drop (len + 1) left
-    → next ≡ number + 1 → LineDone config mode old new line next (Ok tt) first last
-    → Going config mode old new left rest number next reader reader first last (Ok true)
+    → next ≡ number + 1 → DoesLine config mode old new line next (Ok tt) first last
+    → StepLeads config mode old new left rest number next reader reader first last (Ok true)
 go_line config mode old new left line rest len number next reader first last found cut is up does read text stage =
-    let whole : parts left ≡ line ∷ parts rest = parts_found left len found ∙ ap (λ (l : List ℕ). l ∷ parts (drop (len + 1) left)) (sym cut)
+    let whole : parts left ≡ line ∷ parts rest = parts_at_newline left len found
+        ∙ ap (λ (l : List ℕ). l ∷ parts (drop (len + 1) left)) (sym cut)
     ∙ ap (λ (l : List ℕ). line ∷ parts l) (sym is) in
     let (other, put, on) = stage_line config mode old new left rest line number next read text first last whole up stage does in
-    ([], other, consumes_none reader, put, still (λ r. IsStage config mode new rest next r (text ++ other)) read [] refl on)
+    ([], other, consumes_none reader, put, nothing_more_read (λ r. IsStage config mode new rest next r (text ++ other)) read [] refl on)
 
 pub go_line_stop : (config : Config) (mode : Mode) (old new : State) (left line rest : List ℕ) (len number next last_number : ℕ)
     (reader first last : Option (List ℕ))
     (fault : RunFault) (result : Result Bool RunFault) → first_end left ≡ Some len
     → line ≡ take len left → next ≡ number + 1 → IsErr result → IsErrAnd result (λ e. e ≡ fault)
-    → LineDone config mode old new line next (Err fault) first last
-    → Going config mode old new left rest number last_number reader reader first last result
+    → DoesLine config mode old new line next (Err fault) first last
+    → StepLeads config mode old new left rest number last_number reader reader first last result
 go_line_stop config mode old new left line rest len number next last_number reader first last fault result found cut up failed is does
     read text
     stage =
     let whole : parts left ≡ line ∷ parts (drop (len + 1) left) =
-    parts_found left len found ∙ ap (λ (l : List ℕ). l ∷ parts (drop (len + 1) left)) (sym cut) in
+    parts_at_newline left len found ∙ ap (λ (l : List ℕ). l ∷ parts (drop (len + 1) left)) (sym cut) in
     let (other, put, runs) = stage_stop config mode old new left line _ number next fault read text reader first last whole up
-    (inl (parts_never (drop (len + 1) left))) stage does in (
+    (inl (parts_never_empty (drop (len + 1) left))) stage does in (
       [],
       other,
       consumes_none reader,
       put,
-      goes_err config mode new rest last_number reader fault result (read ++ []) (text ++ other) failed is
-          (still (λ r. Runs config mode r reader (Err fault) (text ++ other)) read [] refl runs),
+      goes_with_fault config mode new rest last_number reader fault result (read ++ []) (text ++ other) failed is
+          (nothing_more_read (λ r. Runs config mode r reader (Err fault) (text ++ other)) read [] refl runs),
     )
 
 pub go_long : (config : Config) (mode : Mode) (old : State) (left : List ℕ) (number next : ℕ) (reader first : Option (List ℕ))
     → first_end left ≡ None
     → 65536 < length left
     → next ≡ number + 1
-    → Going config mode old old left left number number reader reader first first (Err (BadLine next))
+    → StepLeads config mode old old left left number number reader reader first first (Err (BadLine next))
 go_long config mode old left number next reader first none long up read text stage = (
   [],
   [],
   consumes_none reader,
   appends_none first,
-  still (λ r. Runs config mode r reader (Err (BadLine next)) (text ++ [])) read [] refl
-      (still (λ t. Runs config mode read reader (Err (BadLine next)) t) text [] refl
+  nothing_more_read (λ r. Runs config mode r reader (Err (BadLine next)) (text ++ [])) read [] refl
+      (nothing_more_read (λ t. Runs config mode read reader (Err (BadLine next)) t) text [] refl
       (stage_long config mode old left number next read text reader none long up stage)),
 )
 
 pub go_output : (config : Config) (mode : Mode) (old : State) (left : List ℕ) (number : ℕ) (reader first last : Option (List ℕ))
     (fault : RunFault)
     (result : Result Bool RunFault) → Keeps first last → fault ≡ Output
-    → IsErr result → IsErrAnd result (λ e. e ≡ fault) → Going config mode old old left left number number reader reader first last result
+    → IsErr result → IsErrAnd result (λ e. e ≡ fault) → StepLeads config mode old old left left number number reader reader first last
+        result
 go_output config mode old left number reader first last fault result kept told failed is read text stage = (
   [],
   [],
   consumes_none reader,
   appends_keeps first first last [] (appends_none first) kept,
-  goes_err config mode old left number reader fault result (read ++ []) (text ++ []) failed is
-      (rw told (still (λ r. Runs config mode r reader (Err Output) (text ++ [])) read [] refl
-      (still (λ t. Runs config mode read reader (Err Output) t) text [] refl
+  goes_with_fault config mode old left number reader fault result (read ++ []) (text ++ []) failed is
+      (rw told (nothing_more_read (λ r. Runs config mode r reader (Err Output) (text ++ [])) read [] refl
+      (nothing_more_read (λ t. Runs config mode read reader (Err Output) t) text [] refl
       (stage_output config mode old left number read text reader stage)))),
 )
 
 pub go_input : (config : Config) (mode : Mode) (old : State) (left rest more : List ℕ) (number : ℕ)
     (reader after first last : Option (List ℕ))
     (result : Result Bool RunFault) → first_end left ≡ None → Keeps first last → Consumes reader after more → more ≡ []
-    → IsErr result → IsErrAnd result (λ e. e ≡ Input) → Going config mode old old left rest number number reader after first last result
+    → IsErr result → IsErrAnd result (λ e. e ≡ Input) → StepLeads config mode old old left rest number number reader after first last result
 go_input config mode old left rest more number reader after first last result none kept took given failed is read text stage = (
   more,
   [],
   took,
   appends_keeps first first last [] (appends_none first) kept,
-  goes_err config mode old rest number after Input result (read ++ more) (text ++ []) failed is
-      (still (λ r. Runs config mode r after (Err Input) (text ++ [])) read more given
-      (still (λ t. Runs config mode read after (Err Input) t) text [] refl
+  goes_with_fault config mode old rest number after Input result (read ++ more) (text ++ []) failed is
+      (nothing_more_read (λ r. Runs config mode r after (Err Input) (text ++ [])) read more given
+      (nothing_more_read (λ t. Runs config mode read after (Err Input) t) text [] refl
       (stage_input config mode old left number read text after none stage))),
 )
 
@@ -127,13 +129,13 @@ pub go_read : (config : Config) (mode : Mode) (old : State) (left rest more : Li
     (reader after first last : Option (List ℕ))
     → Keeps first last
     → Consumes reader after more → rest ≡ left ++ more
-    → Going config mode old old left rest number number reader after first last (Ok true)
+    → StepLeads config mode old old left rest number number reader after first last (Ok true)
 go_read config mode old left rest more number reader after first last kept took is read text stage = (
   more,
   [],
   took,
   appends_keeps first first last [] (appends_none first) kept,
-  rw is (still (λ t. IsStage config mode old (left ++ more) number (read ++ more) t) text [] refl
+  rw is (nothing_more_read (λ t. IsStage config mode old (left ++ more) number (read ++ more) t) text [] refl
       (stage_read config mode old left number read text more stage)),
 )
 
@@ -142,14 +144,14 @@ last_line : (left more rest line : List ℕ) → first_end left ≡ None → res
     → parts left ≡ line ∷ []
 last_line left more rest line none is given cut =
     let same : rest ≡ left = is ∙ ap (λ (l : List ℕ). left ++ l) given ∙ append-nil left in
-    parts_none left none ∙ ap (λ (l : List ℕ). l ∷ []) (sym (cut ∙ take_all (length rest) rest (omega arith) ∙ same))
+    parts_of_no_newline left none ∙ ap (λ (l : List ℕ). l ∷ []) (sym (cut ∙ take_all (length rest) rest (omega arith) ∙ same))
 
 pub go_last_stop : (config : Config) (mode : Mode) (old new : State) (left rest line more : List ℕ) (number next last_number : ℕ)
     (reader after first mid last : Option (List ℕ)) (fault : RunFault) (result : Result Bool RunFault) → first_end left ≡ None
     → rest ≡ left ++ more → more ≡ [] → line ≡ take (length rest) rest → next ≡ number + 1 → Consumes reader after more → IsAtEnd after
     → Keeps first mid → IsErr result → IsErrAnd result (λ e. e ≡ fault)
-    → LineDone config mode old new line next (Err fault) mid last
-    → Going config mode old new left rest number last_number reader after first last result
+    → DoesLine config mode old new line next (Err fault) mid last
+    → StepLeads config mode old new left rest number last_number reader after first last result
 go_last_stop config mode old new left rest line more number next last_number reader after first mid last fault result none is given cut up
     took
     end kept
@@ -160,15 +162,15 @@ go_last_stop config mode old new left rest line more number next last_number rea
       other,
       took,
       keeps_appends first mid last other kept put,
-      goes_err config mode new rest last_number after fault result (read ++ more) (text ++ other) failed told
-          (still (λ r. Runs config mode r after (Err fault) (text ++ other)) read more given runs),
+      goes_with_fault config mode new rest last_number after fault result (read ++ more) (text ++ other) failed told
+          (nothing_more_read (λ r. Runs config mode r after (Err fault) (text ++ other)) read more given runs),
     )
 
 pub go_last : (config : Config) (mode : Mode) (old new : State) (left rest line more : List ℕ) (number next last_number : ℕ)
     (reader after first mid last : Option (List ℕ)) → first_end left ≡ None → rest ≡ left ++ more → more ≡ []
     → line ≡ take (length rest) rest → next ≡ number + 1 → Consumes reader after more → IsAtEnd after → Keeps first mid
-    → LineDone config mode old new line next (Ok tt) mid last
-    → Going config mode old new left rest number last_number reader after first last (Ok false)
+    → DoesLine config mode old new line next (Ok tt) mid last
+    → StepLeads config mode old new left rest number last_number reader after first last (Ok false)
 go_last config mode old new left rest line more number next last_number reader after first mid last none is given cut up took end kept
     does read
     text stage =
@@ -180,7 +182,7 @@ go_last config mode old new left rest line more number next last_number reader a
       keeps_appends first mid last other kept put,
       (
         end,
-        still (λ r. IsDone config mode new r (text ++ other)) read more given done,
+        nothing_more_read (λ r. IsDone config mode new r (text ++ other)) read more given done,
       ),
     )
 
@@ -208,15 +210,15 @@ so_far_start config mode server left number reader first s none zero_lines = (
 )
 
 -- Another step keeps the account of what was read and printed.
-pub so_far_turn : (config : Config) (mode own : Mode) (old new : State) (left rest : List ℕ) (number next : ℕ)
+pub so_far_step : (config : Config) (mode own : Mode) (old new : State) (left rest : List ℕ) (number next : ℕ)
     (reader middle after first mid last : Option (List ℕ)) (result : Result Bool RunFault) → own ≡ mode
     → SoFar reader middle first mid (λ read text. IsStage config mode old left number read text)
-    → Going config own old new left rest number next middle after mid last result
+    → StepLeads config own old new left rest number next middle after mid last result
     → SoFar reader after first last (λ read text. Goes config mode new rest next after result read text)
-so_far_turn config mode own old new left rest number next reader middle after first mid last result same
+so_far_step config mode own old new left rest number next reader middle after first mid last result same
     (read, text, took, put, stage) going =
     let (more, other, took_more, put_more, goes) =
-    subst (λ (m : Mode). Going config m old new left rest number next middle after mid last result) same going read text stage in (
+    subst (λ (m : Mode). StepLeads config m old new left rest number next middle after mid last result) same going read text stage in (
       read ++ more,
       text ++ other,
       consumes_then reader middle after read more took took_more,

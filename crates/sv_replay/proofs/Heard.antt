@@ -11,27 +11,27 @@ use Rattle.sv_replay.specs.Stage.{WhileGoing}
 use Rattle.sv_replay.specs.Reads.{Gave, Made, IsLast, IsReadOn, OnInput, IsReadOut}
 
 -- What is claimed for a fault holds for a result that passes the fault on.
-pub on_input : {A : Type 0} (result : Result A RunFault) (fault : RunFault) (fact : Type 0) → IsErr result
+pub input_fault_passed_on : {A : Type 0} (result : Result A RunFault) (fault : RunFault) (fact : Type 0) → IsErr result
     → IsErrAnd result (λ e. e ≡ fault) → OnInput {A = A} (Err fault) fact → OnInput result fact
-on_input (Ok a) fault fact failed is on = absurd cc
-on_input {A = A} (Err e) fault fact failed is on = subst (λ (f : RunFault). OnInput {A = A} (Err f) fact) (sym is) on
+input_fault_passed_on (Ok a) fault fact failed is on = absurd cc
+input_fault_passed_on {A = A} (Err e) fault fact failed is on = subst (λ (f : RunFault). OnInput {A = A} (Err f) fact) (sym is) on
 
 -- If the result isn't the fault `Input`, nothing is claimed of the reads.
-pub other_fault : {A : Type 0} (result : Result A RunFault) (fact : Type 0) → OnInput result ⊥ → OnInput result fact
-other_fault (Ok a) fact none = tt
-other_fault (Err (BadLine n)) fact none = tt
-other_fault (Err Input) fact none = absurd none
-other_fault (Err Output) fact none = tt
-other_fault (Err Memory) fact none = tt
+pub not_an_input_fault : {A : Type 0} (result : Result A RunFault) (fact : Type 0) → OnInput result ⊥ → OnInput result fact
+not_an_input_fault (Ok a) fact none = tt
+not_an_input_fault (Err (BadLine n)) fact none = tt
+not_an_input_fault (Err Input) fact none = absurd none
+not_an_input_fault (Err Output) fact none = tt
+not_an_input_fault (Err Memory) fact none = tt
 
 -- A fault of a replay is never reported as `Input`.
-pub of_replay : (A : Type 0) (fault : ReplayFault) → OnInput {A = A} (Err (run_fault fault)) ⊥
-of_replay A NoMemory = tt
-of_replay A Write = tt
+pub replay_fault_is_not_input : (A : Type 0) (fault : ReplayFault) → OnInput {A = A} (Err (run_fault fault)) ⊥
+replay_fault_is_not_input A NoMemory = tt
+replay_fault_is_not_input A Write = tt
 
-pub not_going : (result : Result Bool RunFault) (fact : Type 0) → IsErr result → WhileGoing result fact
-not_going (Ok more) fact failed = absurd cc
-not_going (Err e) fact failed = tt
+pub while_going_after_fault : (result : Result Bool RunFault) (fact : Type 0) → IsErr result → WhileGoing result fact
+while_going_after_fault (Ok more) fact failed = absurd cc
+while_going_after_fault (Err e) fact failed = tt
 
 -- A failed read is the last one, and its fault is passed on.
 pub read_failed : {S : Type 0} (gives : S → Gave → S → Type 0) (first last : S) (count : ℕ) (reads : List Gave)
@@ -41,15 +41,16 @@ read_failed gives first last count reads (Ok more) failed made is = absurd cc
 read_failed gives first last count reads (Err fault) failed made is = (reads, made, is)
 
 -- The reads stay as they were, whether the run returns its result or `Output` in its place.
-pub read_out : {S : Type 0} (gives : S → Gave → S → Type 0) (first last : S) (answer result : Result ⊤ RunFault)
+pub read_out_after_flush : {S : Type 0} (gives : S → Gave → S → Type 0) (first last : S) (answer result : Result ⊤ RunFault)
     → (result ≡ answer) ⊎ (result ≡ Err Output) → IsReadOut gives first last answer → IsReadOut gives first last result
-read_out gives first last answer result (inl same) out = subst (λ (r : Result ⊤ RunFault). IsReadOut gives first last r) (sym same) out
-read_out gives first last answer result (inr failed) (reads, made, on) =
+read_out_after_flush gives first last answer result (inl same) out = subst (λ (r : Result ⊤ RunFault). IsReadOut gives first last r)
+    (sym same) out
+read_out_after_flush gives first last answer result (inr failed) (reads, made, on) =
     subst (λ (r : Result ⊤ RunFault). IsReadOut gives first last r) (sym failed) (reads, made, tt)
 
 -- After the last line, only the output can fail; no read is made.
-pub read_end : {S : Type 0} (gives : S → Gave → S → Type 0) (first last : S) (result : Result ⊤ RunFault)
+pub read_out_at_end : {S : Type 0} (gives : S → Gave → S → Type 0) (first last : S) (result : Result ⊤ RunFault)
     → IfErr result (λ e. e ≡ Output) → IsReadOut gives first last (Ok tt) → IsReadOut gives first last result
-read_end gives first last (Ok all) is out = out
-read_end gives first last (Err e) is (reads, made, on) =
+read_out_at_end gives first last (Ok all) is out = out
+read_out_at_end gives first last (Err e) is (reads, made, on) =
     subst (λ (f : RunFault). IsReadOut gives first last (Err f)) (sym is) (reads, made, tt)

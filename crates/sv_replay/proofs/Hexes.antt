@@ -4,41 +4,42 @@ use Rattle.std.proofs.lemmas.Bool.{and_from, and_parts, and_right, le-leb, lt-le
 use Rattle.std.proofs.lemmas.Option.{none-some, same_Some, option_and_then_some}
 use Rattle.sv_replay.specs.Line.{IsHexDigit, IsPair, IsHex}
 use Rattle.sv_replay.specs.Reading.{hex_digit_at, pair_at, hex_at}
-use Rattle.sv_replay.proofs.Options.{map_some, chosen}
+use Rattle.sv_replay.proofs.Options.{from_mapped_some, from_cond}
 
-within : (low high n : ℕ) → low ≤ n → n ≤ high → (leb low n && leb n high) ≡ true
-within low high n below above = and_from (leb low n) (leb n high) (le-leb low n below) (le-leb n high above)
+within_range : (low high n : ℕ) → low ≤ n → n ≤ high → (leb low n && leb n high) ≡ true
+within_range low high n below above = and_from (leb low n) (leb n high) (le-leb low n below) (le-leb n high above)
 
-beyond : (low high n : ℕ) → high < n → (leb low n && leb n high) ≡ false
-beyond low high n above = and_right (leb low n) (leb n high) (lt-leb n high above)
+above_range : (low high n : ℕ) → high < n → (leb low n && leb n high) ≡ false
+above_range low high n above = and_right (leb low n) (leb n high) (lt-leb n high above)
 
 -- A hexadecimal digit is read as its value.
 digit_reads : (digit n : ℕ) → IsHexDigit digit n → hex_digit_at digit ≡ Some n
 unfolding hex_digit_at
 digit_reads digit n is = elim is.1 [
-  | inl decimal ↦ rw (within 48 57 digit (omega arith) (omega arith)) (ap Some (omega arith))
+  | inl decimal ↦ rw (within_range 48 57 digit (omega arith) (omega arith)) (ap Some (omega arith))
   | inr letter ↦ elim letter [
-    | inl upper ↦ rw (beyond 48 57 digit (omega arith), within 65 70 digit (omega arith) (omega arith)) (ap Some (omega arith))
-    | inr lower ↦ rw (beyond 48 57 digit (omega arith), beyond 65 70 digit (omega arith), within 97 102 digit (omega arith) (omega arith))
+    | inl upper ↦ rw (above_range 48 57 digit (omega arith), within_range 65 70 digit (omega arith) (omega arith)) (ap Some (omega arith))
+    | inr lower ↦ rw (above_range 48 57 digit (omega arith), above_range 65 70 digit (omega arith), within_range 97 102 digit (omega arith)
+        (omega arith))
         (ap Some (omega arith))
   ]
 ]
 
-between : (low high n : ℕ) → (leb low n && leb n high) ≡ true → (low ≤ n) × (n ≤ high)
-between low high n e = let parts = and_parts (leb low n) (leb n high) e in (leb-true low n parts.0, leb-true n high parts.1)
+range_bounds : (low high n : ℕ) → (leb low n && leb n high) ≡ true → (low ≤ n) × (n ≤ high)
+range_bounds low high n e = let parts = and_parts (leb low n) (leb n high) e in (leb-true low n parts.0, leb-true n high parts.1)
 
 -- A character that is read as a value is the hexadecimal digit for it.
 digit_takes : (digit n : ℕ) → hex_digit_at digit ≡ Some n → IsHexDigit digit n
 unfolding hex_digit_at
 digit_takes digit n e =
-    chosen (leb 48 digit && leb digit 57) _ _ (Some n) e
-    (λ decimal e1. let r = between 48 57 digit decimal in let v : digit - 48 ≡ n = same_Some (digit - 48) n e1 in
+    from_cond (leb 48 digit && leb digit 57) _ _ (Some n) e
+    (λ decimal e1. let r = range_bounds 48 57 digit decimal in let v : digit - 48 ≡ n = same_Some (digit - 48) n e1 in
     (omega arith, inl (omega arith, omega arith)))
-    (λ _ e1. chosen (leb 65 digit && leb digit 70) _ _ (Some n) e1
-    (λ upper e2. let r = between 65 70 digit upper in let v : digit - 55 ≡ n = same_Some (digit - 55) n e2 in
+    (λ _ e1. from_cond (leb 65 digit && leb digit 70) _ _ (Some n) e1
+    (λ upper e2. let r = range_bounds 65 70 digit upper in let v : digit - 55 ≡ n = same_Some (digit - 55) n e2 in
     (omega arith, inr (inl (omega arith, omega arith))))
-    (λ _ e2. chosen (leb 97 digit && leb digit 102) _ _ (Some n) e2
-    (λ lower e3. let r = between 97 102 digit lower in let v : digit - 87 ≡ n = same_Some (digit - 87) n e3 in
+    (λ _ e2. from_cond (leb 97 digit && leb digit 102) _ _ (Some n) e2
+    (λ lower e3. let r = range_bounds 97 102 digit lower in let v : digit - 87 ≡ n = same_Some (digit - 87) n e3 in
     (omega arith, inr (inr (omega arith, omega arith))))
     (λ _ none. absurd (none-some n none))))
 
@@ -63,10 +64,11 @@ digit_no_space digit n is e = elim is.1 [
 ]
 
 -- A text that spells bytes begins with a digit, not with a space.
-hex_front : (text bytes : List ℕ) → IsHex text bytes → (digit : ℕ) × (rest : List ℕ) × (text ≡ digit ∷ rest) × (eqb digit 32 ≡ false)
-hex_front text [] is = absurd is
-hex_front text (byte ∷ []) is = (is.0, is.1 ∷ [], is.3, ne_eqb is.0 32 (digit_no_space is.0 is.2.0 is.2.2))
-hex_front text (byte ∷ other ∷ bytes) is =
+hex_begins_with_digit : (text bytes : List ℕ) → IsHex text bytes → (digit : ℕ) × (rest : List ℕ) × (text ≡ digit ∷ rest)
+    × (eqb digit 32 ≡ false)
+hex_begins_with_digit text [] is = absurd is
+hex_begins_with_digit text (byte ∷ []) is = (is.0, is.1 ∷ [], is.3, ne_eqb is.0 32 (digit_no_space is.0 is.2.0 is.2.2))
+hex_begins_with_digit text (byte ∷ other ∷ bytes) is =
     let front = ne_eqb is.0 32 (digit_no_space is.0 is.3.0 is.3.2) in
     elim is.5 [ inl close ↦ (is.0, is.1 ∷ is.2, close, front) | inr apart ↦ (is.0, is.1 ∷ 32 ∷ is.2, apart, front) ]
 
@@ -77,17 +79,17 @@ hex_reads text [] is = absurd is
 hex_reads text (byte ∷ []) is = rw (is.3, pair_reads is.0 is.1 byte is.2) refl
 hex_reads text (byte ∷ other ∷ bytes) is =
     let more = hex_reads is.2 (other ∷ bytes) is.4 in
-    let front = hex_front is.2 (other ∷ bytes) is.4 in
+    let front = hex_begins_with_digit is.2 (other ∷ bytes) is.4 in
     elim is.5 [
       | inl close ↦ rw (close, front.2, pair_reads is.0 is.1 byte is.3, front.3)
           (ap (option_map (λ bs. byte ∷ bs)) (ap hex_at (sym front.2) ∙ more))
       | inr apart ↦ rw (apart, pair_reads is.0 is.1 byte is.3, more) refl
     ]
 
-hex_joins : (text rest bytes : List ℕ) (high low byte : ℕ) → IsPair high low byte → IsHex rest bytes
+hex_cons : (text rest bytes : List ℕ) (high low byte : ℕ) → IsPair high low byte → IsHex rest bytes
     → (text ≡ high ∷ low ∷ rest) ⊎ (text ≡ high ∷ low ∷ 32 ∷ rest) → IsHex text (byte ∷ bytes)
-hex_joins text rest [] high low byte pair more e = absurd more
-hex_joins text rest (other ∷ bytes) high low byte pair more e = (high, low, rest, pair, more, e)
+hex_cons text rest [] high low byte pair more e = absurd more
+hex_cons text rest (other ∷ bytes) high low byte pair more e = (high, low, rest, pair, more, e)
 
 -- A text that is read as bytes spells them.
 pub hex_takes : (text bytes : List ℕ) → hex_at text ≡ Some bytes → IsHex text bytes
@@ -99,10 +101,10 @@ hex_takes (high ∷ low ∷ []) bytes e =
     subst (IsHex (high ∷ low ∷ [])) (same_Some (byte ∷ []) bytes e1) (high, low, pair_takes high low byte pair, refl))
 hex_takes (high ∷ low ∷ next ∷ rest) bytes e =
     option_and_then_some _ (pair_at high low) bytes e (λ byte pair e1.
-    map_some (λ bs. byte ∷ bs) _ bytes e1 (λ more read e2.
+    from_mapped_some (λ bs. byte ∷ bs) _ bytes e1 (λ more read e2.
     subst (IsHex (high ∷ low ∷ next ∷ rest)) e2
-    (chosen (eqb next 32) _ _ (Some more) read
-    (λ space e3. hex_joins (high ∷ low ∷ next ∷ rest) rest more high low byte (pair_takes high low byte pair) (hex_takes rest more e3)
+    (from_cond (eqb next 32) _ _ (Some more) read
+    (λ space e3. hex_cons (high ∷ low ∷ next ∷ rest) rest more high low byte (pair_takes high low byte pair) (hex_takes rest more e3)
     (inr (ap (λ b. high ∷ low ∷ b ∷ rest) (eqb-true next 32 space))))
-    (λ _ e3. hex_joins (high ∷ low ∷ next ∷ rest) (next ∷ rest) more high low byte (pair_takes high low byte pair)
+    (λ _ e3. hex_cons (high ∷ low ∷ next ∷ rest) (next ∷ rest) more high low byte (pair_takes high low byte pair)
     (hex_takes (next ∷ rest) more e3) (inl refl)))))

@@ -12,7 +12,7 @@ use Rattle.sv_replay.specs.Line.{Line, Blank, One, Ticks, IsPlain, role_word, ok
 use Rattle.sv_replay.specs.Reading.{cut_at, plain_at, voltage_at, hex_at, numbered_at, role_at, ok_at, port_at, ticks_at, open_at, bytes_at, dialed_at, input_at, traffic_at, event_at, lone_at, words_at, cut_line_at, line_at}
 use Rattle.sv_replay.specs.PlainLine.{plain_line}
 use Rattle.sv_replay.specs.declared.line.Line.{Line as Command}
-use Rattle.sv_replay.proofs.Options.{map_some, chosen, by_word}
+use Rattle.sv_replay.proofs.Options.{from_mapped_some, from_cond, from_word_match}
 use Rattle.sv_replay.proofs.Numbers.{AreDigits, plain_reads, plain_takes, voltage_reads, voltage_takes}
 use Rattle.sv_replay.proofs.Hexes.{hex_reads, hex_takes}
 
@@ -28,11 +28,11 @@ pub cut_takes : (text : List ℕ) (cut : List ℕ × List ℕ) → cut_at text �
 unfolding cut_at
 cut_takes [] cut e = absurd (none-some cut e)
 cut_takes (byte ∷ bytes) cut e =
-    chosen (eqb byte 32) _ _ (Some cut) e
+    from_cond (eqb byte 32) _ _ (Some cut) e
     (λ space e1.
     let front : List ℕ × List ℕ = ([], bytes) in
     subst (λ (c : List ℕ × List ℕ). byte ∷ bytes ≡ c.0 ++ 32 ∷ c.1) (same_Some front cut e1) (ap (λ b. b ∷ bytes) (eqb-true byte 32 space)))
-    (λ _ e1. map_some (λ c. (byte ∷ c.0, c.1)) (cut_at bytes) cut e1 (λ c read e2.
+    (λ _ e1. from_mapped_some (λ c. (byte ∷ c.0, c.1)) (cut_at bytes) cut e1 (λ c read e2.
     subst (λ (d : List ℕ × List ℕ). byte ∷ bytes ≡ d.0 ++ 32 ∷ d.1) e2 (ap (λ bs. byte ∷ bs) (cut_takes bytes c read))))
 
 pub numbered_reads : (c : ℕ) (number rest : List ℕ) → IsPlain 255 number c → numbered_at (number ++ 32 ∷ rest) ≡ Some (c, rest)
@@ -58,9 +58,9 @@ role_reads _ = refl
 role_takes : (word : List ℕ) (role : Role) → role_at word ≡ Some role → word ≡ role_word role
 unfolding role_at
 role_takes word role e =
-    by_word word (codes "core") _ _ (Some role) e (λ is e1. is ∙ ap role_word (same_Some Core role e1)) (λ e1.
-    by_word word (codes "abort") _ _ (Some role) e1 (λ is e2. is ∙ ap role_word (same_Some Abort role e2)) (λ e2.
-    by_word word (codes "portmap") _ _ (Some role) e2 (λ is e3. is ∙ ap role_word (same_Some Portmap role e3)) (λ none.
+    from_word_match word (codes "core") _ _ (Some role) e (λ is e1. is ∙ ap role_word (same_Some Core role e1)) (λ e1.
+    from_word_match word (codes "abort") _ _ (Some role) e1 (λ is e2. is ∙ ap role_word (same_Some Abort role e2)) (λ e2.
+    from_word_match word (codes "portmap") _ _ (Some role) e2 (λ is e3. is ∙ ap role_word (same_Some Portmap role e3)) (λ none.
     absurd (none-some role none))))
 
 ok_reads : (ok : Bool) → ok_at (ok_word ok) ≡ Some ok
@@ -71,8 +71,8 @@ ok_reads false = refl
 ok_takes : (word : List ℕ) (ok : Bool) → ok_at word ≡ Some ok → word ≡ ok_word ok
 unfolding ok_at
 ok_takes word ok e =
-    by_word word (codes "ok") _ _ (Some ok) e (λ is e1. is ∙ ap ok_word (same_Some true ok e1)) (λ e1.
-    by_word word (codes "failed") _ _ (Some ok) e1 (λ is e2. is ∙ ap ok_word (same_Some false ok e2)) (λ none.
+    from_word_match word (codes "ok") _ _ (Some ok) e (λ is e1. is ∙ ap ok_word (same_Some true ok e1)) (λ e1.
+    from_word_match word (codes "failed") _ _ (Some ok) e1 (λ is e2. is ∙ ap ok_word (same_Some false ok e2)) (λ none.
     absurd (none-some ok none)))
 
 -- A line that describes an event is read as this event.
@@ -98,27 +98,27 @@ line_reads line (One event) is = event_reads line event is
 line_reads line (Ticks n) is = rw (is.3, plain_reads 1000000 n is.0 is.1, ne_eqb n 0 (λ e. omega (arith, is.2))) refl
 
 -- A line has at most one meaning.
-pub one_line : (line : List ℕ) (a b : Line) → Says line a → Says line b → a ≡ b
-one_line line a b says_a says_b = same_Some a b (sym (line_reads line a says_a) ∙ line_reads line b says_b)
+pub line_meaning_unique : (line : List ℕ) (a b : Line) → Says line a → Says line b → a ≡ b
+line_meaning_unique line a b says_a says_b = same_Some a b (sym (line_reads line a says_a) ∙ line_reads line b says_b)
 
 -- A line that is read as a number of ticks means them.
 ticks_takes : (line text : List ℕ) (what : Line) → line ≡ codes "tick" ++ 32 ∷ text → ticks_at text ≡ Some what → Says line what
 unfolding ticks_at
 ticks_takes line text what line_is e =
     option_and_then_some _ (plain_at 1000000 text) what e (λ n plain e1.
-    chosen (eqb n 0) _ _ (Some what) e1
+    from_cond (eqb n 0) _ _ (Some what) e1
     (λ _ none. absurd (none-some what none))
     (λ some e2. subst (Says line) (same_Some (Ticks n) what e2)
     (text, plain_takes 1000000 n text plain, (let h : n ≡ 0 → ⊥ = eqb-false n 0 some in omega arith), line_is)))
 
 -- The common form of a line `word number rest`: if the rest is read as a value, the line describes
 -- the event made from the number and the value.
-behind_number : {A : Type 0} (at : List ℕ → Option A) (make : ℕ → A → PlainEvent) (line text : List ℕ) (event : PlainEvent)
+event_after_number : {A : Type 0} (at : List ℕ → Option A) (make : ℕ → A → PlainEvent) (line text : List ℕ) (event : PlainEvent)
     → ((x : ℕ × List ℕ) (value : A) (number : List ℕ) → IsPlain 255 number x.0 → at x.1 ≡ Some value → text ≡ number ++ 32 ∷ x.1
     → SaysEvent line (make x.0 value))
     → option_and_then (λ x. option_and_then (λ value. Some (make x.0 value)) (at x.1)) (numbered_at text) ≡ Some event
     → SaysEvent line event
-behind_number at make line text event said e =
+event_after_number at make line text event said e =
     option_and_then_some _ (numbered_at text) event e (λ x numbered e1.
     option_and_then_some _ (at x.1) event e1 (λ value read e2.
     numbered_takes text x numbered (λ number plain text_is.
@@ -126,25 +126,25 @@ behind_number at make line text event said e =
 
 open_takes : (line text : List ℕ) (event : PlainEvent) → line ≡ codes "open" ++ 32 ∷ text → open_at text ≡ Some event → SaysEvent line event
 unfolding open_at
-open_takes line text event line_is e = behind_number role_at Open line text event (λ x role number plain read text_is.
+open_takes line text event line_is e = event_after_number role_at Open line text event (λ x role number plain read text_is.
     (number, plain, rw (← role_takes x.1 role read) (line_is ∙ ap (λ t. codes "open " ++ t) text_is))) e
 
 bytes_takes : (line text : List ℕ) (event : PlainEvent) → line ≡ codes "bytes" ++ 32 ∷ text → bytes_at text ≡ Some event
     → SaysEvent line event
 unfolding bytes_at
-bytes_takes line text event line_is e = behind_number hex_at Bytes line text event (λ x piece number plain read text_is.
+bytes_takes line text event line_is e = event_after_number hex_at Bytes line text event (λ x piece number plain read text_is.
     (number, x.1, plain, hex_takes x.1 piece read, line_is ∙ ap (λ t. codes "bytes " ++ t) text_is)) e
 
 dialed_takes : (line text : List ℕ) (event : PlainEvent) → line ≡ codes "dialed" ++ 32 ∷ text → dialed_at text ≡ Some event
     → SaysEvent line event
 unfolding dialed_at
-dialed_takes line text event line_is e = behind_number ok_at Dialed line text event (λ x ok number plain read text_is.
+dialed_takes line text event line_is e = event_after_number ok_at Dialed line text event (λ x ok number plain read text_is.
     (number, plain, rw (← ok_takes x.1 ok read) (line_is ∙ ap (λ t. codes "dialed " ++ t) text_is))) e
 
 input_takes : (line text : List ℕ) (event : PlainEvent) → line ≡ codes "input" ++ 32 ∷ text → input_at text ≡ Some event
     → SaysEvent line event
 unfolding input_at
-input_takes line text event line_is e = behind_number voltage_at Input line text event (λ x microvolts number plain read text_is.
+input_takes line text event line_is e = event_after_number voltage_at Input line text event (λ x microvolts number plain read text_is.
     (number, x.1, plain, voltage_takes x.1 microvolts read, line_is ∙ ap (λ t. codes "input " ++ t) text_is)) e
 
 close_takes : (line text : List ℕ) (port : Port) → line ≡ codes "close" ++ 32 ∷ text → port_at text ≡ Some port
@@ -152,12 +152,12 @@ close_takes : (line text : List ℕ) (port : Port) → line ≡ codes "close" ++
 unfolding port_at
 close_takes line [] port line_is e = absurd (none-some port e)
 close_takes line (letter ∷ number) port line_is e =
-    chosen (eqb letter 99) _ _ (Some port) e
-    (λ is e1. map_some Conn (plain_at 255 number) port e1 (λ c plain port_is.
+    from_cond (eqb letter 99) _ _ (Some port) e
+    (λ is e1. from_mapped_some Conn (plain_at 255 number) port e1 (λ c plain port_is.
     subst (λ (p : Port). SaysEvent line (Close p)) port_is
     (number, plain_takes 255 c number plain, line_is ∙ ap (λ b. codes "close " ++ b ∷ number) (eqb-true letter 99 is))))
-    (λ _ e1. chosen (eqb letter 105) _ _ (Some port) e1
-    (λ is e2. map_some Intr (plain_at 255 number) port e2 (λ c plain port_is.
+    (λ _ e1. from_cond (eqb letter 105) _ _ (Some port) e1
+    (λ is e2. from_mapped_some Intr (plain_at 255 number) port e2 (λ c plain port_is.
     subst (λ (p : Port). SaysEvent line (Close p)) port_is
     (number, plain_takes 255 c number plain, line_is ∙ ap (λ b. codes "close " ++ b ∷ number) (eqb-true letter 105 is))))
     (λ _ none. absurd (none-some port none)))
@@ -166,20 +166,23 @@ close_takes line (letter ∷ number) port line_is e =
 abbrev IsWords : List ℕ → List ℕ → List ℕ → Type 0
 IsWords line word text = line ≡ word ++ 32 ∷ text
 
-worded : (line word w text : List ℕ) → IsWords line word text → word ≡ w → IsWords line w text
-worded line word w text line_is is = subst (λ (v : List ℕ). IsWords line v text) is line_is
+with_first_word : (line word w text : List ℕ) → IsWords line word text → word ≡ w → IsWords line w text
+with_first_word line word w text line_is is = subst (λ (v : List ℕ). IsWords line v text) is line_is
 
 -- A line that is read as a Bytes, Turn or Refuse event describes it.
 traffic_takes : (line word text : List ℕ) (event : PlainEvent) → IsWords line word text → traffic_at word text ≡ Some event
     → SaysEvent line event
 unfolding traffic_at
 traffic_takes line word text event line_is e =
-    by_word word (codes "bytes") _ _ (Some event) e
-    (λ is e1. bytes_takes line text event (worded line word (codes "bytes") text line_is is) e1) (λ e1.
-    by_word word (codes "turn") _ _ (Some event) e1 (λ is e2. map_some Turn (plain_at 255 text) event e2 (λ c plain event_is.
-    subst (SaysEvent line) event_is (text, plain_takes 255 c text plain, worded line word (codes "turn") text line_is is))) (λ e2.
-    by_word word (codes "refuse") _ _ (Some event) e2 (λ is e3. map_some Refuse (plain_at 255 text) event e3 (λ c plain event_is.
-    subst (SaysEvent line) event_is (text, plain_takes 255 c text plain, worded line word (codes "refuse") text line_is is))) (λ none.
+    from_word_match word (codes "bytes") _ _ (Some event) e
+    (λ is e1. bytes_takes line text event (with_first_word line word (codes "bytes") text line_is is) e1) (λ e1.
+    from_word_match word (codes "turn") _ _ (Some event) e1
+        (λ is e2. from_mapped_some Turn (plain_at 255 text) event e2 (λ c plain event_is.
+    subst (SaysEvent line) event_is (text, plain_takes 255 c text plain, with_first_word line word (codes "turn") text line_is is))) (λ e2.
+    from_word_match word (codes "refuse") _ _ (Some event) e2
+        (λ is e3. from_mapped_some Refuse (plain_at 255 text) event e3 (λ c plain event_is.
+    subst (SaysEvent line) event_is (text, plain_takes 255 c text plain, with_first_word line word (codes "refuse") text line_is is)))
+        (λ none.
     absurd (none-some event none))))
 
 -- A line that is read as an event of a connection or an interrupt channel describes it.
@@ -187,33 +190,34 @@ event_takes : (line word text : List ℕ) (event : PlainEvent) → IsWords line 
     → SaysEvent line event
 unfolding event_at
 event_takes line word text event line_is e =
-    by_word word (codes "open") _ _ (Some event) e
-    (λ is e1. open_takes line text event (worded line word (codes "open") text line_is is) e1) (λ e1.
-    by_word word (codes "close") _ _ (Some event) e1 (λ is e2. map_some Close (port_at text) event e2 (λ port read event_is.
-    subst (SaysEvent line) event_is (close_takes line text port (worded line word (codes "close") text line_is is) read))) (λ e2.
-    by_word word (codes "dialed") _ _ (Some event) e2
-    (λ is e3. dialed_takes line text event (worded line word (codes "dialed") text line_is is) e3) (λ e3.
+    from_word_match word (codes "open") _ _ (Some event) e
+    (λ is e1. open_takes line text event (with_first_word line word (codes "open") text line_is is) e1) (λ e1.
+    from_word_match word (codes "close") _ _ (Some event) e1 (λ is e2. from_mapped_some Close (port_at text) event e2 (λ port read event_is.
+    subst (SaysEvent line) event_is (close_takes line text port (with_first_word line word (codes "close") text line_is is) read))) (λ e2.
+    from_word_match word (codes "dialed") _ _ (Some event) e2
+    (λ is e3. dialed_takes line text event (with_first_word line word (codes "dialed") text line_is is) e3) (λ e3.
     traffic_takes line word text event line_is e3)))
 
 -- A line of several words has the meaning that is read from it.
 words_takes : (line word text : List ℕ) (what : Line) → IsWords line word text → words_at word text ≡ Some what → Says line what
 unfolding words_at
 words_takes line word text what line_is e =
-    by_word word (codes "tick") _ _ (Some what) e (λ is e1. ticks_takes line text what (worded line word (codes "tick") text line_is is) e1)
+    from_word_match word (codes "tick") _ _ (Some what) e
+        (λ is e1. ticks_takes line text what (with_first_word line word (codes "tick") text line_is is) e1)
     (λ e1.
-    by_word word (codes "input") _ _ (Some what) e1
-    (λ is e2. map_some One (input_at text) what e2 (λ event read what_is.
-    subst (Says line) what_is (input_takes line text event (worded line word (codes "input") text line_is is) read)))
-    (λ e2. map_some One (event_at word text) what e2 (λ event read what_is.
+    from_word_match word (codes "input") _ _ (Some what) e1
+    (λ is e2. from_mapped_some One (input_at text) what e2 (λ event read what_is.
+    subst (Says line) what_is (input_takes line text event (with_first_word line word (codes "input") text line_is is) read)))
+    (λ e2. from_mapped_some One (event_at word text) what e2 (λ event read what_is.
     subst (Says line) what_is (event_takes line word text event line_is read))))
 
 -- An empty line or a line of one word has the meaning that is read from it.
 lone_takes : (line : List ℕ) (what : Line) → lone_at line ≡ Some what → Says line what
 unfolding lone_at
 lone_takes line what e =
-    by_word line [] _ _ (Some what) e (λ is e1. subst (Says line) (same_Some Blank what e1) is) (λ e1.
-    by_word line (codes "external") _ _ (Some what) e1 (λ is e2. subst (Says line) (same_Some (One External) what e2) is) (λ e2.
-    by_word line (codes "tick") _ _ (Some what) e2 (λ is e3. subst (Says line) (same_Some (One Tick) what e3) is) (λ none.
+    from_word_match line [] _ _ (Some what) e (λ is e1. subst (Says line) (same_Some Blank what e1) is) (λ e1.
+    from_word_match line (codes "external") _ _ (Some what) e1 (λ is e2. subst (Says line) (same_Some (One External) what e2) is) (λ e2.
+    from_word_match line (codes "tick") _ _ (Some what) e2 (λ is e3. subst (Says line) (same_Some (One Tick) what e3) is) (λ none.
     absurd (none-some what none))))
 
 -- The same for a line that was cut at its first space.
@@ -228,13 +232,14 @@ unfolding line_at
 line_takes line what e = cut_line_takes line (cut_at line) what refl e
 
 -- The meaning that the code found is one of the line.
-pub line_found : (line : List ℕ) (read : Option Command) → option_map plain_line read ≡ line_at line
+pub found_meaning_is_said : (line : List ℕ) (read : Option Command) → option_map plain_line read ≡ line_at line
     → IfSome read (λ l. Says line (plain_line l))
-line_found line None e = tt
-line_found line (Some l) e = line_takes line (plain_line l) (sym e)
+found_meaning_is_said line None e = tt
+found_meaning_is_said line (Some l) e = line_takes line (plain_line l) (sym e)
 
 -- The code finds each meaning of the line.
-pub line_only : (line : List ℕ) (read : Option Command) (what : Line) → option_map plain_line read ≡ line_at line → Says line what
+pub said_meaning_is_found : (line : List ℕ) (read : Option Command) (what : Line) → option_map plain_line read ≡ line_at line
+    → Says line what
     → IsSomeAnd read (λ l. plain_line l ≡ what)
-line_only line None what e says = absurd (none-some what (e ∙ line_reads line what says))
-line_only line (Some l) what e says = same_Some (plain_line l) what (e ∙ line_reads line what says)
+said_meaning_is_found line None what e says = absurd (none-some what (e ∙ line_reads line what says))
+said_meaning_is_found line (Some l) what e says = same_Some (plain_line l) what (e ∙ line_reads line what says)

@@ -10,10 +10,10 @@ use Rattle.sv_replay.specs.Line.{Line, Ticks, Says}
 use Rattle.sv_replay.specs.Script.{ScriptEvent, events_of, IsScript, PrintsOne, Prints, Stops, Performs}
 
 -- A script can be extended by a line that has the next number.
-pub script_push : (first : ℕ) (lines : List (List ℕ)) (events : List ScriptEvent) (line : List ℕ) (number : ℕ) (said : Line)
+pub script_append_line : (first : ℕ) (lines : List (List ℕ)) (events : List ScriptEvent) (line : List ℕ) (number : ℕ) (said : Line)
     → number ≡ first + length lines → IsScript first lines events → length line ≤ 65536 → Says line said
     → IsScript first (lines ++ line ∷ []) (events ++ events_of number said)
-script_push first [] events line number said at is short says = (
+script_append_line first [] events line number said at is short says = (
   said,
   [],
   short,
@@ -22,12 +22,12 @@ script_push first [] events line number said at is short says = (
   ap (λ (es : List ScriptEvent). es ++ events_of number said) is
       ∙ ap (λ (n : ℕ). events_of n said) (omega (arith, at)) ∙ sym (append-nil (events_of first said)),
 )
-script_push first (other ∷ lines) events line number said at (other_said, others, other_short, other_says, rest, is) short says = (
+script_append_line first (other ∷ lines) events line number said at (other_said, others, other_short, other_says, rest, is) short says = (
   other_said,
   others ++ events_of number said,
   other_short,
   other_says,
-  script_push (first + 1) lines others line number said (omega (arith, at)) rest short says,
+  script_append_line (first + 1) lines others line number said (omega (arith, at)) rest short says,
   ap (λ (es : List ScriptEvent). es ++ events_of number said) is
       ∙ append_assoc (events_of first other_said) others (events_of number said),
 )
@@ -117,11 +117,11 @@ module _ (mode : Mode) (number : ℕ) (config : Config) (history : List PlainEve
       (stops_one mode config middle (tick_of number) others fault other after one))
 
 -- A fault that is passed on stops the events.
-pub performs_stop : (mode : Mode) (config : Config) (history : List PlainEvent) (events : List ScriptEvent) (fault : ReplayFault)
+pub performs_fault : (mode : Mode) (config : Config) (history : List PlainEvent) (events : List ScriptEvent) (fault : ReplayFault)
     (result : Result ⊤ ReplayFault) (text : List ℕ) (after : List PlainEvent) → IsErr result → IsErrAnd result (λ e. e ≡ fault)
     → Stops mode config history events fault text after → Performs mode config history events result text after
-performs_stop mode config history events fault (Ok all) text after failed is stops = absurd cc
-performs_stop mode config history events fault (Err e) text after failed is stops =
+performs_fault mode config history events fault (Ok all) text after failed is stops = absurd cc
+performs_fault mode config history events fault (Err e) text after failed is stops =
     subst (λ (f : ReplayFault). Stops mode config history events f text after) (sym is) stops
 
 pub performs_one : (mode : Mode) (number : ℕ) (config : Config) (history : List PlainEvent) (event : PlainEvent)

@@ -16,16 +16,16 @@ use Rattle.sv_replay.specs.Text.{first_end}
 use Rattle.sv_replay.specs.Script.{parts, events_of, Stops}
 use Rattle.sv_replay.specs.Run.{run_fault, IsWhole, PrintedUpTo, Runs}
 use Rattle.sv_replay.specs.Stage.{IsStage, IsDone, StopsAt, LineRuns}
-use Rattle.sv_replay.proofs.Parts.{parts_none, parts_more, parts_never}
-use Rattle.sv_replay.proofs.Printed.{script_push, prints_then, stops_then}
+use Rattle.sv_replay.proofs.Parts.{parts_of_no_newline, parts_of_more_text, parts_never_empty}
+use Rattle.sv_replay.proofs.Printed.{script_append_line, prints_then, stops_then}
 
 -- At the start nothing was read or printed.
 pub stage_start : (config : Config) (mode : Mode) (server : State) → StandsFor server config [] → IsStage config mode server [] 0 [] []
 stage_start config mode server s = ([], [], [], refl, refl, refl, (refl, refl), s)
 
 -- What executing the line does, whatever history the server stands for.
-abbrev pub LineDone : Config → Mode → State → State → List ℕ → ℕ → Result ⊤ RunFault → Option (List ℕ) → Option (List ℕ) → Type 0
-LineDone config mode old new line number result first last = (history : List PlainEvent) → StandsFor old config history
+abbrev pub DoesLine : Config → Mode → State → State → List ℕ → ℕ → Result ⊤ RunFault → Option (List ℕ) → Option (List ℕ) → Type 0
+DoesLine config mode old new line number result first last = (history : List PlainEvent) → StandsFor old config history
     → (text : List ℕ) × (after : List PlainEvent) × LineRuns config mode line number history result text after
     × StandsFor new config after × Appends first last text
 
@@ -33,7 +33,7 @@ LineDone config mode old new line number result first last = (history : List Pla
 pub stage_line : (config : Config) (mode : Mode) (old new : State) (left rest line : List ℕ) (number next : ℕ) (read text : List ℕ)
     (first last : Option (List ℕ))
     → parts left ≡ line ∷ parts rest → next ≡ number + 1
-    → IsStage config mode old left number read text → LineDone config mode old new line next (Ok tt) first last
+    → IsStage config mode old left number read text → DoesLine config mode old new line next (Ok tt) first last
     → (other : List ℕ) × Appends first last other × IsStage config mode new rest next read (text ++ other)
 stage_line config mode old new left rest line number next read text first last cut up
     (lines, events, history, is, count, script, prints, stands) does =
@@ -46,7 +46,7 @@ stage_line config mode old new left rest line number next read text first last c
         after,
         is ∙ ap (λ (ps : List (List ℕ)). lines ++ ps) cut ∙ sym (append_assoc lines (line ∷ []) (parts rest)),
         omega (arith, length-append lines (line ∷ [])),
-        script_push 1 lines events line next said (omega (arith, up, count)) script short says,
+        script_append_line 1 lines events line next said (omega (arith, up, count)) script short says,
         prints_then mode config [] events (events_of next said) text other history after prints more,
         now,
       ),
@@ -56,7 +56,7 @@ stage_line config mode old new left rest line number next read text first last c
 pub stage_last : (config : Config) (mode : Mode) (old new : State) (left line : List ℕ) (number next : ℕ) (read text : List ℕ)
     (first last : Option (List ℕ))
     → parts left ≡ line ∷ [] → next ≡ number + 1
-    → IsStage config mode old left number read text → LineDone config mode old new line next (Ok tt) first last
+    → IsStage config mode old left number read text → DoesLine config mode old new line next (Ok tt) first last
     → (other : List ℕ) × Appends first last other × IsDone config mode new read (text ++ other)
 stage_last config mode old new left line number next read text first last cut up
     (lines, events, history, is, count, script, prints, stands) does =
@@ -66,14 +66,14 @@ stage_last config mode old new left line number next read text first last cut up
       (
         events ++ events_of next said,
         after,
-        rw (is, cut) (script_push 1 lines events line next said (omega (arith, up, count)) script short says),
+        rw (is, cut) (script_append_line 1 lines events line next said (omega (arith, up, count)) script short says),
         prints_then mode config [] events (events_of next said) text other history after prints more,
         now,
       ),
     )
 
 -- If the replay stops at an event of a line, the text is printed up to that event.
-line_short : (config : Config) (mode : Mode) (old new : State) (left line : List ℕ) (behind : List (List ℕ)) (number next : ℕ)
+printed_up_to_line : (config : Config) (mode : Mode) (old new : State) (left line : List ℕ) (behind : List (List ℕ)) (number next : ℕ)
     (fault : ReplayFault)
     (read text : List ℕ) (tail first last : Option (List ℕ)) → parts left ≡ line ∷ behind → next ≡ number + 1 → IsWhole behind tail
     → IsStage config mode old left number read text
@@ -81,7 +81,7 @@ line_short : (config : Config) (mode : Mode) (old new : State) (left line : List
     × StopsAt config mode line next history fault other after × StandsFor new config after × Appends first last other)
     → (other : List ℕ) × Appends first last other × ((lines others : List (List ℕ)) × (parts read ≡ lines ++ others)
     × IsWhole others tail × PrintedUpTo config mode lines fault (text ++ other))
-line_short config mode old new left line behind number next fault read text tail first last cut up whole
+printed_up_to_line config mode old new left line behind number next fault read text tail first last cut up whole
     (lines, events, history, is, count, script, prints, stands) does =
     let (other, after, (said, short, says, stops), now, put) = does history stands in (
       other,
@@ -94,7 +94,7 @@ line_short config mode old new left line behind number next fault read text tail
         (
           events ++ events_of next said,
           after,
-          script_push 1 lines events line next said (omega (arith, up, count)) script short says,
+          script_append_line 1 lines events line next said (omega (arith, up, count)) script short says,
           stops_then mode config [] events (events_of next said) fault text other history after prints stops,
         ),
       ),
@@ -106,7 +106,7 @@ pub stage_stop : (config : Config) (mode : Mode) (old new : State) (left line : 
     (read text : List ℕ)
     (tail first last : Option (List ℕ)) → parts left ≡ line ∷ behind
     → next ≡ number + 1 → IsWhole behind tail → IsStage config mode old left number read text
-    → LineDone config mode old new line next (Err fault) first last
+    → DoesLine config mode old new line next (Err fault) first last
     → (other : List ℕ) × Appends first last other × Runs config mode read tail (Err fault) (text ++ other)
 stage_stop config mode old new left line behind number next (BadLine n) read text tail first last cut up whole (
   lines,
@@ -145,18 +145,18 @@ stage_stop config mode old new left line behind number next Input read text tail
     let (other, after, impossible, now, put) = does history stands in elim impossible [ ]
 stage_stop config mode old new left line behind number next Output read text tail first last cut up whole stage does =
     let (other, put, (lines, others, is, all, stops)) =
-    line_short config mode old new left line behind number next Write read text tail first last cut up whole stage does in
+    printed_up_to_line config mode old new left line behind number next Write read text tail first last cut up whole stage does in
     (other, put, (lines, others, is, all, inr (Write, stops)))
 stage_stop config mode old new left line behind number next Memory read text tail first last cut up whole stage does =
     let (other, put, stops) =
-    line_short config mode old new left line behind number next NoMemory read text tail first last cut up whole stage does in
+    printed_up_to_line config mode old new left line behind number next NoMemory read text tail first last cut up whole stage does in
     (other, put, inr stops)
 
 pub stage_read : (config : Config) (mode : Mode) (server : State) (left : List ℕ) (number : ℕ) (read text more : List ℕ)
     → IsStage config mode server left number read text
     → IsStage config mode server (left ++ more) number (read ++ more) text
 stage_read config mode server left number read text more (lines, events, history, is, count, script, prints, stands) =
-    (lines, events, history, parts_more read left more lines is, count, script, prints, stands)
+    (lines, events, history, parts_of_more_text read left more lines is, count, script, prints, stands)
 
 -- If more than 65,536 bytes hold no new line, the line that they begin is bad.
 pub stage_long : (config : Config) (mode : Mode) (server : State) (left : List ℕ) (number next : ℕ) (read text : List ℕ)
@@ -168,7 +168,7 @@ stage_long config mode server left number next read text tail none long up (line
   lines,
   [],
   left,
-  is ∙ ap (λ (ps : List (List ℕ)). lines ++ ps) (parts_none left none),
+  is ∙ ap (λ (ps : List (List ℕ)). lines ++ ps) (parts_of_no_newline left none),
   up ∙ ap (λ (m : ℕ). m + 1) count,
   inl long,
   inr long,
@@ -180,21 +180,22 @@ pub stage_output : (config : Config) (mode : Mode) (server : State) (left : List
     (tail : Option (List ℕ))
     → IsStage config mode server left number read text → Runs config mode read tail (Err Output) text
 stage_output config mode server left number read text tail (lines, events, history, is, count, script, prints, stands) =
-    (lines, parts left, is, inl (parts_never left), inl (events, history, script, prints))
+    (lines, parts left, is, inl (parts_never_empty left), inl (events, history, script, prints))
 
 -- The output may also fail after a result that would otherwise be returned.
-pub output_instead : (config : Config) (mode : Mode) (read text : List ℕ) (tail : Option (List ℕ)) (answer : Result ⊤ RunFault)
+pub output_fault_replaces : (config : Config) (mode : Mode) (read text : List ℕ) (tail : Option (List ℕ)) (answer : Result ⊤ RunFault)
     → OnOk answer (IsAtEnd tail)
     → Runs config mode read tail answer text → Runs config mode read tail (Err Output) text
-output_instead config mode read text tail (Ok all) end printed = (parts read, [], sym (append-nil (parts read)), inr end, inl printed)
-output_instead config mode read text tail (Err (BadLine n)) end (lines, behind, line, is, count, bad, whole, printed) =
+output_fault_replaces config mode read text tail (Ok all) end printed =
+    (parts read, [], sym (append-nil (parts read)), inr end, inl printed)
+output_fault_replaces config mode read text tail (Err (BadLine n)) end (lines, behind, line, is, count, bad, whole, printed) =
     (lines, line ∷ behind, is, inl (λ none. absurd cc), inl printed)
-output_instead config mode read text tail (Err Input) end (lines, last, is, printed) =
+output_fault_replaces config mode read text tail (Err Input) end (lines, last, is, printed) =
     (lines, last ∷ [], is, inl (λ none. absurd cc), inl printed)
-output_instead config mode read text tail (Err Output) end runs = runs
-output_instead config mode read text tail (Err Memory) end (inl (nothing, unsaid)) =
-    ([], parts read, refl, inl (parts_never read), inl ([], [], refl, (unsaid, refl)))
-output_instead config mode read text tail (Err Memory) end (inr (lines, behind, is, whole, stops)) =
+output_fault_replaces config mode read text tail (Err Output) end runs = runs
+output_fault_replaces config mode read text tail (Err Memory) end (inl (nothing, unsaid)) =
+    ([], parts read, refl, inl (parts_never_empty read), inl ([], [], refl, (unsaid, refl)))
+output_fault_replaces config mode read text tail (Err Memory) end (inr (lines, behind, is, whole, stops)) =
     (lines, behind, is, whole, inr (NoMemory, stops))
 
 -- If the reader fails while no complete line is left, all complete lines are executed.
@@ -203,16 +204,18 @@ pub stage_input : (config : Config) (mode : Mode) (server : State) (left : List 
     → first_end left ≡ None
     → IsStage config mode server left number read text → Runs config mode read tail (Err Input) text
 stage_input config mode server left number read text tail none (lines, events, history, is, count, script, prints, stands) =
-    (lines, left, is ∙ ap (λ (ps : List (List ℕ)). lines ++ ps) (parts_none left none), (events, history, script, prints))
+    (lines, left, is ∙ ap (λ (ps : List (List ℕ)). lines ++ ps) (parts_of_no_newline left none), (events, history, script, prints))
 
 -- A fault of the replay of an event is reported as the corresponding fault of the run.
-pub line_stops : (config : Config) (mode : Mode) (line : List ℕ) (number : ℕ) (history : List PlainEvent) (said : Line)
+pub replay_fault_stops_line : (config : Config) (mode : Mode) (line : List ℕ) (number : ℕ) (history : List PlainEvent) (said : Line)
     (fault : ReplayFault)
     (result : Result ⊤ RunFault)
     (text : List ℕ) (after : List PlainEvent) → length line ≤ 65536
     → Says line said → IsErr result → IsErrAnd result (λ e. e ≡ run_fault fault)
     → Stops mode config history (events_of number said) fault text after
     → LineRuns config mode line number history result text after
-line_stops config mode line number history said fault (Ok all) text after short says failed is stops = absurd cc
-line_stops config mode line number history said NoMemory (Err e) text after short says failed is stops = rw is (said, short, says, stops)
-line_stops config mode line number history said Write (Err e) text after short says failed is stops = rw is (said, short, says, stops)
+replay_fault_stops_line config mode line number history said fault (Ok all) text after short says failed is stops = absurd cc
+replay_fault_stops_line config mode line number history said NoMemory (Err e) text after short says failed is stops =
+    rw is (said, short, says, stops)
+replay_fault_stops_line config mode line number history said Write (Err e) text after short says failed is stops =
+    rw is (said, short, says, stops)

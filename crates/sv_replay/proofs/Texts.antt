@@ -8,9 +8,9 @@ use Rattle.memchr.specs.Find.{IsFirstByte, is_byte}
 use Rattle.sv_replay.specs.Text.{IsKept, line_size, first_end}
 
 -- Appending text never makes the first line shorter.
-pub line_with : (text more : List ℕ) → line_size text ≤ line_size (text ++ more)
-line_with [] more = omega arith
-line_with (b ∷ text) more = at (b == 10) (line_with text more)
+pub line_size_of_append : (text more : List ℕ) → line_size text ≤ line_size (text ++ more)
+line_size_of_append [] more = omega arith
+line_size_of_append (b ∷ text) more = at (b == 10) (line_size_of_append text more)
   where
     at : (t : Bool) → line_size text ≤ line_size (text ++ more)
         → cond (not t) (1 + line_size text) 0 ≤ cond (not t) (1 + line_size (text ++ more)) 0
@@ -18,20 +18,20 @@ line_with (b ∷ text) more = at (b == 10) (line_with text more)
     at false h = omega arith
 
 -- Dropping `n` bytes makes the first line at most `n` bytes shorter.
-pub line_behind : (n : ℕ) (text : List ℕ) → line_size text ≤ n + line_size (drop n text)
-line_behind zero text = omega arith
-line_behind (suc n) [] = omega arith
-line_behind (suc n) (b ∷ text) = at (b == 10) (line_behind n text)
+pub line_size_after_drop : (n : ℕ) (text : List ℕ) → line_size text ≤ n + line_size (drop n text)
+line_size_after_drop zero text = omega arith
+line_size_after_drop (suc n) [] = omega arith
+line_size_after_drop (suc n) (b ∷ text) = at (b == 10) (line_size_after_drop n text)
   where
     at : (t : Bool) → line_size text ≤ n + line_size (drop n text) → cond (not t) (1 + line_size text) 0 ≤ suc n + line_size (drop n text)
     at true h = omega arith
     at false h = omega arith
 
 -- Dropping `n` bytes of the first line makes it exactly `n` bytes shorter.
-pub line_clean : (n : ℕ) (text : List ℕ) → n ≤ line_size text → line_size text ≡ n + line_size (drop n text)
-line_clean zero text h = omega arith
-line_clean (suc n) [] h = omega arith
-line_clean (suc n) (b ∷ text) h = at (b == 10) (line_clean n text) h
+pub line_size_within_line : (n : ℕ) (text : List ℕ) → n ≤ line_size text → line_size text ≡ n + line_size (drop n text)
+line_size_within_line zero text h = omega arith
+line_size_within_line (suc n) [] h = omega arith
+line_size_within_line (suc n) (b ∷ text) h = at (b == 10) (line_size_within_line n text) h
   where
     at : (t : Bool) → (n ≤ line_size text → line_size text ≡ n + line_size (drop n text)) → suc n ≤ cond (not t) (1 + line_size text) 0
         → cond (not t) (1 + line_size text) 0 ≡ suc n + line_size (drop n text)
@@ -39,8 +39,8 @@ line_clean (suc n) (b ∷ text) h = at (b == 10) (line_clean n text) h
     at false f h = omega (arith, f (omega arith))
 
 -- The first new line that a search finds ends the first line.
-pub line_found : (text : List ℕ) (k : ℕ) → IsFirstByte (is_byte 10) text (Some k) → (line_size text ≡ k) × (k < length text)
-line_found text k h = (
+pub line_size_of_found : (text : List ℕ) (k : ℕ) → IsFirstByte (is_byte 10) text (Some k) → (line_size text ≡ k) × (k < length text)
+line_size_of_found text k h = (
   prefix_len_is (λ b. not (b == 10)) text k 0 (omega (arith, h.0.high))
       (λ j lt. not_from_false _ (false_from_ne_true _ (h.0.before j (omega arith) lt)))
       (λ _. ap not h.1),
@@ -48,24 +48,24 @@ line_found text k h = (
 )
 
 -- If a search finds no new line, the whole text is the first line.
-pub line_open : (text : List ℕ) → IsFirstByte (is_byte 10) text None → line_size text ≡ length text
-line_open text h = prefix_len_is (λ b. not (b == 10)) text (length text) 0 (omega arith)
+pub line_size_without_newline : (text : List ℕ) → IsFirstByte (is_byte 10) text None → line_size text ≡ length text
+line_size_without_newline text h = prefix_len_is (λ b. not (b == 10)) text (length text) 0 (omega arith)
     (λ j lt. not_from_false _ (false_from_ne_true _ (h j (omega arith) lt)))
     (λ lt. absurd (omega arith))
 
 -- The end of the first line is reported as its position, or as `None` if there is no new line.
-pub end_found : (text : List ℕ) (k : ℕ) → line_size text ≡ k → k < length text → Some k ≡ first_end text
-end_found text k e lt = rw (e, lt-ltb k (length text) lt) refl
+pub first_end_of_found : (text : List ℕ) (k : ℕ) → line_size text ≡ k → k < length text → Some k ≡ first_end text
+first_end_of_found text k e lt = rw (e, lt-ltb k (length text) lt) refl
 
-pub end_open : (text : List ℕ) → line_size text ≡ length text → None ≡ first_end text
-end_open text e = rw (e, le-ltb (length text) (length text) (omega arith)) refl
+pub first_end_without_newline : (text : List ℕ) → line_size text ≡ length text → None ≡ first_end text
+first_end_without_newline text e = rw (e, le-ltb (length text) (length text) (omega arith)) refl
 
-pub text_size : (buffer : List ℕ) (start end : ℕ) → end ≤ length buffer → length (slice_range buffer start end) ≡ end - start
-text_size buffer start end within = length-take-le (end - start) (drop start buffer) (omega (arith, length-drop start buffer))
+pub slice_length : (buffer : List ℕ) (start end : ℕ) → end ≤ length buffer → length (slice_range buffer start end) ≡ end - start
+slice_length buffer start end within = length-take-le (end - start) (drop start buffer) (omega (arith, length-drop start buffer))
 
-pub text_behind : (buffer : List ℕ) (start next end : ℕ) → start ≤ next → next ≤ end
+pub slice_drop : (buffer : List ℕ) (start next end : ℕ) → start ≤ next → next ≤ end
     → slice_range buffer next end ≡ drop (next - start) (slice_range buffer start end)
-text_behind buffer start next end le within =
+slice_drop buffer start next end le within =
     let parts : end - start ≡ (next - start) + (end - next) = omega arith in
     let reached : start + (next - start) ≡ next = omega arith in
     sym (ap (λ (n : ℕ). drop (next - start) (take n (drop start buffer))) parts ∙ drop-take (next - start) (end - next) (drop start buffer)
@@ -77,19 +77,19 @@ pub found_keeps : (buffer : List ℕ) (start clean end reads k : ℕ) → IsKept
     → IsKept buffer start (clean + k) end reads × (Some (clean + k - start) ≡ first_end (slice_range buffer start end))
 found_keeps buffer start clean end reads k kept found =
     let text = slice_range buffer start end in
-    let rest : slice_range buffer clean end ≡ drop (clean - start) text = text_behind buffer start clean end kept.order.0 kept.order.1 in
-    let at = line_found (slice_range buffer clean end) k found in
-    let more = line_clean (clean - start) text (omega (arith, kept.order, kept.unbroken)) in
+    let rest : slice_range buffer clean end ≡ drop (clean - start) text = slice_drop buffer start clean end kept.order.0 kept.order.1 in
+    let at = line_size_of_found (slice_range buffer clean end) k found in
+    let more = line_size_within_line (clean - start) text (omega (arith, kept.order, kept.unbroken)) in
     let line : line_size text ≡ clean + k - start = omega (arith, more, ap line_size rest, at.0, kept.order) in
-    let size = text_size buffer start end (omega (arith, kept.order, kept.size)) in
-    let left = text_size buffer clean end (omega (arith, kept.order, kept.size)) in (
+    let size = slice_length buffer start end (omega (arith, kept.order, kept.size)) in
+    let left = slice_length buffer clean end (omega (arith, kept.order, kept.size)) in (
       record {
         order = (omega (arith, kept.order), omega (arith, at.1, left, kept.order), kept.order.2);
         size = kept.size;
         unbroken = omega (arith, line, kept.order);
         few = kept.few;
       },
-      end_found text (clean + k - start) line (omega (arith, at.1, left, size, kept.order)),
+      first_end_of_found text (clean + k - start) line (omega (arith, at.1, left, size, kept.order)),
     )
 
 -- If a search that begins at `clean` finds none, the text has none; the whole text is then clean.
@@ -98,11 +98,11 @@ pub open_keeps : (buffer : List ℕ) (start clean end reads : ℕ) → IsKept bu
     → IsKept buffer start end end reads × (None ≡ first_end (slice_range buffer start end))
 open_keeps buffer start clean end reads kept none =
     let text = slice_range buffer start end in
-    let rest : slice_range buffer clean end ≡ drop (clean - start) text = text_behind buffer start clean end kept.order.0 kept.order.1 in
-    let all = line_open (slice_range buffer clean end) none in
-    let more = line_clean (clean - start) text (omega (arith, kept.order, kept.unbroken)) in
-    let size = text_size buffer start end (omega (arith, kept.order, kept.size)) in
-    let left = text_size buffer clean end (omega (arith, kept.order, kept.size)) in
+    let rest : slice_range buffer clean end ≡ drop (clean - start) text = slice_drop buffer start clean end kept.order.0 kept.order.1 in
+    let all = line_size_without_newline (slice_range buffer clean end) none in
+    let more = line_size_within_line (clean - start) text (omega (arith, kept.order, kept.unbroken)) in
+    let size = slice_length buffer start end (omega (arith, kept.order, kept.size)) in
+    let left = slice_length buffer clean end (omega (arith, kept.order, kept.size)) in
     let line : line_size text ≡ length text = omega (arith, more, ap line_size rest, all, left, size, kept.order) in (
       record {
         order = (omega (arith, kept.order), omega arith, kept.order.2);
@@ -110,7 +110,7 @@ open_keeps buffer start clean end reads kept none =
         unbroken = omega (arith, line, size, kept.order);
         few = kept.few;
       },
-      end_open text line,
+      first_end_without_newline text line,
     )
 
 -- Dropping the first `n` bytes of the text keeps the invariant.
@@ -118,12 +118,12 @@ pub dropped_keeps : (buffer : List ℕ) (start clean later end reads n : ℕ) �
     → n ≤ length (slice_range buffer start end) → later ≡ max clean (start + n)
     → IsKept buffer (start + n) later end reads × (slice_range buffer (start + n) end ≡ drop n (slice_range buffer start end))
 dropped_keeps buffer start clean later end reads n kept some is =
-    let size = text_size buffer start end (omega (arith, kept.order, kept.size)) in
+    let size = slice_length buffer start end (omega (arith, kept.order, kept.size)) in
     let count : start + n - start ≡ n = omega arith in
     let rest : slice_range buffer (start + n) end ≡ drop n (slice_range buffer start end) =
-    text_behind buffer start (start + n) end (omega arith) (omega (arith, size, kept.order))
+    slice_drop buffer start (start + n) end (omega arith) (omega (arith, size, kept.order))
     ∙ ap (λ (k : ℕ). drop k (slice_range buffer start end)) count in
-    let left = line_behind n (slice_range buffer start end) in (
+    let left = line_size_after_drop n (slice_range buffer start end) in (
       record {
         order = (omega arith, omega (arith, size, kept.order), kept.order.2);
         size = kept.size;
@@ -145,7 +145,7 @@ pub moved_ready : (buffer moved : List ℕ) (start clean end reads count : ℕ) 
     → (end - start ≤ 65536 → end - count ≤ 65536)
     → IsReady moved (start - count) (clean - count) (end - count) reads text
 moved_ready buffer moved start clean end reads count text kept is short size within same room =
-    let few = text_size buffer start end (omega (arith, kept.order, kept.size)) in
+    let few = slice_length buffer start end (omega (arith, kept.order, kept.size)) in
     record {
       kept = record {
         order = (omega (arith, kept.order), omega (arith, kept.order), omega (arith, kept.order));
@@ -175,7 +175,7 @@ filled_keeps buffer filled start clean end last reads count more text ready size
     ap (λ (k : ℕ). take k (drop start filled)) parts ∙ take-add m count (drop start filled)
     ∙ ap (λ (l : List ℕ). l ++ take count (drop m (drop start filled))) head
     ∙ ap (λ (l : List ℕ). text ++ take count l) tail in
-    let longer = line_with text (take count (drop end filled)) in (
+    let longer = line_size_of_append text (take count (drop end filled)) in (
       record {
         order = (old.order.0, omega (arith, old.order), omega (arith, length-drop end filled, size, old.size, some, ready.room));
         size = size ∙ old.size;

@@ -4,7 +4,7 @@ use Rattle.std.proofs.lemmas.Bool.{cases_Bool, cond-true, cond-false, eqb-true, 
 use Rattle.sv_xdr.specs.declared.fault.XdrFault.{XdrFault}
 use Rattle.sv_xdr.specs.Spelling.{Unsigned, Opaque, Begins, BeginsAll}
 use Rattle.sv_xdr.specs.Reader.{unsigned_at, opaque_at}
-use Rattle.sv_xdr.proofs.Fields.{IsBytes, bytes_after, unsigned_begins, unsigned_takes, opaque_again, opaque_at_takes}
+use Rattle.sv_xdr.proofs.Fields.{IsBytes, bytes_after, unsigned_reads, unsigned_takes, opaque_reads, opaque_at_takes}
 use Rattle.sv_rpc.specs.declared.call.CallFault.{CallFault}
 use Rattle.sv_rpc.specs.declared.call.CallFault.TheVariants.{BadHeader, Version}
 use Rattle.sv_rpc.specs.Limits.{max_auth}
@@ -26,16 +26,16 @@ call_reads bytes call h =
     let flavor2 = credential.2 in
     let verifier = flavor2.2 in
     rw (
-      unsigned_begins bytes xid.0 call.xid xid.1,
-      unsigned_begins xid.0 kind.0 0 kind.1,
-      unsigned_begins kind.0 version.0 2 version.1,
-      unsigned_begins version.0 prog.0 call.prog prog.1,
-      unsigned_begins prog.0 vers.0 call.vers vers.1,
-      unsigned_begins vers.0 proc.0 call.proc proc.1,
-      unsigned_begins proc.0 flavor.0 h.0.flavor flavor.1,
-      opaque_again max_auth flavor.0 h.0.body credential.0 credential.1 h.2,
-      unsigned_begins credential.0 flavor2.0 h.1.flavor flavor2.1,
-      opaque_again max_auth flavor2.0 h.1.body verifier.0 verifier.1 h.3,
+      unsigned_reads bytes xid.0 call.xid xid.1,
+      unsigned_reads xid.0 kind.0 0 kind.1,
+      unsigned_reads kind.0 version.0 2 version.1,
+      unsigned_reads version.0 prog.0 call.prog prog.1,
+      unsigned_reads prog.0 vers.0 call.vers vers.1,
+      unsigned_reads vers.0 proc.0 call.proc proc.1,
+      unsigned_reads proc.0 flavor.0 h.0.flavor flavor.1,
+      opaque_reads max_auth flavor.0 h.0.body credential.0 credential.1 h.2,
+      unsigned_reads credential.0 flavor2.0 h.1.flavor flavor2.1,
+      opaque_reads max_auth flavor2.0 h.1.body verifier.0 verifier.1 h.3,
       verifier.2,
     ) refl
 
@@ -47,9 +47,9 @@ version_reads bytes xid h =
     let kind = first.2 in
     let version = kind.2 in
     rw (
-      unsigned_begins bytes first.0 xid first.1,
-      unsigned_begins first.0 kind.0 0 kind.1,
-      unsigned_begins kind.0 version.0 h.0 version.1,
+      unsigned_reads bytes first.0 xid first.1,
+      unsigned_reads first.0 kind.0 0 kind.1,
+      unsigned_reads kind.0 version.0 h.0 version.1,
       ne_eqb h.0 2 h.2,
     ) refl
 
@@ -66,20 +66,22 @@ one_call bytes (Err BadHeader) (Err (Version n)) h k = absurd (h.1 n k)
 one_call bytes (Err BadHeader) (Err BadHeader) h k = refl
 
 -- Any result but the fault `BadHeader`.
-abbrev Good : Result PlainCall CallFault → Type 0
-Good r = r ≡ Err BadHeader → ⊥
+abbrev NotBadHeader : Result PlainCall CallFault → Type 0
+NotBadHeader r = r ≡ Err BadHeader → ⊥
 
 -- If reading doesn't fail with `BadHeader`, each of its steps succeeded.
-bind_good : {A : Type 0} (s : Result A XdrFault) (f : A → Result PlainCall CallFault) (r : Result PlainCall CallFault) → Good r →
+step_succeeds : {A : Type 0} (s : Result A XdrFault) (f : A → Result PlainCall CallFault) (r : Result PlainCall CallFault)
+    → NotBadHeader r →
     (s >>= f) ≡ r
     → (x : A) × (s ≡ Ok x) × (f x ≡ r)
-bind_good (Ok x) f r good e = (x, refl, e)
-bind_good (Err fault) f r good e = absurd (good (sym e))
+step_succeeds (Ok x) f r good e = (x, refl, e)
+step_succeeds (Err fault) f r good e = absurd (good (sym e))
 
 -- Both cases of a comparison of numbers, for a result that depends on it.
-tested : {P : Type 0} (m n : ℕ) (x y r : Result PlainCall CallFault) → cond (eqb m n) x y ≡ r → (m ≡ n → x ≡ r → P) → (m ≢ n → y ≡ r → P)
+cases_by_number : {P : Type 0} (m n : ℕ) (x y r : Result PlainCall CallFault) → cond (eqb m n) x y ≡ r → (m ≡ n → x ≡ r → P)
+    → (m ≢ n → y ≡ r → P)
     → P
-tested m n x y r e same other =
+cases_by_number m n x y r e same other =
     elim (cases_Bool (eqb m n)) [
       | inl t ↦ same (eqb-true m n t) (sym (cond-true (eqb m n) x y t) ∙ e)
       | inr f ↦ other (eqb-false m n f) (sym (cond-false (eqb m n) x y f) ∙ e)
@@ -87,26 +89,26 @@ tested m n x y r e same other =
 
 -- If reading doesn't fail, an unsigned integer comes next, and reading goes on after it.
 unsigned_step : {P : Type 0} (bytes : List ℕ) (f : ℕ × List ℕ → Result PlainCall CallFault) (r : Result PlainCall CallFault) → IsBytes bytes
-    → Good r → (unsigned_at bytes >>= f) ≡ r
+    → NotBadHeader r → (unsigned_at bytes >>= f) ≡ r
     → ((n : ℕ) (after : List ℕ) → Begins bytes (Unsigned n) after → IsBytes after → f (n, after) ≡ r → P) → P
 unsigned_step bytes f r fits good e then =
-    let s = bind_good (unsigned_at bytes) f r good e in
+    let s = step_succeeds (unsigned_at bytes) f r good e in
     let b = unsigned_takes bytes s.0.1 s.0.0 fits s.1 in
     then s.0.0 s.0.1 b (bytes_after (Unsigned s.0.0) bytes s.0.1 fits b) s.2
 
 -- The same for opaque data.
 opaque_step : {P : Type 0} (bytes : List ℕ) (f : List ℕ × List ℕ → Result PlainCall CallFault) (r : Result PlainCall CallFault)
     → IsBytes bytes
-    → Good r → (opaque_at max_auth bytes >>= f) ≡ r
+    → NotBadHeader r → (opaque_at max_auth bytes >>= f) ≡ r
     → ((text after : List ℕ) → Begins bytes (Opaque text) after → length text ≤ max_auth → IsBytes after
     → f (text, after) ≡ r → P) → P
 opaque_step bytes f r fits good e then =
-    let s = bind_good (opaque_at max_auth bytes) f r good e in
+    let s = step_succeeds (opaque_at max_auth bytes) f r good e in
     let b = opaque_at_takes max_auth bytes s.0.0 s.0.1 fits s.1 in
     then s.0.0 s.0.1 b.0 b.1 (bytes_after (Opaque s.0.0) bytes s.0.1 fits b.0) s.2
 
 -- A call that is read from the bytes after the RPC version is encoded there.
-body_takes : (xid : ℕ) (bytes : List ℕ) (r : Result PlainCall CallFault) → IsBytes bytes → Good r → body_at xid bytes ≡ r
+body_takes : (xid : ℕ) (bytes : List ℕ) (r : Result PlainCall CallFault) → IsBytes bytes → NotBadHeader r → body_at xid bytes ≡ r
     → (call : PlainCall) × (xid ≡ call.xid) × (Ok call ≡ r) × (c v : Auth) × (length c.body ≤ max_auth)
     × (length v.body ≤ max_auth)
     × BeginsAll bytes (drop 3 (heading call c v)) call.args
@@ -130,15 +132,15 @@ body_takes xid bytes r fits good e =
     ))))))))
 
 -- A call that is read is encoded there; a reported xid is that of a call under another version.
-call_takes : (bytes : List ℕ) (r : Result PlainCall CallFault) → IsBytes bytes → Good r → call_at bytes ≡ r → CallIs bytes r
+call_takes : (bytes : List ℕ) (r : Result PlainCall CallFault) → IsBytes bytes → NotBadHeader r → call_at bytes ≡ r → CallIs bytes r
 unfolding call_at
 call_takes bytes r fits good e =
     unsigned_step bytes _ r fits good e (λ xid l1 b1 fits1 e1.
     unsigned_step l1 _ r fits1 good e1 (λ kind l2 b2 fits2 e2.
-    tested kind 0 _ _ r e2 (λ zero e3.
+    cases_by_number kind 0 _ _ r e2 (λ zero e3.
     let called : Begins l1 (Unsigned 0) l2 = subst (λ (n : ℕ). Begins l1 (Unsigned n) l2) zero b2 in
     unsigned_step l2 _ r fits2 good e3 (λ version l3 b3 fits3 e4.
-    tested version 2 _ _ r e4 (λ two e5.
+    cases_by_number version 2 _ _ r e4 (λ two e5.
     let b = body_takes xid l3 r fits3 good e5 in
     let from = subst (λ (n : ℕ). Begins bytes (Unsigned n) l1) b.1 b1 in
     let under = subst (λ (n : ℕ). Begins l2 (Unsigned n) l3) two b3 in
@@ -146,18 +148,19 @@ call_takes bytes r fits good e =
     (λ other e5. subst (CallIs bytes) e5 (version, l3, other, (l1, b1, (l2, called, (l3, b3, refl)))))))
     (λ other e3. absurd (good (sym e3)))))
 
-is_outcome : (bytes : List ℕ) (r : Result PlainCall CallFault) → IsBytes bytes → call_at bytes ≡ r → CallIs bytes r
-is_outcome bytes (Ok call) fits e = call_takes bytes (Ok call) fits (λ bad. absurd cc) e
-is_outcome bytes (Err (Version xid)) fits e = call_takes bytes (Err (Version xid)) fits (λ bad. absurd cc) e
-is_outcome bytes (Err BadHeader) fits e = (
+outcome_is_right : (bytes : List ℕ) (r : Result PlainCall CallFault) → IsBytes bytes → call_at bytes ≡ r → CallIs bytes r
+outcome_is_right bytes (Ok call) fits e = call_takes bytes (Ok call) fits (λ bad. absurd cc) e
+outcome_is_right bytes (Err (Version xid)) fits e = call_takes bytes (Err (Version xid)) fits (λ bad. absurd cc) e
+outcome_is_right bytes (Err BadHeader) fits e = (
   λ call h. absurd (cc (call_reads bytes call h)),
   λ xid h. absurd (cc (version_reads bytes xid h)),
 )
 
 -- For any bytes, the function returns what the definition requires.
 pub call_is : (bytes : List ℕ) → IsBytes bytes → CallIs bytes (call_at bytes)
-call_is bytes fits = is_outcome bytes (call_at bytes) fits refl
+call_is bytes fits = outcome_is_right bytes (call_at bytes) fits refl
 
 -- What the definition says of the bytes is what the function returns.
-pub call_only : (bytes : List ℕ) (outcome : Result PlainCall CallFault) → IsBytes bytes → CallIs bytes outcome → call_at bytes ≡ outcome
-call_only bytes outcome fits h = one_call bytes (call_at bytes) outcome (call_is bytes fits) h
+pub call_at_is_unique : (bytes : List ℕ) (outcome : Result PlainCall CallFault) → IsBytes bytes → CallIs bytes outcome
+    → call_at bytes ≡ outcome
+call_at_is_unique bytes outcome fits h = one_call bytes (call_at bytes) outcome (call_is bytes fits) h

@@ -15,14 +15,15 @@ pub sum_push : (ns : List ℕ) (n : ℕ) → sum (ns ++ n ∷ []) ≡ sum ns + n
 sum_push ns n = sum_by-append (λ x. x) ns (n ∷ []) ∙ ap (λ (k : ℕ). sum ns + k) (sum_cons n [] ∙ omega arith)
 
 -- The capacity that complete records use: 4 bytes for each, and their lengths.
-pub counted_cut : (ns : List ℕ) (bytes : List ℕ) → sum ns ≤ length bytes
+pub capacity_of_records : (ns : List ℕ) (bytes : List ℕ) → sum ns ≤ length bytes
     → sum_by (λ (r : List ℕ). 4 + length r) (cut ns bytes) ≡ 4 * length ns + sum ns
-counted_cut [] bytes h = refl
-counted_cut (n ∷ ns) bytes h =
+capacity_of_records [] bytes h = refl
+capacity_of_records (n ∷ ns) bytes h =
     let total = sum_cons n ns in
     let short : sum ns ≤ length (drop n bytes) = omega (arith, length-drop n bytes) in
     let size : length (take n bytes) ≡ n = length-take-le n bytes (omega arith) in
-    omega (arith, sum_by-cons (λ (r : List ℕ). 4 + length r) (take n bytes) (cut ns (drop n bytes)), counted_cut ns (drop n bytes) short)
+    omega (arith, sum_by-cons (λ (r : List ℕ). 4 + length r) (take n bytes) (cut ns (drop n bytes)), capacity_of_records ns (drop n bytes)
+        short)
 
 -- Bytes that follow the records change none of them.
 pub cut_append : (ns bytes piece : List ℕ) → sum ns ≤ length bytes → cut ns (bytes ++ piece) ≡ cut ns bytes
@@ -50,8 +51,8 @@ cut_push (m ∷ ns) bytes n h =
 -- The capacity that the buffer uses, computed from the lengths of its fields.
 pub used_at_header : (ns bytes header : List ℕ) (n : ℕ) → sum ns + n ≡ length bytes
     → used_by (cut ns bytes) (Header (drop (sum ns) bytes) header) ≡ 4 * length ns + length bytes + 4 + length header
-used_at_header ns bytes header n h = omega (arith, counted_cut ns bytes (omega arith), length-drop (sum ns) bytes)
+used_at_header ns bytes header n h = omega (arith, capacity_of_records ns bytes (omega arith), length-drop (sum ns) bytes)
 
 pub used_in_data : (ns bytes : List ℕ) (n missing : ℕ) (last : Bool) → sum ns + n ≡ length bytes
     → used_by (cut ns bytes) (Data (drop (sum ns) bytes) missing last) ≡ 4 * length ns + length bytes + 4
-used_in_data ns bytes n missing last h = omega (arith, counted_cut ns bytes (omega arith), length-drop (sum ns) bytes)
+used_in_data ns bytes n missing last h = omega (arith, capacity_of_records ns bytes (omega arith), length-drop (sum ns) bytes)

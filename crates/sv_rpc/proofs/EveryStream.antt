@@ -9,17 +9,17 @@ use Rattle.sv_rpc.specs.Limits.{max_record}
 use Rattle.sv_rpc.specs.Record.{header_of, fragment, Sent, Tail, Header, Data, TooLong, IsTail, Splits}
 use Rattle.sv_rpc.specs.Stream.{Reading, read_on, read_data, read, reading, records_of, tail_of}
 use Rattle.sv_rpc.specs.Laws.{ReadAsSplit}
-use Rattle.sv_rpc.proofs.Steps.{header_read}
+use Rattle.sv_rpc.proofs.Steps.{header_of_word}
 
 -- The unfinished record begins with the fragments `front`, none of which is its last. `bytes`
 -- follow them, and the whole splits into the records and the tail of `reading`.
-abbrev pub SplitsSo : List (List ℕ) → List ℕ → Reading → Type 0
-SplitsSo front bytes reading = Splits (flat_map (fragment false) front ++ bytes) reading.0 reading.1
+abbrev pub SplitsAfter : List (List ℕ) → List ℕ → Reading → Type 0
+SplitsAfter front bytes reading = Splits (flat_map (fragment false) front ++ bytes) reading.0 reading.1
 
 -- Bytes without a complete record are a tail.
-tail_alone : (front : List (List ℕ)) (bytes : List ℕ) (tail : Tail) → IsTail (flat_map (fragment false) front ++ bytes) tail
-    → SplitsSo front bytes ([], tail)
-tail_alone front bytes tail is = record {
+splits_as_tail : (front : List (List ℕ)) (bytes : List ℕ) (tail : Tail) → IsTail (flat_map (fragment false) front ++ bytes) tail
+    → SplitsAfter front bytes ([], tail)
+splits_as_tail front bytes tail is = record {
   sent = [];
   rest = flat_map (fragment false) front ++ bytes;
   whole = refl;
@@ -28,12 +28,12 @@ tail_alone front bytes tail is = record {
   behind = is;
 }
 
-front_more : (front : List (List ℕ)) (text rest : List ℕ)
+fragments_append : (front : List (List ℕ)) (text rest : List ℕ)
     → flat_map (fragment false) (front ++ text ∷ []) ++ rest ≡ flat_map (fragment false) front ++ (fragment false text ++ rest)
-front_more [] text rest = ap (λ (l : List ℕ). l ++ rest) (append-nil (fragment false text))
-front_more (first ∷ front) text rest =
+fragments_append [] text rest = ap (λ (l : List ℕ). l ++ rest) (append-nil (fragment false text))
+fragments_append (first ∷ front) text rest =
     append_assoc (fragment false first) (flat_map (fragment false) (front ++ text ∷ [])) rest
-    ∙ ap (λ (l : List ℕ). fragment false first ++ l) (front_more front text rest)
+    ∙ ap (λ (l : List ℕ). fragment false first ++ l) (fragments_append front text rest)
     ∙ sym (append_assoc (fragment false first) (flat_map (fragment false) front) (fragment false text ++ rest))
 
 concat_more : (front : List (List ℕ)) (text : List ℕ) → concat (front ++ text ∷ []) ≡ concat front ++ text
@@ -41,10 +41,10 @@ concat_more [] text = append-nil text
 concat_more (first ∷ front) text = ap (λ (l : List ℕ). first ++ l) (concat_more front text) ∙ sym (append_assoc first (concat front) text)
 
 -- A last fragment completes the record; the stream after it splits on its own.
-last_more : (front : List (List ℕ)) (text rest : List ℕ) (all : List (List ℕ)) (tail : Tail)
+splits_after_last_fragment : (front : List (List ℕ)) (text rest : List ℕ) (all : List (List ℕ)) (tail : Tail)
     → length (concat front ++ text) ≤ max_record
-    → Splits rest all tail → SplitsSo front (fragment true text ++ rest) ((concat front ++ text) ∷ all, tail)
-last_more front text rest all tail short splits =
+    → Splits rest all tail → SplitsAfter front (fragment true text ++ rest) ((concat front ++ text) ∷ all, tail)
+splits_after_last_fragment front text rest all tail short splits =
     let first : Sent = record { front = front; final = text } in
     record {
       sent = first ∷ splits.sent;
@@ -55,8 +55,8 @@ last_more front text rest all tail short splits =
       behind = splits.behind;
     }
 
-bytes_behind : (n : ℕ) (bytes : List ℕ) → IsBytes bytes → IsBytes (drop n bytes)
-bytes_behind n bytes fits i = subst (λ (b : ℕ). b < 256) (sym (get_or-drop n bytes i 0)) (fits (n + i))
+bytes_after_drop : (n : ℕ) (bytes : List ℕ) → IsBytes bytes → IsBytes (drop n bytes)
+bytes_after_drop n bytes fits i = subst (λ (b : ℕ). b < 256) (sym (get_or-drop n bytes i 0)) (fits (n + i))
 
 first_four : (a b c d : ℕ) → a < 256 → b < 256 → c < 256 → d < 256 → IsBytes (a ∷ b ∷ c ∷ d ∷ [])
 first_four a b c d e f g h zero = e
@@ -76,24 +76,24 @@ part_of front last size rest less =
     ap (λ (m : ℕ). flat_map (fragment false) front ++ (header_of last m ++ rest)) (sym same)
 
 -- Any four bytes are the header of a fragment.
-header_in_front : (bytes : List ℕ) → 4 ≤ length bytes → IsBytes bytes
+four_bytes_are_header : (bytes : List ℕ) → 4 ≤ length bytes → IsBytes bytes
     → bytes ≡ header_of (leb (2 ^ 31) (from_be_bytes w32 bytes)) (from_be_bytes w32 bytes % 2 ^ 31) ++ drop 4 bytes
-header_in_front (a ∷ b ∷ c ∷ d ∷ rest) four fits =
-    ap (λ (l : List ℕ). l ++ rest) (header_read (a ∷ b ∷ c ∷ d ∷ []) (from_be_bytes w32 (a ∷ b ∷ c ∷ d ∷ rest)) refl
+four_bytes_are_header (a ∷ b ∷ c ∷ d ∷ rest) four fits =
+    ap (λ (l : List ℕ). l ++ rest) (header_of_word (a ∷ b ∷ c ∷ d ∷ []) (from_be_bytes w32 (a ∷ b ∷ c ∷ d ∷ rest)) refl
     (first_four a b c d (fits 0) (fits 1) (fits 2) (fits 3)) refl (word_small a b c d rest (fits 0) (fits 1) (fits 2) (fits 3)))
-header_in_front _ four fits = absurd (omega arith)
+four_bytes_are_header _ four fits = absurd (omega arith)
 
 -- The bytes after a fragment's header split as they are read.
 pub data_splits : (n : ℕ) (front : List (List ℕ)) (last : Bool) (size : ℕ) (rest : List ℕ)
     → ((others : List (List ℕ)) (bytes : List ℕ) → length bytes < n → IsBytes bytes → length (concat others) ≤ max_record
-    → SplitsSo others bytes (read n (concat others) bytes))
+    → SplitsAfter others bytes (read n (concat others) bytes))
     → length rest < n → IsBytes rest → length (concat front) ≤ max_record → size < 2 ^ 31
-    → SplitsSo front (header_of last size ++ rest) (read_data (read n) (concat front) last size rest)
+    → SplitsAfter front (header_of last size ++ rest) (read_data (read n) (concat front) last size rest)
 data_splits n front last size rest again short fits kept small = elim (cases_lt max_record (length (concat front) + size)) [
   | inl long ↦ rw (lt-ltb max_record (length (concat front) + size) long)
-      (tail_alone front (header_of last size ++ rest) TooLong (front, size, last, rest, refl, kept, small, long))
+      (splits_as_tail front (header_of last size ++ rest) TooLong (front, size, last, rest, refl, kept, small, long))
   | inr within ↦ rw (le-ltb max_record (length (concat front) + size) within) (elim (cases_lt (length rest) size) [
-    | inl less ↦ rw (lt-ltb (length rest) size less) (tail_alone front (header_of last size ++ rest)
+    | inl less ↦ rw (lt-ltb (length rest) size less) (splits_as_tail front (header_of last size ++ rest)
         (Data (concat front ++ rest) (size - length rest) last) (
           front,
           rest,
@@ -122,37 +122,37 @@ data_splits n front last size rest again short fits kept small = elim (cases_lt 
     fewer = omega (arith, length-drop size rest)
 
     whole_fragment : (b : Bool) → size ≤ length rest → length (concat front) + size ≤ max_record
-        → SplitsSo front (header_of b size ++ rest) (read_on (read n) (concat front ++ take size rest) b (drop size rest))
+        → SplitsAfter front (header_of b size ++ rest) (read_on (read n) (concat front ++ take size rest) b (drop size rest))
     whole_fragment true whole within =
-        subst (λ (l : List ℕ). SplitsSo front l (read_on (read n) (concat front ++ take size rest) true (drop size rest)))
+        subst (λ (l : List ℕ). SplitsAfter front l (read_on (read n) (concat front ++ take size rest) true (drop size rest)))
         (sym (is_fragment true whole))
-        (last_more front (take size rest) (drop size rest) _ _
+        (splits_after_last_fragment front (take size rest) (drop size rest) _ _
         (omega (arith, length-append (concat front) (take size rest), taken_size whole))
-        (again [] (drop size rest) fewer (bytes_behind size rest fits) (omega arith)))
+        (again [] (drop size rest) fewer (bytes_after_drop size rest fits) (omega arith)))
     whole_fragment false whole within =
         let joined = concat_more front (take size rest) in
-        let next = again (front ++ take size rest ∷ []) (drop size rest) fewer (bytes_behind size rest fits)
+        let next = again (front ++ take size rest ∷ []) (drop size rest) fewer (bytes_after_drop size rest fits)
         (omega (arith, ap length joined, length-append (concat front) (take size rest), taken_size whole)) in
-        subst (λ (l : List ℕ). SplitsSo front l (read n (concat front ++ take size rest) (drop size rest)))
+        subst (λ (l : List ℕ). SplitsAfter front l (read n (concat front ++ take size rest) (drop size rest)))
         (sym (is_fragment false whole))
         (subst (λ (l : List ℕ). Splits l (read n (concat front ++ take size rest) (drop size rest)).0
-        (read n (concat front ++ take size rest) (drop size rest)).1) (front_more front (take size rest) (drop size rest))
-        (subst (λ (p : List ℕ). SplitsSo (front ++ take size rest ∷ []) (drop size rest) (read n p (drop size rest))) joined next))
+        (read n (concat front ++ take size rest) (drop size rest)).1) (fragments_append front (take size rest) (drop size rest))
+        (subst (λ (p : List ℕ). SplitsAfter (front ++ take size rest ∷ []) (drop size rest) (read n p (drop size rest))) joined next))
 
 -- After fragments that don't complete their record, the bytes split as they are read.
 pub read_splits : (n : ℕ) (front : List (List ℕ)) (bytes : List ℕ) → length bytes < n → IsBytes bytes
     → length (concat front) ≤ max_record
-    → SplitsSo front bytes (read n (concat front) bytes)
+    → SplitsAfter front bytes (read n (concat front) bytes)
 unfolding read
 read_splits zero front bytes less fits kept = absurd (omega arith)
 read_splits (suc n) front bytes less fits kept = elim (cases_lt (length bytes) 4) [
   | inl short ↦ rw (lt-ltb (length bytes) 4 short)
-      (tail_alone front bytes (Header (concat front) bytes) (front, refl, refl, short, kept))
+      (splits_as_tail front bytes (Header (concat front) bytes) (front, refl, refl, short, kept))
   | inr four ↦ rw (le-ltb (length bytes) 4 four)
-      (subst (λ (l : List ℕ). SplitsSo front l (read_data (read n) (concat front) (leb (2 ^ 31) (from_be_bytes w32 bytes))
-      (from_be_bytes w32 bytes % 2 ^ 31) (drop 4 bytes))) (sym (header_in_front bytes four fits))
+      (subst (λ (l : List ℕ). SplitsAfter front l (read_data (read n) (concat front) (leb (2 ^ 31) (from_be_bytes w32 bytes))
+      (from_be_bytes w32 bytes % 2 ^ 31) (drop 4 bytes))) (sym (four_bytes_are_header bytes four fits))
       (data_splits n front (leb (2 ^ 31) (from_be_bytes w32 bytes)) (from_be_bytes w32 bytes % 2 ^ 31) (drop 4 bytes)
-      (read_splits n) (omega (arith, length-drop 4 bytes)) (bytes_behind 4 bytes fits) kept (omega arith)))
+      (read_splits n) (omega (arith, length-drop 4 bytes)) (bytes_after_drop 4 bytes fits) kept (omega arith)))
 ]
 
 pub every_stream : (stream : List ℕ) → IsBytes stream → Splits stream (records_of stream) (tail_of stream)

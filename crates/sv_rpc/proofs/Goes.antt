@@ -16,16 +16,16 @@ abbrev held : List (List ℕ) → Tail → Records
 held records tail = record { records = records; tail = tail }
 
 -- The records stay, and the stream ends in another tail.
-same_records : (records : List (List ℕ)) (s t : Tail) (stream piece : List ℕ) (dropped : ℕ) (st : StandsFor (held records s) stream dropped)
+tail_extends : (records : List (List ℕ)) (s t : Tail) (stream piece : List ℕ) (dropped : ℕ) (st : StandsFor (held records s) stream dropped)
     → Splits (stream ++ piece) st.all t
     → StandsFor (held records t) (stream ++ piece) dropped
-same_records records s t stream piece dropped st splits = record { all = st.all; splits = splits; bounded = st.bounded; kept = st.kept }
+tail_extends records s t stream piece dropped st splits = record { all = st.all; splits = splits; bounded = st.bounded; kept = st.kept }
 
 -- The stream has one more complete record.
-more_records : (records : List (List ℕ)) (r : List ℕ) (s t : Tail) (stream piece : List ℕ) (dropped : ℕ)
+record_extends : (records : List (List ℕ)) (r : List ℕ) (s t : Tail) (stream piece : List ℕ) (dropped : ℕ)
     (st : StandsFor (held records s) stream dropped)
     → Splits (stream ++ piece) (st.all ++ r ∷ []) t → StandsFor (held (records ++ r ∷ []) t) (stream ++ piece) dropped
-more_records records r s t stream piece dropped st splits = record {
+record_extends records r s t stream piece dropped st splits = record {
   all = st.all ++ r ∷ [];
   splits = splits;
   bounded = omega (arith, length-append st.all (r ∷ []), st.bounded);
@@ -39,11 +39,11 @@ header_goes : (records : List (List ℕ)) (payload header : List ℕ) (byte size
 header_goes records payload header byte size last whole small stream dropped st =
     elim (cases_lt max_record (length payload + size)) [
       | inl long ↦ rw (lt-ltb max_record (length payload + size) long)
-          (same_records records (Header payload header) TooLong stream (byte ∷ []) dropped st
+          (tail_extends records (Header payload header) TooLong stream (byte ∷ []) dropped st
           (header_too_long stream st.all payload header byte size last st.splits whole small long))
       | inr short ↦ rw (le-ltb max_record (length payload + size) short) (elim (cases_lt 0 size) [
         | inl some ↦ rw (lt-ltb 0 size some)
-            (same_records records (Header payload header) (Data payload size last) stream (byte ∷ []) dropped st
+            (tail_extends records (Header payload header) (Data payload size last) stream (byte ∷ []) dropped st
             (header_ends stream st.all payload header byte size last st.splits whole some short))
         | inr none ↦
             rw (le-ltb 0 size none) (empty last (subst (λ (n : ℕ). header ++ byte ∷ [] ≡ header_of last n) (zero_size size none) whole))
@@ -56,9 +56,9 @@ header_goes records payload header byte size last whole small stream dropped st 
     empty : (b : Bool) → header ++ byte ∷ [] ≡ header_of b 0
         → StandsFor (cond b (held (records ++ payload ∷ []) (Header [] [])) (held records (Header payload [])))
         (stream ++ byte ∷ []) dropped
-    empty true e = more_records records payload (Header payload header) (Header [] []) stream (byte ∷ []) dropped st
+    empty true e = record_extends records payload (Header payload header) (Header [] []) stream (byte ∷ []) dropped st
         (empty_last_ends stream st.all payload header byte st.splits e)
-    empty false e = same_records records (Header payload header) (Header payload []) stream (byte ∷ []) dropped st
+    empty false e = tail_extends records (Header payload header) (Header payload []) stream (byte ∷ []) dropped st
         (empty_ends stream st.all payload header byte st.splits e)
 
 -- A byte of a header, whether it completes the header or not, extends the stream.
@@ -69,7 +69,7 @@ pub byte_goes : (records : List (List ℕ)) (payload header : List ℕ) (byte : 
 byte_goes records payload header byte whole stream dropped st =
     elim (cases_lt (length header) 3) [
       | inl less ↦ rw (lt-ltb (length header) 3 less)
-          (same_records records (Header payload header) (Header payload (header ++ byte ∷ [])) stream (byte ∷ []) dropped st
+          (tail_extends records (Header payload header) (Header payload (header ++ byte ∷ [])) stream (byte ∷ []) dropped st
           (header_grows stream st.all payload header byte st.splits (omega arith)))
       | inr three ↦ rw (le-ltb (length header) 3 three)
           (header_goes records payload header byte _ _ (whole three) (omega arith) stream dropped st)
@@ -81,7 +81,7 @@ pub data_goes : (records : List (List ℕ)) (payload piece : List ℕ) (missing 
 data_goes records payload piece missing last within stream dropped st =
     elim (cases_lt (length piece) missing) [
       | inl less ↦ rw (lt-ltb (length piece) missing less)
-          (same_records records (Data payload missing last) (Data (payload ++ piece) (missing - length piece) last) stream piece dropped st
+          (tail_extends records (Data payload missing last) (Data (payload ++ piece) (missing - length piece) last) stream piece dropped st
           (data_grows stream piece st.all payload missing last st.splits less))
       | inr all ↦ rw (le-ltb (length piece) missing all) (ends last (omega arith) st)
     ]
@@ -89,26 +89,26 @@ data_goes records payload piece missing last within stream dropped st =
     ends : (b : Bool) → length piece ≡ missing → (st : StandsFor (held records (Data payload missing b)) stream dropped)
         → StandsFor (cond b (held (records ++ (payload ++ piece) ∷ []) (Header [] [])) (held records (Header (payload ++ piece) [])))
         (stream ++ piece) dropped
-    ends true e st = more_records records (payload ++ piece) (Data payload missing true) (Header [] []) stream piece dropped st
+    ends true e st = record_extends records (payload ++ piece) (Data payload missing true) (Header [] []) stream piece dropped st
         (data_last_ends stream piece st.all payload missing st.splits e)
-    ends false e st = same_records records (Data payload missing false) (Header (payload ++ piece) []) stream piece dropped st
+    ends false e st = tail_extends records (Data payload missing false) (Header (payload ++ piece) []) stream piece dropped st
         (data_ends stream piece st.all payload missing st.splits e)
 
 -- Two extensions of the stream make one.
-pub goes_on_then : (old mid new : Records) (a b : List ℕ) → GoesOn old mid a → GoesOn mid new b → GoesOn old new (a ++ b)
-goes_on_then old mid new a b first second stream dropped st =
+pub goes_on_transitive : (old mid new : Records) (a b : List ℕ) → GoesOn old mid a → GoesOn mid new b → GoesOn old new (a ++ b)
+goes_on_transitive old mid new a b first second stream dropped st =
     subst (λ (l : List ℕ). StandsFor new l dropped) (append_assoc stream a b) (second (stream ++ a) dropped (first stream dropped st))
 
-pub goes_on_none : (held : Records) → GoesOn held held []
-goes_on_none held stream dropped st = rw (append-nil stream) st
+pub goes_on_reflexive : (held : Records) → GoesOn held held []
+goes_on_reflexive held stream dropped st = rw (append-nil stream) st
 
 -- Once nothing of the piece is left, the whole piece has extended the stream.
-pub goes_on_all : (old new : Records) (piece rest : List ℕ) → length rest ≡ 0
+pub goes_on_whole_piece : (old new : Records) (piece rest : List ℕ) → length rest ≡ 0
     → (taken : List ℕ) × (piece ≡ taken ++ rest) × GoesOn old new taken
     → GoesOn old new piece
-goes_on_all old new piece [] e stands =
+goes_on_whole_piece old new piece [] e stands =
     subst (λ (l : List ℕ). GoesOn old new l) (sym (stands.1 ∙ append-nil stands.0)) stands.2
-goes_on_all old new piece (b ∷ rest) e stands = absurd (omega arith)
+goes_on_whole_piece old new piece (b ∷ rest) e stands = absurd (omega arith)
 
 -- The same as `byte_goes`, for the fields of a buffer.
 pub header_goes_on : (bytes lengths header : List ℕ) (spot : Place) (old new : Records) (byte : ℕ) → held_of bytes lengths header spot ≡ old
@@ -132,23 +132,24 @@ set_last (a ∷ b ∷ c ∷ d ∷ []) n byte four is = rw is refl
 set_last _ n byte four is = absurd (omega arith)
 
 -- The four bytes of a complete header are those of the fragment that their word describes.
-pub whole_word : (header : List ℕ) (n byte word : ℕ) → length header ≡ 4 → n ≡ 3 → word ≡ from_be_bytes w32 (set header n byte)
+pub completed_header_word : (header : List ℕ) (n byte word : ℕ) → length header ≡ 4 → n ≡ 3 → word ≡ from_be_bytes w32 (set header n byte)
     → set header n byte ≡ header_of (leb (2 ^ 31) word) (word % 2 ^ 31)
     → let w = from_be_bytes w32 (take n header ++ byte ∷ []) in take n header ++ byte ∷ [] ≡ header_of (leb (2 ^ 31) w) (w % 2 ^ 31)
-whole_word header n byte word four is value whole =
+completed_header_word header n byte word four is value whole =
     subst (λ (h : List ℕ). let w = from_be_bytes w32 h in h ≡ header_of (leb (2 ^ 31) w) (w % 2 ^ 31)) (set_last header n byte four is)
     (subst (λ (w : ℕ). set header n byte ≡ header_of (leb (2 ^ 31) w) (w % 2 ^ 31)) value whole)
 
-pub three_came : (spot : Place) (payload n : ℕ) (p h : List ℕ) → IsPlace spot payload n → IsInHeader (tail_of spot p h) → 3 ≤ n → n ≡ 3
-three_came place.Header payload n p h at in_header le = omega (arith, at.1)
-three_came (place.Data missing last) payload n p h at in_header le = absurd in_header
-three_came place.TooLong payload n p h at in_header le = absurd in_header
+pub three_header_bytes_came : (spot : Place) (payload n : ℕ) (p h : List ℕ) → IsPlace spot payload n → IsInHeader (tail_of spot p h) → 3 ≤ n
+    → n ≡ 3
+three_header_bytes_came place.Header payload n p h at in_header le = omega (arith, at.1)
+three_header_bytes_came (place.Data missing last) payload n p h at in_header le = absurd in_header
+three_header_bytes_came place.TooLong payload n p h at in_header le = absurd in_header
 
 -- A byte that doesn't complete the header is stored after the others.
-pub header_grown : (bytes lengths header : List ℕ) (n byte : ℕ) (spot : Place) (old : Records)
+pub header_byte_stored : (bytes lengths header : List ℕ) (n byte : ℕ) (spot : Place) (old : Records)
     → held_of bytes lengths (take n header) spot ≡ old → IsInHeader old.tail → n < 3 → length header ≡ 4
     → held_of bytes lengths (take (n + 1) (set header n byte)) spot ≡ after_byte old.records old.tail byte
-header_grown bytes lengths header n byte spot old is in_header less four =
+header_byte_stored bytes lengths header n byte spot old is in_header less four =
     subst (λ (h : Records). IsInHeader h.tail
     → held_of bytes lengths (take (n + 1) (set header n byte)) spot ≡ after_byte h.records h.tail byte) is (at spot) in_header
   where
@@ -161,12 +162,12 @@ header_grown bytes lengths header n byte spot old is in_header less four =
     at place.TooLong h = absurd h
 
 -- A byte that completes the header opens the fragment that the header describes.
-pub header_opens : (bytes lengths header : List ℕ) (n byte word : ℕ) (spot : Place) (old new : Records)
+pub header_byte_opens_fragment : (bytes lengths header : List ℕ) (n byte word : ℕ) (spot : Place) (old new : Records)
     → held_of bytes lengths (take n header) spot ≡ old → IsInHeader old.tail → length header ≡ 4 → n ≡ 3
     → word ≡ from_be_bytes w32 (set header n byte)
     → new ≡ after_header (cut lengths bytes) (tail_of spot (drop (sum lengths) bytes) []) (word % 2 ^ 31) (leb (2 ^ 31) word)
     → new ≡ after_byte old.records old.tail byte
-header_opens bytes lengths header n byte word spot old new is in_header four whole word_is value =
+header_byte_opens_fragment bytes lengths header n byte word spot old new is in_header four whole word_is value =
     value ∙ subst (λ (h : Records). IsInHeader h.tail
     → after_header (cut lengths bytes) (tail_of spot (drop (sum lengths) bytes) []) (word % 2 ^ 31) (leb (2 ^ 31) word)
     ≡ after_byte h.records h.tail byte) is (at spot) in_header
@@ -191,7 +192,7 @@ data_goes_on bytes lengths header spot old new missing last piece is at value wi
 -- After a record that is too long, any bytes leave the buffer as it is.
 long_goes : (records : List (List ℕ)) (piece : List ℕ) → GoesOn (held records TooLong) (held records TooLong) piece
 long_goes records piece stream dropped st =
-    same_records records TooLong TooLong stream piece dropped st (still_long stream piece st.all st.splits)
+    tail_extends records TooLong TooLong stream piece dropped st (still_long stream piece st.all st.splits)
 
 -- The same for the fields of a buffer.
 pub long_goes_on : (bytes lengths header : List ℕ) (spot : Place) (old : Records) (piece : List ℕ)

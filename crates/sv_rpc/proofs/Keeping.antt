@@ -9,24 +9,24 @@ use Rattle.sv_rpc.specs.Representation.{Keeps, payload_of, after_byte, after_hea
 abbrev held : List (List ℕ) → Tail → Records
 held records tail = record { records = records; tail = tail }
 
-pub keeps_then : (old mid new : Records) → Keeps old mid → Keeps mid new → Keeps old new
-keeps_then old mid new a b =
+pub keeps_transitive : (old mid new : Records) → Keeps old mid → Keeps mid new → Keeps old new
+keeps_transitive old mid new a b =
     (a.0 ++ b.0, b.1 ∙ ap (λ (rs : List (List ℕ)). rs ++ b.0) a.1 ∙ append_assoc old.records a.0 b.0)
 
 -- The records, possibly followed by more.
-abbrev Front : List (List ℕ) → Records → Type 0
-Front records new = (more : List (List ℕ)) × (new.records ≡ records ++ more)
+abbrev BeginsWithRecords : List (List ℕ) → Records → Type 0
+BeginsWithRecords records new = (more : List (List ℕ)) × (new.records ≡ records ++ more)
 
 header_cases : (records : List (List ℕ)) (tail : Tail) (size : ℕ) (long some last : Bool)
-    → Front records (cond long (held records TooLong) (cond some (held records (Data (payload_of tail) size last))
+    → BeginsWithRecords records (cond long (held records TooLong) (cond some (held records (Data (payload_of tail) size last))
     (cond last (finish_record records tail) (held records (Header (payload_of tail) [])))))
 header_cases records tail size true some last = ([], sym (append-nil records))
 header_cases records tail size false true last = ([], sym (append-nil records))
 header_cases records tail size false false true = (payload_of tail ∷ [], refl)
 header_cases records tail size false false false = ([], sym (append-nil records))
 
-byte_cases : (records : List (List ℕ)) (t : Tail) (whole : Records) (more : Bool) → Front records whole
-    → Front records (cond more (held records t) whole)
+byte_cases : (records : List (List ℕ)) (t : Tail) (whole : Records) (more : Bool) → BeginsWithRecords records whole
+    → BeginsWithRecords records (cond more (held records t) whole)
 byte_cases records t whole true kept = ([], sym (append-nil records))
 byte_cases records t whole false kept = kept
 
@@ -43,7 +43,7 @@ byte_keeps records (Data payload missing last) byte = ([], sym (append-nil recor
 byte_keeps records TooLong byte = ([], sym (append-nil records))
 
 data_cases : (records : List (List ℕ)) (payload : List ℕ) (t : Tail) (less last : Bool)
-    → Front records (cond less (held records t) (cond last (held (records ++ payload ∷ []) (Header [] []))
+    → BeginsWithRecords records (cond less (held records t) (cond last (held (records ++ payload ∷ []) (Header [] []))
     (held records (Header payload []))))
 data_cases records payload t true last = ([], sym (append-nil records))
 data_cases records payload t false true = (payload ∷ [], refl)

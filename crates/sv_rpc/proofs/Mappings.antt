@@ -5,7 +5,7 @@ use Rattle.sv_xdr.specs.declared.garbage.Garbage.{Garbage}
 use Rattle.sv_xdr.specs.Garbage.{◌>>=◌}
 use Rattle.sv_xdr.specs.Spelling.{Unsigned, Begins, BeginsAll}
 use Rattle.sv_xdr.specs.Reader.{unsigned_at}
-use Rattle.sv_xdr.proofs.Fields.{IsBytes, bytes_after, unsigned_begins, unsigned_takes}
+use Rattle.sv_xdr.proofs.Fields.{IsBytes, bytes_after, unsigned_reads, unsigned_takes}
 use Rattle.sv_rpc.specs.declared.ports.Ports.{Ports}
 use Rattle.sv_rpc.specs.Ports.{Mapping, mapping_fields, port_of, PortIs, port_at}
 
@@ -18,10 +18,10 @@ mapping_reads ports args after m prog =
     let prot = vers.2 in
     let port = prot.2 in
     rw (
-      unsigned_begins args prog.0 m.prog prog.1,
-      unsigned_begins prog.0 vers.0 m.vers vers.1,
-      unsigned_begins vers.0 prot.0 m.prot prot.1,
-      unsigned_begins prot.0 port.0 m.port port.1,
+      unsigned_reads args prog.0 m.prog prog.1,
+      unsigned_reads prog.0 vers.0 m.vers vers.1,
+      unsigned_reads vers.0 prot.0 m.prot prot.1,
+      unsigned_reads prot.0 port.0 m.port port.1,
     ) refl
 
 -- If reading succeeds, the next field is an unsigned integer, and the rest of the reading follows.

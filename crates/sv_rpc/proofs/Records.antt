@@ -13,9 +13,9 @@ use Rattle.sv_rpc.specs.Representation.{IsValid, InRoom, IsPlace, IsInHeader, Is
 use Rattle.sv_rpc.proofs.Cuts.{sum_push, cut_append, cut_push, used_at_header, used_in_data}
 
 -- The room computed from the buffer is the room that the stream leaves.
-pub room_answer : (held : Records) (stream : List ℕ) (dropped room : ℕ) → room ≡ room_of held → StandsFor held stream dropped
+pub room_is_of_stream : (held : Records) (stream : List ℕ) (dropped room : ℕ) → room ≡ room_of held → StandsFor held stream dropped
     → IsRoom stream dropped room
-room_answer held stream dropped room e s = (
+room_is_of_stream held stream dropped room e s = (
   s.all,
   held.tail,
   s.splits,
@@ -24,10 +24,10 @@ room_answer held stream dropped room e s = (
 )
 
 -- Dropping the first record leaves a buffer for the same stream, with one more record dropped.
-pub drop_answer : (old new : Records) (stream : List ℕ) (dropped : ℕ) → new ≡ record { records = drop 1 old.records; tail = old.tail }
+pub stands_after_drop : (old new : Records) (stream : List ℕ) (dropped : ℕ) → new ≡ record { records = drop 1 old.records; tail = old.tail }
     → old.records ≢ [] → StandsFor old stream dropped
     → StandsFor new stream (dropped + 1)
-drop_answer old new stream dropped e some s =
+stands_after_drop old new stream dropped e some s =
     let kept : drop 1 old.records ≡ drop (dropped + 1) s.all = ap (drop 1) s.kept ∙ drop-drop 1 dropped s.all in
     let few : dropped + 1 ≤ length s.all = elim (cases_lt dropped (length s.all)) [
       | inl lt ↦ omega arith
@@ -37,22 +37,23 @@ drop_answer old new stream dropped e some s =
     rw e (record { all = s.all; splits = s.splits; bounded = few; kept = kept })
 
 -- The buffer stores a length for each complete record.
-pub some_length : (bytes lengths : List ℕ) → cut lengths bytes ≢ [] → 0 < length lengths
-some_length bytes [] some = absurd (some refl)
-some_length bytes (n ∷ lengths) some = omega arith
+pub record_has_length : (bytes lengths : List ℕ) → cut lengths bytes ≢ [] → 0 < length lengths
+record_has_length bytes [] some = absurd (some refl)
+record_has_length bytes (n ∷ lengths) some = omega arith
 
 first_counted : (n size : ℕ) (lengths bytes : List ℕ) (payload : ℕ) → size ≡ n → sum (n ∷ lengths) + payload ≡ length bytes
     → size + sum lengths + payload ≡ length bytes
 first_counted n size lengths bytes payload e whole = omega (arith, sum_by-append (λ (m : ℕ). m) (n ∷ []) lengths)
 
 -- Dropping the first record keeps the fields valid.
-pub first_dropped : (bytes bytes' lengths lengths' header : List ℕ) (space space' slots slots' payload header_len size : ℕ) (spot : Place)
+pub valid_without_first : (bytes bytes' lengths lengths' header : List ℕ) (space space' slots slots' payload header_len size : ℕ)
+    (spot : Place)
     → IsValid bytes lengths header space slots payload header_len spot → 0 < length lengths → size ≡ get_or lengths 0 size
     → lengths' ≡ drop 1 lengths → bytes' ≡ drop size bytes → space' ≡ space → slots' ≡ slots
     → IsValid bytes' lengths' header space' slots' payload header_len spot
-first_dropped bytes bytes' [] lengths' header space space' slots slots' payload header_len size spot k some is e f g h =
+valid_without_first bytes bytes' [] lengths' header space space' slots slots' payload header_len size spot k some is e f g h =
     absurd (omega arith)
-first_dropped bytes bytes' (n ∷ lengths) lengths' header space space' slots slots' payload header_len size spot k some is e f g h =
+valid_without_first bytes bytes' (n ∷ lengths) lengths' header space space' slots slots' payload header_len size spot k some is e f g h =
     let whole = first_counted n size lengths bytes payload is k.whole in
     let left : length bytes' ≡ length bytes - size = ap length f ∙ length-drop size bytes in
     let fewer : length lengths' ≡ length lengths = ap length e in
@@ -66,13 +67,13 @@ first_dropped bytes bytes' (n ∷ lengths) lengths' header space space' slots sl
     }
 
 -- Dropping the first length, and as many bytes, drops the first record.
-pub first_gone : (bytes bytes' lengths lengths' header : List ℕ) (payload size : ℕ) (spot : Place) (old : Records)
+pub held_without_first : (bytes bytes' lengths lengths' header : List ℕ) (payload size : ℕ) (spot : Place) (old : Records)
     → held_of bytes lengths header spot ≡ old → sum lengths + payload ≡ length bytes → 0 < length lengths
     → size ≡ get_or lengths 0 size
     → lengths' ≡ drop 1 lengths → bytes' ≡ drop size bytes
     → held_of bytes' lengths' header spot ≡ record { records = drop 1 old.records; tail = old.tail }
-first_gone bytes bytes' [] lengths' header payload size spot old is whole some first e f = absurd (omega arith)
-first_gone bytes bytes' (n ∷ lengths) lengths' header payload size spot old is whole some first e f =
+held_without_first bytes bytes' [] lengths' header payload size spot old is whole some first e f = absurd (omega arith)
+held_without_first bytes bytes' (n ∷ lengths) lengths' header payload size spot old is whole some first e f =
     let rest : drop (sum lengths') bytes' ≡ drop (sum (n ∷ lengths)) bytes =
     rw (e, f) (drop-drop (sum lengths) size bytes ∙ ap (λ (m : ℕ). drop m bytes)
     (omega (arith, first, sum_by-append (λ (m : ℕ). m) (n ∷ []) lengths))) in
@@ -140,21 +141,22 @@ finish_holds bytes lengths lengths' header space slots payload header_len (place
 finish_holds bytes lengths lengths' header space slots payload header_len place.TooLong k h e = absurd h
 
 -- If the tail lacks data, the buffer is within a fragment's data.
-pub at_data : (spot : Place) (payload header : List ℕ) (missing : ℕ) (last : Bool) → IsInData (tail_of spot payload header) missing last
+pub place_is_in_data : (spot : Place) (payload header : List ℕ) (missing : ℕ) (last : Bool)
+    → IsInData (tail_of spot payload header) missing last
     → spot ≡ place.Data missing last
-at_data place.Header payload header missing last h = absurd h
-at_data (place.Data m l) payload header missing last h = let m_is = h.0 in let l_is = h.1 in cc
-at_data place.TooLong payload header missing last h = absurd h
+place_is_in_data place.Header payload header missing last h = absurd h
+place_is_in_data (place.Data m l) payload header missing last h = let m_is = h.0 in let l_is = h.1 in cc
+place_is_in_data place.TooLong payload header missing last h = absurd h
 
 -- The bytes with the next piece of data stay within the capacity.
-pub data_room : (bytes lengths header : List ℕ) (space slots payload header_len n missing : ℕ) (last : Bool) (spot : Place)
+pub data_piece_fits : (bytes lengths header : List ℕ) (space slots payload header_len n missing : ℕ) (last : Bool) (spot : Place)
     → IsValid bytes lengths header space slots payload header_len spot
     → spot ≡ place.Data missing last → InRoom (held_of bytes lengths (take header_len header) spot) n
     → 4 * length lengths + length bytes + 4 + n ≤ capacity
-data_room bytes lengths header space slots payload header_len n missing last place.Header k e room = absurd cc
-data_room bytes lengths header space slots payload header_len n missing last (place.Data m l) k e room =
+data_piece_fits bytes lengths header space slots payload header_len n missing last place.Header k e room = absurd cc
+data_piece_fits bytes lengths header space slots payload header_len n missing last (place.Data m l) k e room =
     omega (arith, used_in_data lengths bytes payload m l k.whole)
-data_room bytes lengths header space slots payload header_len n missing last place.TooLong k e room = absurd cc
+data_piece_fits bytes lengths header space slots payload header_len n missing last place.TooLong k e room = absurd cc
 
 -- A byte that doesn't complete the header keeps the fields valid.
 pub header_keeps : (bytes lengths header : List ℕ) (space slots payload header_len byte : ℕ) (spot : Place)

@@ -9,19 +9,19 @@ use Rattle.sv_xdr.specs.Writer.{rest_of, Appends, Stays}
 use Rattle.sv_xdr.proofs.Appended.{appends_then}
 
 -- If the next piece is written after the first `i` pieces, the first `i + 1` are written.
-pub one_more : (f : ℕ → List ℕ) (words : List ℕ) (i : ℕ) (old mid new : Writer) → i < length words
+pub appends_next_piece : (f : ℕ → List ℕ) (words : List ℕ) (i : ℕ) (old mid new : Writer) → i < length words
     → Appends (concat (map f (take i words))) old mid → Appends (f (get_or words i 0)) mid new
     → Appends (concat (map f (take (i + 1) words))) old new
-one_more f words i old mid new h first second =
+appends_next_piece f words i old mid new h first second =
     let pieces = map f (take i words) in
     let whole : concat (map f (take (i + 1) words)) ≡ concat pieces ++ f (get_or words i 0) =
     ap (λ (l : List ℕ). concat (map f l)) (take_more words i 0 h) ∙ ap concat (map-append f (take i words) (get_or words i 0 ∷ []))
     ∙ concat-append pieces (f (get_or words i 0) ∷ []) ∙ ap (λ (l : List ℕ). concat pieces ++ l) (append-nil (f (get_or words i 0))) in
     subst (λ (l : List ℕ). Appends l old new) (sym whole) (appends_then (concat pieces) (f (get_or words i 0)) old mid new first second)
 
-pub cut_at : (f : ℕ → List ℕ) (words : List ℕ) (i : ℕ) → i < length words
+pub split_at_piece : (f : ℕ → List ℕ) (words : List ℕ) (i : ℕ) → i < length words
     → map f words ≡ map f (take i words) ++ f (get_or words i 0) ∷ map f (drop (suc i) words)
-cut_at f words i h = ap (map f) (split_at words i 0 h) ∙ map-append f (take i words) _
+split_at_piece f words i h = ap (map f) (split_at words i 0 h) ∙ map-append f (take i words) _
 
 pub appends_stays : (bytes : List ℕ) (old mid new : Writer) → Appends bytes old mid → Stays mid new → Appends bytes old new
 appends_stays bytes old mid new first second = record {

@@ -22,29 +22,29 @@ use Rattle.sv_scan.specs.Representation.{IsValid, IsRun, IsRunOf, run_state}
 size_is : (n : ℕ) → nat_le 1 n ≡ true → nat_le n longest_list ≡ true → (1 ≤ n) × (n ≤ longest_list)
 size_is n some few = grind (arith, nat_tests)
 
-pub size_in : (channels : List ℕ) → is_channel_list channels ≡ true → (1 ≤ length channels) × (length channels ≤ longest_list)
-size_in channels possible =
+pub scan_list_size : (channels : List ℕ) → is_channel_list channels ≡ true → (1 ≤ length channels) × (length channels ≤ longest_list)
+scan_list_size channels possible =
     let parts = and_parts (nat_le 1 (length channels)) (nat_le (length channels) longest_list && list_all is_channel channels) possible in
     size_is (length channels) parts.0 (and_parts (nat_le (length channels) longest_list) (list_all is_channel channels) parts.1).0
 
-pub channel_in : (channels : List ℕ) (read : ℕ) → is_channel_list channels ≡ true → is_channel (channel_at channels read) ≡ true
-channel_in channels read possible =
-    let size = size_in channels possible in
+pub scanned_channel_exists : (channels : List ℕ) (read : ℕ) → is_channel_list channels ≡ true → is_channel (channel_at channels read) ≡ true
+scanned_channel_exists channels read possible =
+    let size = scan_list_size channels possible in
     let parts = and_parts (nat_le 1 (length channels)) (nat_le (length channels) longest_list && list_all is_channel channels) possible in
     let all = (and_parts (nat_le (length channels) longest_list) (list_all is_channel channels) parts.1).1 in
     All-get_or (λ (channel : ℕ). is_channel channel ≡ true) channels (read % length channels) 0
     (mod_below read (length channels) (omega arith)) (AllPass-from_list_all is_channel channels all)
 
 -- The measurement under way has its invariant.
-pub run_in : (contents : Contents) (capacity : ℕ) (r : Run) → contents.run ≡ Some r → IsValid contents capacity
+pub run_is_valid : (contents : Contents) (capacity : ℕ) (r : Run) → contents.run ≡ Some r → IsValid contents capacity
     → IsRun r (length contents.readings)
-run_in contents capacity r e kept = subst (λ (o : Option Run). IsRunOf o (length contents.readings)) e kept.run
+run_is_valid contents capacity r e kept = subst (λ (o : Option Run). IsRunOf o (length contents.readings)) e kept.run
 
 -- The next channel exists.
-pub turn_is : (contents : Contents) (capacity : ℕ) (r : Run) → contents.run ≡ Some r → IsValid contents capacity
+pub next_channel_exists : (contents : Contents) (capacity : ℕ) (r : Run) → contents.run ≡ Some r → IsValid contents capacity
     → is_channel (channel_at r.channels (length contents.readings)) ≡ true
-turn_is contents capacity r e kept =
-    channel_in r.channels (length contents.readings) (run_in contents capacity r e kept).channels
+next_channel_exists contents capacity r e kept =
+    scanned_channel_exists r.channels (length contents.readings) (run_is_valid contents capacity r e kept).channels
 
 -- While a scan is under way, not all channels of the triggered scans were read.
 is_short : (all triggered : Bool) → is_scanning (if all then Idle else if triggered then Waiting else Scanning) ≡ true → triggered ≡ false
@@ -60,14 +60,14 @@ short_in r read e = eqb-false read (r.triggers * length r.channels)
 -- A measurement has at most as many readings as memory was reserved for.
 few_of : (r : Run) (read : ℕ) → IsRun r read → read ≤ most_readings
 few_of r read run =
-    let size = size_in r.channels run.channels in
+    let size = scan_list_size r.channels run.channels in
     let triggers : r.triggers ≤ most_scans = omega (arith, run.scans, run.triggers) in
     let bound : r.triggers * length r.channels ≤ most_scans * longest_list = mul-le-mul triggers size.1 in
     omega (arith, run.read)
 
-pub few_in : (run : Option Run) (read : ℕ) → IsRunOf run read → read ≤ most_readings
-few_in None read e = omega (arith, e)
-few_in (Some r) read run = few_of r read run
+pub readings_are_few : (run : Option Run) (read : ℕ) → IsRunOf run read → read ≤ most_readings
+readings_are_few None read e = omega (arith, e)
+readings_are_few (Some r) read run = few_of r read run
 
 -- One more reading keeps the invariant.
 read_more : (r : Run) (read : ℕ) → IsRun r read → (read ≡ r.triggers * length r.channels → ⊥) → IsRun r (read + 1)
@@ -83,9 +83,9 @@ room_in : (r : Run) (read capacity : ℕ) → most_readings ≤ capacity → IsR
     → read < capacity
 room_in r read capacity room run short = omega (arith, room, few_of r (read + 1) (read_more r read run short))
 
-pub has_room : (contents : Contents) (capacity : ℕ) (r : Run) → contents.run ≡ Some r → IsValid contents capacity
+pub has_room_for_reading : (contents : Contents) (capacity : ℕ) (r : Run) → contents.run ≡ Some r → IsValid contents capacity
     → is_scanning (run_state contents.run (length contents.readings)) ≡ true → length contents.readings < capacity
-has_room contents capacity r e kept scanning =
+has_room_for_reading contents capacity r e kept scanning =
     let run : IsRun r (length contents.readings) = subst (λ (o : Option Run). IsRunOf o (length contents.readings)) e kept.run in
     let now : is_scanning (run_state (Some r) (length contents.readings)) ≡ true =
     subst (λ (o : Option Run). is_scanning (run_state o (length contents.readings)) ≡ true) e scanning in

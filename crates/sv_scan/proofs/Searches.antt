@@ -27,9 +27,9 @@ length_readings (Input channel microvolts ∷ log) = length_readings log
 length_readings (Configure setting ∷ log) = length_readings log
 length_readings (Trigger source ∷ log) = length_readings log
 
-pub last_found : (found kept : List Reading) (log : List ScanAct) → found ≡ kept → kept ≡ readings log
+pub last_reading_is_found : (found kept : List Reading) (log : List ScanAct) → found ≡ kept → kept ≡ readings log
     → slice_get found (length found - 1) ≡ last_reading log
-last_found found kept log same is = ap (λ (xs : List Reading). slice_get xs (length xs - 1)) (same ∙ is)
+last_reading_is_found found kept log same is = ap (λ (xs : List Reading). slice_get xs (length xs - 1)) (same ∙ is)
 
 -- A measurement, with the scan list and the count before its initiation.
 abbrev run_of : ℕ → List ScanAct → Run

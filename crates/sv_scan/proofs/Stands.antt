@@ -25,21 +25,21 @@ use Rattle.sv_scan.proofs.Untouched.{is_touched_all, is_touched_input}
 
 -- ---- acts that take effect
 
-keeps : (act : ScanAct) (acts : List ScanAct) → counts (effective acts) act ≡ true → effective (act ∷ acts) ≡ act ∷ effective acts
-keeps act acts e = ap (λ (b : Bool). if b then act ∷ effective acts else effective acts) e
+effective_keeps : (act : ScanAct) (acts : List ScanAct) → counts (effective acts) act ≡ true → effective (act ∷ acts) ≡ act ∷ effective acts
+effective_keeps act acts e = ap (λ (b : Bool). if b then act ∷ effective acts else effective acts) e
 
 pub stands_for_counted : (contents : Contents) (act : ScanAct) (acts : List ScanAct) → counts (effective acts) act ≡ true
     → Holds contents (act ∷ effective acts) → StandsFor contents (act ∷ acts)
-stands_for_counted contents act acts e is = subst (Holds contents) (sym (keeps act acts e)) is
+stands_for_counted contents act acts e is = subst (Holds contents) (sym (effective_keeps act acts e)) is
 
 -- ---- acts that have no effect
 
-drops : (act : ScanAct) (acts : List ScanAct) → counts (effective acts) act ≡ false → effective (act ∷ acts) ≡ effective acts
-drops act acts e = ap (λ (b : Bool). if b then act ∷ effective acts else effective acts) e
+effective_drops : (act : ScanAct) (acts : List ScanAct) → counts (effective acts) act ≡ false → effective (act ∷ acts) ≡ effective acts
+effective_drops act acts e = ap (λ (b : Bool). if b then act ∷ effective acts else effective acts) e
 
 pub stands_for_dropped : (contents : Contents) (act : ScanAct) (acts : List ScanAct) → counts (effective acts) act ≡ false
     → StandsFor contents acts → StandsFor contents (act ∷ acts)
-stands_for_dropped contents act acts e is = subst (Holds contents) (sym (drops act acts e)) is
+stands_for_dropped contents act acts e is = subst (Holds contents) (sym (effective_drops act acts e)) is
 
 -- ---- an act takes effect exactly if it is accepted
 

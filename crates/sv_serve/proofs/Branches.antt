@@ -26,14 +26,14 @@ turn_refused c answer refused so config before after is same h =
     subst (λ (r : Result Did Refused). EndsTurn c r config before after) (sym is) (subst (λ
     (b : Bool). RefusesIf c b config before after) same h)
 
-pub calls_as : {W : Type 0} (hears : W → Heard → W → Type 0) (c : ℕ) (wanted dialed other before_call : Option Dial) (config : Config)
+pub dials_for_as : {W : Type 0} (hears : W → Heard → W → Type 0) (c : ℕ) (wanted dialed other before_call : Option Dial) (config : Config)
     (before after : DriverView W) → wanted ≡ other → dialed ≡ before_call → DialsFor hears c other before_call config before after
     → DialsFor hears c wanted dialed config before after
-calls_as hears c wanted dialed other before_call config before after is same h =
+dials_for_as hears c wanted dialed other before_call config before after is same h =
     subst (λ (d : Option Dial). DialsFor hears c d dialed config before after) (sym is)
     (subst (λ (d : Option Dial). DialsFor hears c other d config before after) (sym same) h)
 
-pub probes_so : {W : Type 0} (hears : W → Heard → W → Type 0) (c : ℕ) (so : Bool) (config : Config) (before after : DriverView W) → so
+pub probes_if_true : {W : Type 0} (hears : W → Heard → W → Type 0) (c : ℕ) (so : Bool) (config : Config) (before after : DriverView W) → so
     ≡ true
     → ProbesIf hears c true config before after → ProbesIf hears c so config before after
-probes_so hears c so config before after is h = subst (λ (b : Bool). ProbesIf hears c b config before after) (sym is) h
+probes_if_true hears c so config before after is h = subst (λ (b : Bool). ProbesIf hears c b config before after) (sym is) h

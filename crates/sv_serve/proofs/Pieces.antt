@@ -9,11 +9,11 @@ use Rattle.sv_serve.specs.DriverView.{DriverView}
 use Rattle.sv_serve.specs.Steps.{Comes, ReadsUpTo}
 
 -- The bytes that were read lie in the part of the buffer that the read was given.
-pub front_bytes : (answer : Answer ℕ) (front rest : List ℕ) → IsWithin answer (length front)
+pub bytes_in_front : (answer : Answer ℕ) (front rest : List ℕ) → IsWithin answer (length front)
     → bytes_of answer (front ++ rest) ≡ bytes_of answer front
-front_bytes (Got n) front rest h = ap Got (take-append-le n front rest h)
-front_bytes Pending front rest h = refl
-front_bytes Failed front rest h = refl
+bytes_in_front (Got n) front rest h = ap Got (take-append-le n front rest h)
+bytes_in_front Pending front rest h = refl
+bytes_in_front Failed front rest h = refl
 
 pub within_piece : (answer : Answer ℕ) (buffer : List ℕ) (size : ℕ) → IsWithin answer size → IsPiece (bytes_of answer buffer) size
 within_piece (Got n) buffer size h = let long = length-take n buffer in omega (arith, h, long)
@@ -21,21 +21,22 @@ within_piece Pending buffer size h = tt
 within_piece Failed buffer size h = tt
 
 -- New contents of a buffer that was lent as a whole replace all that it held.
-pub again : (len : ℕ) (items lent new : List ℕ) → length lent ≡ len → length new ≡ length lent
+pub overwritten_whole : (len : ℕ) (items lent new : List ℕ) → length lent ≡ len → length new ≡ length lent
     → take len (new ++ drop (length new) items) ≡ new
-again len items lent new short same = take_at new (drop (length new) items) len (same ∙ short)
+overwritten_whole len items lent new short same = take_at new (drop (length new) items) len (same ∙ short)
 
-pub asked_for : (len room size : ℕ) → size ≡ min len room → len ≡ 16384 → size ≡ min room 16384
-asked_for len room size is long = grind (arith, is, long)
+pub read_size_is : (len room size : ℕ) → size ≡ min len room → len ≡ 16384 → size ≡ min room 16384
+read_size_is len room size is long = grind (arith, is, long)
 
 -- A read asks for as many bytes as there is room for, at most 16,384, and its answer decides what
 -- follows.
-pub read_so : {W : Type 0} (hears : W → Heard → W → Type 0) (config : Config) (conn room size : ℕ) (answer : Answer ℕ) (buffer : List ℕ)
+pub reads_up_to_answer : {W : Type 0} (hears : W → Heard → W → Type 0) (config : Config) (conn room size : ℕ) (answer : Answer ℕ)
+    (buffer : List ℕ)
     (before after : DriverView W) (wire : W) → 0 < room → size ≡ min room 16384 → IsWithin answer size
     → hears before.wire (WasRead conn size (bytes_of answer buffer)) wire
     → Comes hears conn (bytes_of answer buffer) config (record before { wire = wire }) after
     → ReadsUpTo hears room conn config before after
-read_so hears config conn room size answer buffer before after wire some asked within heard comes = inr (
+reads_up_to_answer hears config conn room size answer buffer before after wire some asked within heard comes = inr (
   some,
   bytes_of answer buffer,
   within_piece answer buffer (min room 16384) (subst (λ n. IsWithin answer n) asked within),

@@ -21,8 +21,8 @@ use Rattle.sv_history.specs.Requests.{HearsOf}
 use Rattle.sv_history.specs.History.{is_port_shut, IsLogOf, Answers, history_after}
 use Rattle.sv_laws.proofs.Brought.{IsClear}
 use Rattle.sv_history.specs.Print.{is_no_memory}
-use Rattle.sv_history.proofs.AlwaysTold.{some_told}
-use Rattle.sv_history.proofs.Telling.{has_channel_told}
+use Rattle.sv_history.proofs.AlwaysTold.{channel_log_exists}
+use Rattle.sv_history.proofs.Telling.{channel_open_by_channel_log}
 use Rattle.sv_history.proofs.Unrecorded.{nothing_faulted}
 use Rattle.sv_laws.proofs.OneLog.{one_log}
 use Rattle.sv_laws.proofs.NothingLost.{nothing_lost}
@@ -42,9 +42,10 @@ use Rattle.sv_replay.specs.declared.entry.Stimulus.TheVariants as stimuli
 
 -- ---- an event that is allowed is applied
 
-pub suited : {W : Type 0} (config : Config) (event : PlainEvent) (at : DriverView W) (log : List Act) (result : Result Did Refused)
+pub suited_is_applied : {W : Type 0} (config : Config) (event : PlainEvent) (at : DriverView W) (log : List Act)
+    (result : Result Did Refused)
     → IsLogOf config at.history log → Answers config event log result → IsSuited event config at → result ≡ Ok Done
-suited config event at log result was answers (other, channel_log, also, tells, suits) =
+suited_is_applied config event at log result was answers (other, channel_log, also, tells, suits) =
     nothing_lost config at.history event channel_log other result also tells suits
     (subst (λ (l : List Act). Answers config event l result) (one_log config at.history log other was also) answers)
 
@@ -74,14 +75,14 @@ has_waiting acts lt = elim (cases_Bool (is_open acts)) [
   | inr e ↦ absurd (let none : length (waiting acts) ≡ 0 = rw e refl in omega (arith, lt, none))
 ]
 
-pub room_open : {W : Type 0} (c room : ℕ) (config : Config) (at : DriverView W) → c < 16 → 0 < room → HasRoom c config at room
+pub room_means_open : {W : Type 0} (c room : ℕ) (config : Config) (at : DriverView W) → c < 16 → 0 < room → HasRoom c config at room
     → IsOpen (Conn c) config at true
-room_open c room config at lt some (log, was, is) =
+room_means_open c room config at lt some (log, was, is) =
     open_by c config at log lt was (has_room (of c log) (subst (λ (n : ℕ). 0 < n) is some))
 
-pub waits_open : {W : Type 0} (c : ℕ) (bytes : List ℕ) (config : Config) (at : DriverView W) → c < 16 → 0 < length bytes
+pub waiting_means_open : {W : Type 0} (c : ℕ) (bytes : List ℕ) (config : Config) (at : DriverView W) → c < 16 → 0 < length bytes
     → Waits (Conn c) config at bytes → IsOpen (Conn c) config at true
-waits_open c bytes config at lt some (log, channel_log, was, tells, is) =
+waiting_means_open c bytes config at lt some (log, channel_log, was, tells, is) =
     open_by c config at log lt was (has_waiting (of c log) (subst (λ (l : List ℕ). 0 < length l) is some))
 
 clear_faulted : (acts : List ConnAct) → IsClear acts → false ≡ is_faulted acts
@@ -111,7 +112,7 @@ channel_open c channel_log log lt tells some =
       | inr e ↦ absurd (let none : length (channel_waiting c channel_log) ≡ 0 = rw e refl in omega (arith, some, none))
     ] in
     ap (λ (b : Bool). b || not (has_channel c (device_acts log))) (le-ltb 15 c (omega (arith, lt)))
-    ∙ ap not (sym (has_channel_told c (device_acts log) channel_log tells) ∙ there)
+    ∙ ap not (sym (channel_open_by_channel_log c (device_acts log) channel_log tells) ∙ there)
 
 -- ---- events that are allowed
 
@@ -126,13 +127,13 @@ shut_so false e = refl
 pub open_suits : {W : Type 0} (c : ℕ) (role : Role) (config : Config) (at : DriverView W) → IsLowest (Some c) config at
     → IsSuited (Open c role) config at
 open_suits c role config at (lt, (log, was, is), lower) =
-    let channel_log = some_told (device_acts log) in
+    let channel_log = channel_log_exists (device_acts log) in
     (log, channel_log.0, was, channel_log.1, (lt, not_not (is_open (of c log)) (is ∙ rw (le-ltb 15 c (omega (arith, lt))) refl)))
 
 pub bytes_suit : {W : Type 0} (c room : ℕ) (bytes : List ℕ) (config : Config) (at : DriverView W) → c < 16 → 0 < room
     → length bytes ≤ min room longest_piece → HasRoom c config at room → IsSuited (Bytes c bytes) config at
 bytes_suit c n bytes config at lt some few (log, was, is) =
-    let channel_log = some_told (device_acts log) in (
+    let channel_log = channel_log_exists (device_acts log) in (
       log,
       channel_log.0,
       was,
@@ -143,7 +144,7 @@ bytes_suit c n bytes config at lt some few (log, was, is) =
 pub close_suits : {W : Type 0} (port : Port) (config : Config) (at : DriverView W) → IsOpen port config at true
     → IsSuited (Close port) config at
 close_suits port config at (log, was, is) =
-    let channel_log = some_told (device_acts log) in (log, channel_log.0, was, channel_log.1, shut_so (is_port_shut port log) is)
+    let channel_log = channel_log_exists (device_acts log) in (log, channel_log.0, was, channel_log.1, shut_so (is_port_shut port log) is)
 
 pub took_suits : {W : Type 0} (port : Port) (n : ℕ) (config : Config) (at : DriverView W) → port_number port < 16
     → Handed port (Got n) config at → IsSuited (Took port n) config at
@@ -162,28 +163,30 @@ channel_suits port c answer config at is lt handed = channel_closes c answer con
 
 conn_open : {W : Type 0} (c : ℕ) (answer : Answer ℕ) (config : Config) (at : DriverView W) → c < 16
     → Handed (Conn c) answer config at → IsOpen (Conn c) config at true
-conn_open c answer config at lt (bytes, waits, some, few) = waits_open c bytes config at lt some waits
+conn_open c answer config at lt (bytes, waits, some, few) = waiting_means_open c bytes config at lt some waits
 
-pub handed_open : {W : Type 0} (port : Port) (c : ℕ) (answer : Answer ℕ) (config : Config) (at : DriverView W) → port ≡ Conn c
+pub handed_means_open : {W : Type 0} (port : Port) (c : ℕ) (answer : Answer ℕ) (config : Config) (at : DriverView W) → port ≡ Conn c
     → port_number port < 16 → Handed port answer config at → IsOpen (Conn c) config at true
-handed_open port c answer config at is lt handed = conn_open c answer config at (subst (λ p. port_number p < 16) is lt)
+handed_means_open port c answer config at is lt handed = conn_open c answer config at (subst (λ p. port_number p < 16) is lt)
     (subst (λ p. Handed p answer config at) is handed)
 
 pub dialed_suits : {W : Type 0} (c : ℕ) (dial : Dial) (ok : Bool) (config : Config) (at : DriverView W) → c < 16
     → Wants c config at (Some dial) → IsSuited (Dialed c ok) config at
 dialed_suits c dial ok config at lt (log, was, is) =
-    let channel_log = some_told (device_acts log) in (log, channel_log.0, was, channel_log.1, (lt, dial, sym is))
+    let channel_log = channel_log_exists (device_acts log) in (log, channel_log.0, was, channel_log.1, (lt, dial, sym is))
 
 -- ---- while no event comes, the server's answers stay the same
 
-hung_on : {W : Type 0} (hears : W → Heard → W → Type 0) (c : ℕ) (found : Option Dial) (config : Config) (before after : DriverView W)
+closes_on_same_history : {W : Type 0} (hears : W → Heard → W → Type 0) (c : ℕ) (found : Option Dial) (config : Config)
+    (before after : DriverView W)
     → ClosesChannelOn hears c found config before after → after.history ≡ before.history
-hung_on hears c None config before after is = ap (λ m. m.history) is
-hung_on hears c (Some dial) config before after (between, (wire, was, is), notes) = ap (λ m. m.history) notes ∙ ap (λ m. m.history) is
+closes_on_same_history hears c None config before after is = ap (λ m. m.history) is
+closes_on_same_history hears c (Some dial) config before after (between, (wire, was, is), notes) =
+    ap (λ m. m.history) notes ∙ ap (λ m. m.history) is
 
-pub hung_same : {W : Type 0} (hears : W → Heard → W → Type 0) (c : ℕ) (config : Config) (before after : DriverView W)
+pub closes_channel_same_history : {W : Type 0} (hears : W → Heard → W → Type 0) (c : ℕ) (config : Config) (before after : DriverView W)
     → ClosesChannel hears c config before after → after.history ≡ before.history
-hung_same hears c config before after h = hung_on hears c (dialed_of c before) config before after h
+closes_channel_same_history hears c config before after h = closes_on_same_history hears c (dialed_of c before) config before after h
 
 pub still_suited : {W : Type 0} (event : PlainEvent) (config : Config) (before after : DriverView W) → after.history ≡ before.history
     → IsSuited event config before → IsSuited event config after
@@ -214,9 +217,9 @@ still_lowest None config before after same all = λ d less. still_open (Conn d) 
 -- ---- out of memory
 
 -- A Turn that runs out of memory leaves its call to be taken, and memory for it is still refused.
-pub may_find_none : {W : Type 0} (c : ℕ) (result : Result Did Refused) (config : Config) (before after : DriverView W)
+pub turn_may_find_no_memory : {W : Type 0} (c : ℕ) (result : Result Did Refused) (config : Config) (before after : DriverView W)
     → Given (Turn c) result config before after → MayFindNone c result config after
-may_find_none c result config before after (log, was, answers, is) none =
+turn_may_find_no_memory c result config before after (log, was, answers, is) none =
     let same : after.history ≡ before.history =
     ap (λ m. m.history) is ∙ ap (λ (r : Result Did Refused). history_after (Turn c) r before.history) none in (
       log,
@@ -237,9 +240,10 @@ no_memory BadChannel e = absurd cc
 no_memory BadInput e = absurd cc
 no_memory TimeOver e = absurd cc
 
-pub finds_none : {W : Type 0} (c : ℕ) (answer : Result Did Refused) (refused : Refused) (so : Bool) (config : Config) (at : DriverView W)
+pub finds_no_memory : {W : Type 0} (c : ℕ) (answer : Result Did Refused) (refused : Refused) (so : Bool) (config : Config)
+    (at : DriverView W)
     → answer ≡ Err refused → so ≡ is_no_memory refused → MayFindNone c answer config at → FindsNoneIf c so config at
-finds_none c answer refused so config at is same may told = may (is ∙ ap Err (no_memory refused (sym same ∙ told)))
+finds_no_memory c answer refused so config at is same may told = may (is ∙ ap Err (no_memory refused (sym same ∙ told)))
 
 -- A stimulus that the server accepts is an event that the server's queries allow.
 pub stimulus_suits : (stimulus : Stimulus) (channel_log : List ChannelAct) (log : List Act) → IsAccepted stimulus

@@ -8,7 +8,7 @@ use Rattle.sv_history.specs.Act.{Act, of, device_acts}
 use Rattle.sv_history.specs.Event.{PlainEvent}
 use Rattle.sv_history.specs.Connection.{room, waiting}
 use Rattle.sv_history.specs.History.{is_port_shut}
-use Rattle.sv_history.proofs.AlwaysTold.{some_told}
+use Rattle.sv_history.proofs.AlwaysTold.{channel_log_exists}
 use Rattle.sv_history.proofs.Unrecorded.{nothing_idle, nothing_faulted, nothing_dialed}
 use Rattle.sv_serve.specs.Heard.{Heard}
 use Rattle.sv_serve.specs.DriverView.{DriverView, DriverState, ForEach, Steps, Stands, driver_view}
@@ -16,26 +16,27 @@ use Rattle.sv_serve.specs.Asked.{NoneUsed}
 use Rattle.sv_serve.specs.Steps.{dialed_of, ReadsFrom, Turns, Dials, WritesTo, Ends}
 
 -- Steps that change nothing may follow for further numbers.
-pub and_rest : {W : Type 0} (step : ℕ → Config → DriverView W → DriverView W → Type 0) (config : Config) (n m : ℕ) (a b : DriverView W) → n
+pub for_each_unused_rest : {W : Type 0} (step : ℕ → Config → DriverView W → DriverView W → Type 0) (config : Config) (n m : ℕ)
+    (a b : DriverView W) → n
     ≤ m
     → ForEach n step config a b → ((c : ℕ) → n ≤ c → step c config b b) → ForEach m step config a b
-and_rest step config n zero a b le each stays =
+for_each_unused_rest step config n zero a b le each stays =
     let none : n ≡ zero = omega (arith, le) in subst (λ (k : ℕ). ForEach k step config a b) none each
-and_rest step config n (suc m) a b le each stays = elim (eq-or-lt_of_le le) [
+for_each_unused_rest step config n (suc m) a b le each stays = elim (eq-or-lt_of_le le) [
   | inl same ↦ subst (λ (k : ℕ). ForEach k step config a b) same each
-  | inr less ↦ (let low : n ≤ m = omega (arith, less) in (b, and_rest step config n m a b low each stays, stays m low))
+  | inr less ↦ (let low : n ≤ m = omega (arith, less) in (b, for_each_unused_rest step config n m a b low each stays, stays m low))
 ]
 
 -- The same for steps of a driver, whatever the history of its server.
-pub goes_rest : {W J : Type 0} (notes : J → List PlainEvent → J → Type 0) (step : ℕ → Config → DriverView W → DriverView W
+pub steps_unused_rest : {W J : Type 0} (notes : J → List PlainEvent → J → Type 0) (step : ℕ → Config → DriverView W → DriverView W
     → Type 0) (n m : ℕ) (first last : DriverState W J) → n ≤ m
     → Steps notes (ForEach n step) first last
     → ((start : J) (config : Config) (history : List PlainEvent) → Stands (notes start) last config history → (c : ℕ) → n ≤ c
     → step c config (driver_view last history) (driver_view last history))
     → Steps notes (ForEach m step) first last
-goes_rest notes step n m first last le each stays = λ origin config history stands.
+steps_unused_rest notes step n m first last le each stays = λ origin config history stands.
     let (h0, s0, p0) = each _ config history stands in
-    (h0, s0, and_rest step config n m (driver_view first history) (driver_view last h0) le p0 (stays _ config h0 s0))
+    (h0, s0, for_each_unused_rest step config n m (driver_view first history) (driver_view last h0) le p0 (stays _ config h0 s0))
 
 never_open : (c : ℕ) (log : List Act) → of c log ≡ [] → false ≡ not (is_port_shut (Conn c) log)
 never_open c log none = rw none (shut_by (nat_lt 15 c))
@@ -57,7 +58,7 @@ turns_none n config at (log, is_log, none) c le =
 pub writes_none : {W : Type 0} (hears : W → Heard → W → Type 0) (n : ℕ) (config : Config) (at : DriverView W) → NoneUsed n config at
     → (c : ℕ) → n ≤ c → WritesTo hears (Conn c) config at at
 writes_none hears n config at (log, is_log, none) c le =
-    let (channel_log, tells) = some_told (device_acts log) in
+    let (channel_log, tells) = channel_log_exists (device_acts log) in
     ([], (log, channel_log, is_log, tells, ap waiting (sym (none c le))), inl (refl, refl))
 
 pub ends_none : {W : Type 0} (hears : W → Heard → W → Type 0) (n : ℕ) (config : Config) (at : DriverView W) → NoneUsed n config at

@@ -3,16 +3,17 @@
 use Rattle.std.proofs.Common.{◌≡◌, ℕ, List, [], ◌∷◌, refl, subst, sym, ◌⊎◌, inl, inr, bit_and, bit_or, arith}
 use Rattle.std.specs.Prelude.{◌↔◌, bit_xor}
 use Rattle.std.specs.Int.{bit_at}
-use Rattle.sv_logs.proofs.Since.{since_empty, since_step, since_kept, since_same, since_ended, then_same}
+use Rattle.sv_logs.proofs.Since.{since_empty, since_step, since_kept, since_same, since_not_kept, iff_transitive}
 use Rattle.sv_status.specs.declared.register.RegisterAct.{RegisterAct}
 use Rattle.sv_status.specs.declared.register.RegisterAct.TheVariants.{Condition, SetFilter, SetEnable, ReadEvent, Preset, Clear}
 use Rattle.sv_status.specs.Register.{Latches, StandsFor, EventStands, Passes, NotCleared, condition, rise, fall, without_top_bit}
-use Rattle.sv_status.proofs.Words.{no_bits, both_bits, either_bit, rose, fell}
+use Rattle.sv_status.proofs.Words.{zero_has_no_bit, bit_of_and, bit_of_or, bit_rises, bit_falls}
 
 -- A bit that doesn't change passes no filter.
-pub no_change : (c k : ℕ) (P Q : Type 0) → ((bit_at c k ≡ 0) × (bit_at c k ≡ 1) × P) ⊎ ((bit_at c k ≡ 1) × (bit_at c k ≡ 0) × Q) → ⊥
-no_change c k P Q (inl h) = absurd (omega arith)
-no_change c k P Q (inr h) = absurd (omega arith)
+pub unchanged_bit_passes_none : (c k : ℕ) (P Q : Type 0) → ((bit_at c k ≡ 0) × (bit_at c k ≡ 1) × P)
+    ⊎ ((bit_at c k ≡ 1) × (bit_at c k ≡ 0) × Q) → ⊥
+unchanged_bit_passes_none c k P Q (inl h) = absurd (omega arith)
+unchanged_bit_passes_none c k P Q (inr h) = absurd (omega arith)
 
 -- ---- which events are set
 
@@ -20,9 +21,9 @@ pub event_none : (k : ℕ) → EventStands k [] → ⊥
 event_none k stands = ((since_empty (Passes k) NotCleared).0 stands).0
 
 -- An act that doesn't clear the register, and at which the bit passes no filter, leaves the event.
-pub same_event : (k : ℕ) (act : RegisterAct) (acts : List RegisterAct) → NotCleared (act ∷ acts) → (Passes k (act ∷ acts) → ⊥)
+pub event_is_kept : (k : ℕ) (act : RegisterAct) (acts : List RegisterAct) → NotCleared (act ∷ acts) → (Passes k (act ∷ acts) → ⊥)
     → EventStands k acts ↔ EventStands k (act ∷ acts)
-same_event k act acts kept none =
+event_is_kept k act acts kept none =
     let same = since_same (Passes k) NotCleared act acts kept none in (same.1, same.0)
 
 -- A new condition sets the event of a bit that passes its filter, and leaves all others.
@@ -33,24 +34,26 @@ event_condition k word acts = since_kept (Passes k) NotCleared (Condition word) 
 -- A condition that is equal to the old one changes no event.
 pub event_unchanged : (k word : ℕ) (acts : List RegisterAct) → word ≡ condition acts
     → EventStands k (Condition word ∷ acts) ↔ EventStands k acts
-event_unchanged k word acts same = since_same (Passes k) NotCleared (Condition word) acts tt (rw same (no_change (condition acts) k _ _))
+event_unchanged k word acts same = since_same (Passes k) NotCleared (Condition word) acts tt
+    (rw same (unchanged_bit_passes_none (condition acts) k _ _))
 
 -- Setting filters or the enable, or a preset, changes no event.
 pub event_filter : (k up down : ℕ) (acts : List RegisterAct) → EventStands k (SetFilter up down ∷ acts) ↔ EventStands k acts
-event_filter k up down acts = since_same (Passes k) NotCleared (SetFilter up down) acts tt (no_change (condition acts) k _ _)
+event_filter k up down acts = since_same (Passes k) NotCleared (SetFilter up down) acts tt
+    (unchanged_bit_passes_none (condition acts) k _ _)
 
 pub event_enable : (k word : ℕ) (acts : List RegisterAct) → EventStands k (SetEnable word ∷ acts) ↔ EventStands k acts
-event_enable k word acts = since_same (Passes k) NotCleared (SetEnable word) acts tt (no_change (condition acts) k _ _)
+event_enable k word acts = since_same (Passes k) NotCleared (SetEnable word) acts tt (unchanged_bit_passes_none (condition acts) k _ _)
 
 pub event_preset : (k : ℕ) (acts : List RegisterAct) → EventStands k (Preset ∷ acts) ↔ EventStands k acts
-event_preset k acts = since_same (Passes k) NotCleared Preset acts tt (no_change (condition acts) k _ _)
+event_preset k acts = since_same (Passes k) NotCleared Preset acts tt (unchanged_bit_passes_none (condition acts) k _ _)
 
 -- Reading or clearing the register clears all events.
 pub event_read : (k : ℕ) (acts : List RegisterAct) → EventStands k (ReadEvent ∷ acts) → ⊥
-event_read k acts = since_ended (Passes k) NotCleared ReadEvent acts (λ kept. kept)
+event_read k acts = since_not_kept (Passes k) NotCleared ReadEvent acts (λ kept. kept)
 
 pub event_cleared : (k : ℕ) (acts : List RegisterAct) → EventStands k (Clear ∷ acts) → ⊥
-event_cleared k acts = since_ended (Passes k) NotCleared Clear acts (λ kept. kept)
+event_cleared k acts = since_not_kept (Passes k) NotCleared Clear acts (λ kept. kept)
 
 -- ---- the state of the register
 
@@ -63,7 +66,7 @@ stands_for_filter start latches acts up down is = record {
   rise = refl;
   fall = refl;
   enable = is.enable;
-  event = λ k. then_same (is.event k) (same_event k (SetFilter up down) acts tt (no_change (condition acts) k _ _));
+  event = λ k. iff_transitive (is.event k) (event_is_kept k (SetFilter up down) acts tt (unchanged_bit_passes_none (condition acts) k _ _));
 }
 
 pub stands_for_enable : (start : ℕ) (latches : Latches) (acts : List RegisterAct) (word : ℕ) → StandsFor start latches acts
@@ -74,7 +77,7 @@ stands_for_enable start latches acts word is = record {
   rise = is.rise;
   fall = is.fall;
   enable = refl;
-  event = λ k. then_same (is.event k) (same_event k (SetEnable word) acts tt (no_change (condition acts) k _ _));
+  event = λ k. iff_transitive (is.event k) (event_is_kept k (SetEnable word) acts tt (unchanged_bit_passes_none (condition acts) k _ _));
 }
 
 pub stands_for_preset : (start : ℕ) (latches : Latches) (acts : List RegisterAct) → StandsFor start latches acts
@@ -85,12 +88,12 @@ stands_for_preset start latches acts is = record {
   rise = refl;
   fall = refl;
   enable = is.begins;
-  event = λ k. then_same (is.event k) (same_event k Preset acts tt (no_change (condition acts) k _ _));
+  event = λ k. iff_transitive (is.event k) (event_is_kept k Preset acts tt (unchanged_bit_passes_none (condition acts) k _ _));
 }
 
 -- The event word after the condition changes.
-abbrev pub latched : Latches → ℕ → ℕ
-latched latches word =
+abbrev pub events_after_condition : Latches → ℕ → ℕ
+events_after_condition latches word =
     bit_or (bit_or latches.event (bit_and (bit_and (bit_xor latches.condition word) word) latches.rise))
     (bit_and (bit_and (bit_xor latches.condition word) latches.condition) latches.fall)
 
@@ -105,17 +108,17 @@ same_passing k old old' new up up' down down' e f g p =
     subst (λ (o : ℕ). PassesBy k o new up' down') e
     (subst (λ (u : ℕ). PassesBy k old new u down') f (subst (λ (d : ℕ). PassesBy k old new up d) g p))
 
-latched_bit : (latches : Latches) (word k : ℕ) → (bit_at (latched latches word) k ≡ 1)
+latched_bit : (latches : Latches) (word k : ℕ) → (bit_at (events_after_condition latches word) k ≡ 1)
     ↔ (PassesBy k latches.condition word latches.rise latches.fall ⊎ (bit_at latches.event k ≡ 1))
 latched_bit latches word k =
     let up = bit_and (bit_xor latches.condition word) word in
     let down = bit_and (bit_xor latches.condition word) latches.condition in
-    let all = either_bit (bit_or latches.event (bit_and up latches.rise)) (bit_and down latches.fall) k in
-    let first = either_bit latches.event (bit_and up latches.rise) k in
-    let rising = both_bits up latches.rise k in
-    let falling = both_bits down latches.fall k in
-    let rise_is = rose latches.condition word k in
-    let fall_is = fell latches.condition word k in (
+    let all = bit_of_or (bit_or latches.event (bit_and up latches.rise)) (bit_and down latches.fall) k in
+    let first = bit_of_or latches.event (bit_and up latches.rise) k in
+    let rising = bit_of_and up latches.rise k in
+    let falling = bit_of_and down latches.fall k in
+    let rise_is = bit_rises latches.condition word k in
+    let fall_is = bit_falls latches.condition word k in (
       (λ h. elim (all.0 h) [
         | inl some ↦ elim (first.0 some) [
           | inl event ↦ inr event
@@ -134,7 +137,7 @@ latched_bit latches word k =
 
 -- The condition changes.
 pub stands_for_condition : (start : ℕ) (latches : Latches) (acts : List RegisterAct) (word : ℕ) → StandsFor start latches acts
-    → StandsFor start (record latches { condition = word; event = latched latches word }) (Condition word ∷ acts)
+    → StandsFor start (record latches { condition = word; event = events_after_condition latches word }) (Condition word ∷ acts)
 stands_for_condition start latches acts word is = record {
   begins = is.begins;
   condition = refl;
@@ -162,7 +165,7 @@ stands_for_read start latches acts is = record {
   rise = is.rise;
   fall = is.fall;
   enable = is.enable;
-  event = λ k. no_bits k (EventStands k (ReadEvent ∷ acts)) (event_read k acts);
+  event = λ k. zero_has_no_bit k (EventStands k (ReadEvent ∷ acts)) (event_read k acts);
 }
 
 pub stands_for_cleared : (start : ℕ) (latches : Latches) (acts : List RegisterAct) → StandsFor start latches acts
@@ -173,7 +176,7 @@ stands_for_cleared start latches acts is = record {
   rise = is.rise;
   fall = is.fall;
   enable = is.enable;
-  event = λ k. no_bits k (EventStands k (Clear ∷ acts)) (event_cleared k acts);
+  event = λ k. zero_has_no_bit k (EventStands k (Clear ∷ acts)) (event_cleared k acts);
 }
 
 -- The enable after a preset is the one at first.

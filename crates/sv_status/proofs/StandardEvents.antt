@@ -5,11 +5,11 @@ use Rattle.std.specs.Prelude.{◌↔◌}
 use Rattle.std.specs.Int.{bit_at}
 use Rattle.std.proofs.lemmas.Bool.{cases_eq}
 use Rattle.std.proofs.lemmas.Nat.Bits.{bit_at-pow_other}
-use Rattle.sv_logs.proofs.Since.{since_empty, since_step, since_kept, since_same, since_ended}
+use Rattle.sv_logs.proofs.Since.{since_empty, since_step, since_kept, since_same, since_not_kept}
 use Rattle.sv_status.specs.declared.standard_event.StandardAct.{StandardAct}
 use Rattle.sv_status.specs.declared.standard_event.StandardAct.TheVariants.{Occur, Read, SetEnable, Clear}
 use Rattle.sv_status.specs.StandardEvent.{Latches, StandsFor, Stands, Occurs, NotCleared}
-use Rattle.sv_status.proofs.Words.{no_bits, either_bit}
+use Rattle.sv_status.proofs.Words.{zero_has_no_bit, bit_of_or}
 
 -- ---- which events are set
 
@@ -26,10 +26,10 @@ stands_enable k word acts = since_same (Occurs k) NotCleared (SetEnable word) ac
 
 -- Reading or clearing the register clears all events.
 pub stands_read : (k : ℕ) (acts : List StandardAct) → Stands k (Read ∷ acts) → ⊥
-stands_read k acts = since_ended (Occurs k) NotCleared Read acts (λ kept. kept)
+stands_read k acts = since_not_kept (Occurs k) NotCleared Read acts (λ kept. kept)
 
 pub stands_cleared : (k : ℕ) (acts : List StandardAct) → Stands k (Clear ∷ acts) → ⊥
-stands_cleared k acts = since_ended (Occurs k) NotCleared Clear acts (λ kept. kept)
+stands_cleared k acts = since_not_kept (Occurs k) NotCleared Clear acts (λ kept. kept)
 
 -- ---- the state of the register
 
@@ -49,7 +49,7 @@ pub stands_for_occurred : (latches : Latches) (acts : List StandardAct) (bits : 
 stands_for_occurred latches acts bits is = record {
   enable = is.enable;
   event = λ k.
-      let bit = either_bit latches.event bits k in
+      let bit = bit_of_or latches.event bits k in
       let law = since_step (Occurs k) NotCleared (Occur bits) acts in (
         (λ h. law.1 (tt, elim (bit.0 h) [ inl event ↦ inr ((is.event k).0 event) | inr occurs ↦ inl occurs ])),
         (λ s. bit.1 (elim (law.0 s).1 [ inl occurs ↦ inr occurs | inr before ↦ inl ((is.event k).1 before) ])),
@@ -68,8 +68,10 @@ stands_for_enable latches acts word is = record {
 -- The register is read or cleared.
 pub stands_for_read : (latches : Latches) (acts : List StandardAct) → StandsFor latches acts
     → StandsFor (record latches { event = 0 }) (Read ∷ acts)
-stands_for_read latches acts is = record { enable = is.enable; event = λ k. no_bits k (Stands k (Read ∷ acts)) (stands_read k acts) }
+stands_for_read latches acts is =
+    record { enable = is.enable; event = λ k. zero_has_no_bit k (Stands k (Read ∷ acts)) (stands_read k acts) }
 
 pub stands_for_cleared : (latches : Latches) (acts : List StandardAct) → StandsFor latches acts
     → StandsFor (record latches { event = 0 }) (Clear ∷ acts)
-stands_for_cleared latches acts is = record { enable = is.enable; event = λ k. no_bits k (Stands k (Clear ∷ acts)) (stands_cleared k acts) }
+stands_for_cleared latches acts is =
+    record { enable = is.enable; event = λ k. zero_has_no_bit k (Stands k (Clear ∷ acts)) (stands_cleared k acts) }

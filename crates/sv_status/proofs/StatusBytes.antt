@@ -5,11 +5,11 @@ use Rattle.std.specs.Prelude.{◌↔◌, not, bit_xor}
 use Rattle.std.specs.Int.{bit_at}
 use Rattle.std.proofs.lemmas.Bool.{and_from, and_parts, false_from_ne_true, not_from_false, or_cases, or_left, or_right, cases_eq}
 use Rattle.std.proofs.lemmas.Nat.Bits.{bit_at-lt, bit_at-pow_other}
-use Rattle.sv_logs.proofs.Since.{since_empty, since_step, since_ended}
+use Rattle.sv_logs.proofs.Since.{since_empty, since_step, since_not_kept}
 use Rattle.sv_status.specs.declared.status_byte.StatusAct.{StatusAct}
 use Rattle.sv_status.specs.declared.status_byte.StatusAct.TheVariants.{Update, Poll}
 use Rattle.sv_status.specs.StatusByte.{Latches, StandsFor, ServiceRequested, ServiceRequestedAt, Master, Reason, Lasts, Request, IsRaised, StatusBit, MasterBit, bits, enable}
-use Rattle.sv_status.proofs.Words.{not_zero, rose, either_bit, without_six}
+use Rattle.sv_status.proofs.Words.{not_zero, bit_rises, bit_of_or, without_six}
 
 -- ---- whether a request for service is pending
 
@@ -23,7 +23,7 @@ pub request_updated : (word mask : ℕ) (acts : List StatusAct) → Request (Upd
 request_updated word mask acts = since_step Reason Lasts (Update word mask) acts
 
 pub request_polled : (acts : List StatusAct) → Request (Poll ∷ acts) → ⊥
-request_polled acts = since_ended Reason Lasts Poll acts (λ lasts. lasts)
+request_polled acts = since_not_kept Reason Lasts Poll acts (λ lasts. lasts)
 
 -- ---- whether a request is raised
 
@@ -39,11 +39,12 @@ raised_updated word mask acts =
 -- ---- the state of the status byte
 
 -- The word has exactly the summary bits that are set and enabled.
-abbrev pub HasAsking : ℕ → ℕ → ℕ → Type 0
-HasAsking word bits enable = (k : ℕ) → (bit_at word k ≡ 1) ↔ ServiceRequested k bits enable
+abbrev pub HasEnabledBits : ℕ → ℕ → ℕ → Type 0
+HasEnabledBits word bits enable = (k : ℕ) → (bit_at word k ≡ 1) ↔ ServiceRequested k bits enable
 
 -- The master summary is set exactly if this word isn't 0.
-pub master_is : (word : ℕ) (latches : Latches) (acts : List StatusAct) → StandsFor latches acts → HasAsking word latches.bits latches.enable
+pub master_is : (word : ℕ) (latches : Latches) (acts : List StatusAct) → StandsFor latches acts
+    → HasEnabledBits word latches.bits latches.enable
     → (not (eqb word 0) ≡ true) ↔ Master acts
 master_is word latches acts is asks =
     let zero = not_zero word in
@@ -58,17 +59,17 @@ zero_bit w k none = elim (cases_eq (bit_at w k) 1) [ inl one ↦ absurd (none on
 
 -- A reason arises exactly if a bit is set in the new word that isn't in the old one.
 reason_is : (before now : ℕ) (latches : Latches) (acts : List StatusAct) (word mask : ℕ) → StandsFor latches acts
-    → HasAsking before latches.bits latches.enable → HasAsking now word mask
+    → HasEnabledBits before latches.bits latches.enable → HasEnabledBits now word mask
     → (not (eqb (bit_and (bit_xor before now) now) 0) ≡ true) ↔ Reason (Update word mask ∷ acts)
 reason_is before now latches acts word mask is was asks =
     let zero = not_zero (bit_and (bit_xor before now) now) in (
       (λ h.
           let some = zero.0 h in
-          let r = (rose before now some.0).0 some.1 in
+          let r = (bit_rises before now some.0).0 some.1 in
           (some.0, (asks some.0).0 r.1, λ old. let one = (was some.0).1 (rw (is.bits, is.enable) old) in absurd (omega arith))),
       (λ m. zero.1 (
         m.0,
-        (rose before now m.0).1 (
+        (bit_rises before now m.0).1 (
           zero_bit before m.0 (λ one. m.2 (rw (is.bits, is.enable) at ((was m.0).0 one))),
           (asks m.0).1 m.1,
         ),
@@ -77,7 +78,7 @@ reason_is before now latches acts word mask is was asks =
 
 -- Whether a request is pending after an update, computed from both words.
 request_is : (before now : ℕ) (latches : Latches) (acts : List StatusAct) (word mask : ℕ) → StandsFor latches acts
-    → HasAsking before latches.bits latches.enable → HasAsking now word mask
+    → HasEnabledBits before latches.bits latches.enable → HasEnabledBits now word mask
     → (((not (eqb (bit_and (bit_xor before now) now) 0) || latches.request) && not (eqb now 0)) ≡ true) ↔ Request (Update word mask ∷ acts)
 request_is before now latches acts word mask is was asks =
     let law = request_updated word mask acts in
@@ -107,7 +108,7 @@ request_is before now latches acts word mask is was asks =
 
 -- Whether an update raises a request, computed from both words.
 pub raised_is : (before now : ℕ) (latches : Latches) (acts : List StatusAct) (word mask : ℕ) → StandsFor latches acts
-    → HasAsking before latches.bits latches.enable → HasAsking now word mask
+    → HasEnabledBits before latches.bits latches.enable → HasEnabledBits now word mask
     → ((not (eqb (bit_and (bit_xor before now) now) 0) && not latches.request) ≡ true) ↔ IsRaised (Update word mask ∷ acts)
 raised_is before now latches acts word mask is was asks =
     let law = raised_updated word mask acts in
@@ -123,7 +124,7 @@ raised_is before now latches acts word mask is was asks =
 
 -- The summary bits and the enable are updated.
 pub stands_for_updated : (before now : ℕ) (latches : Latches) (acts : List StatusAct) (word mask : ℕ) → StandsFor latches acts
-    → HasAsking before latches.bits latches.enable → HasAsking now word mask
+    → HasEnabledBits before latches.bits latches.enable → HasEnabledBits now word mask
     → StandsFor (record {
       bits = word;
       enable = mask;
@@ -146,9 +147,9 @@ stands_for_polled latches acts is = record {
 -- ---- the status byte as it is returned
 
 -- These bits, with bit 6 set to the flag.
-abbrev pub with_six : Bool → ℕ → ℕ
-with_six true word = bit_or (bit_and word 191) 64
-with_six false word = bit_and word 191
+abbrev pub with_bit_six : Bool → ℕ → ℕ
+with_bit_six true word = bit_or (bit_and word 191) 64
+with_bit_six false word = bit_and word 191
 
 -- A bit of the status byte, where bit 6 stands for `P`.
 abbrev pub ShowsBit : ℕ → ℕ → Type 0 → Type 0
@@ -160,10 +161,10 @@ six_alone k = (
   (λ e. ap (bit_at 64) e),
 )
 
-pub shown_bit : (stands : Bool) (word k : ℕ) → word < 256 → (bit_at (with_six stands word) k ≡ 1) ↔ ShowsBit k word (stands ≡ true)
+pub shown_bit : (stands : Bool) (word k : ℕ) → word < 256 → (bit_at (with_bit_six stands word) k ≡ 1) ↔ ShowsBit k word (stands ≡ true)
 shown_bit true word k fits =
     let without = without_six word k fits in
-    let either = either_bit (bit_and word 191) 64 k in
+    let either = bit_of_or (bit_and word 191) 64 k in
     let six = six_alone k in (
       (λ h. elim (either.0 h) [ inl other ↦ inl (without.0 other) | inr status_log ↦ inr (six.0 status_log, refl) ]),
       (λ s. elim s [ inl other ↦ either.1 (inl (without.1 other)) | inr status_log ↦ either.1 (inr (six.1 status_log.0)) ]),

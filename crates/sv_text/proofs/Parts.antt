@@ -24,9 +24,9 @@ parts_at_cons s b n m bytes e =
     ]
 
 -- The first part, and the parts after it.
-pub parts_cut : (s : ℕ) (bytes : List ℕ) → cut_at s bytes ≡ parts_at s (part_size s bytes) (length bytes) bytes
-parts_cut s [] = refl
-parts_cut s (b ∷ bytes) = at (b == s) (parts_cut s bytes)
+pub cut_at_first_separator : (s : ℕ) (bytes : List ℕ) → cut_at s bytes ≡ parts_at s (part_size s bytes) (length bytes) bytes
+cut_at_first_separator s [] = refl
+cut_at_first_separator s (b ∷ bytes) = at (b == s) (cut_at_first_separator s bytes)
   where
     at : (t : Bool) → cut_at s bytes ≡ parts_at s (part_size s bytes) (length bytes) bytes
         → cond t ([] ∷ cut_at s bytes) (onto b (cut_at s bytes))
@@ -35,18 +35,19 @@ parts_cut s (b ∷ bytes) = at (b == s) (parts_cut s bytes)
     at false h = ap (onto b) h ∙ parts_at_cons s b (part_size s bytes) (1 + part_size s bytes) bytes (omega arith)
 
 -- If a separator ends the first part, the parts after it are cut on their own.
-pub part_ended : (s n : ℕ) (bytes : List ℕ) → n ≡ part_size s bytes → n < length bytes
+pub first_part_is_cut : (s n : ℕ) (bytes : List ℕ) → n ≡ part_size s bytes → n < length bytes
     → cut_at s bytes ≡ take n bytes ∷ cut_at s (drop (n + 1) bytes)
-part_ended s n bytes e lt = parts_cut s bytes ∙ rw (← e, lt-ltb n (length bytes) lt) refl
+first_part_is_cut s n bytes e lt = cut_at_first_separator s bytes ∙ rw (← e, lt-ltb n (length bytes) lt) refl
 
 -- Without a separator, the whole text is one part.
-pub part_last : (s n : ℕ) (bytes : List ℕ) → n ≡ part_size s bytes → length bytes ≤ n → cut_at s bytes ≡ bytes ∷ []
-part_last s n bytes e ge = parts_cut s bytes ∙ rw (← e, le-ltb n (length bytes) ge, take_all n bytes ge) refl
+pub whole_text_is_part : (s n : ℕ) (bytes : List ℕ) → n ≡ part_size s bytes → length bytes ≤ n → cut_at s bytes ≡ bytes ∷ []
+whole_text_is_part s n bytes e ge = cut_at_first_separator s bytes ∙ rw (← e, le-ltb n (length bytes) ge, take_all n bytes ge) refl
 
 -- The first part, a separator and the rest are the whole text.
-pub whole_ended : (s n : ℕ) (bytes : List ℕ) → n ≡ part_size s bytes → n < length bytes → bytes ≡ take n bytes ++ s ∷ drop (n + 1) bytes
-whole_ended s n [] e lt = absurd (omega arith)
-whole_ended s n (b ∷ bytes) e lt = at (b == s) refl e lt (whole_ended s (part_size s bytes) bytes refl)
+pub first_part_rejoins : (s n : ℕ) (bytes : List ℕ) → n ≡ part_size s bytes → n < length bytes
+    → bytes ≡ take n bytes ++ s ∷ drop (n + 1) bytes
+first_part_rejoins s n [] e lt = absurd (omega arith)
+first_part_rejoins s n (b ∷ bytes) e lt = at (b == s) refl e lt (first_part_rejoins s (part_size s bytes) bytes refl)
   where
     at : (t : Bool) → (b == s) ≡ t → n ≡ cond (not t) (1 + part_size s bytes) 0 → n < suc (length bytes)
         → (part_size s bytes < length bytes → bytes ≡ take (part_size s bytes) bytes ++ s ∷ drop (part_size s bytes + 1) bytes)
@@ -57,5 +58,5 @@ whole_ended s n (b ∷ bytes) e lt = at (b == s) refl e lt (whole_ended s (part_
         let next : n + 1 ≡ suc (part_size s bytes + 1) = omega (arith, e) in
         rw (next, size) (ap (λ xs. b ∷ xs) (h (omega (arith, e))))
 
-pub parts_some : (s : ℕ) (bytes : List ℕ) → 1 ≤ length (cut_at s bytes)
-parts_some s bytes = rw (parts_cut s bytes) (omega arith)
+pub at_least_one_part : (s : ℕ) (bytes : List ℕ) → 1 ≤ length (cut_at s bytes)
+at_least_one_part s bytes = rw (cut_at_first_separator s bytes) (omega arith)

@@ -26,26 +26,28 @@ cap_step m b x d some =
     ]
 
 -- If the value so far is capped, the further digits lead to the same capped value.
-pub cap : (m b x : ℕ) (digits : List ℕ) → 1 ≤ b → min (digits_value_after b (min x m) digits) m ≡ min (digits_value_after b x digits) m
-cap m b x [] some = omega arith
-cap m b x (d ∷ digits) some =
-    sym (cap m b (min x m * b + digit_value d) digits some)
+pub capped_digits : (m b x : ℕ) (digits : List ℕ) → 1 ≤ b → min (digits_value_after b (min x m) digits) m ≡ min
+    (digits_value_after b x digits) m
+capped_digits m b x [] some = omega arith
+capped_digits m b x (d ∷ digits) some =
+    sym (capped_digits m b (min x m * b + digit_value d) digits some)
     ∙ ap (λ n. min (digits_value_after b n digits) m) (cap_step m b x (digit_value d) some)
-    ∙ cap m b (x * b + digit_value d) digits some
+    ∙ capped_digits m b (x * b + digit_value d) digits some
 
 -- Reading the next digit and capping keeps the capped value of all digits.
-pub cap_digit : (b most x v : ℕ) (digits : List ℕ) → 1 ≤ b → 1 ≤ length digits
+pub capped_digit : (b most x v : ℕ) (digits : List ℕ) → 1 ≤ b → 1 ≤ length digits
     → v ≡ min most (x * b + digit_value (slice_index_or digits 0 0))
     → min (digits_value_after b x digits) most ≡ min (digits_value_after b v (take (length digits - 1) (drop 1 digits))) most
-cap_digit b most x v [] some lt e = absurd (omega (arith, lt))
-cap_digit b most x v (d ∷ digits) some lt e =
+capped_digit b most x v [] some lt e = absurd (omega (arith, lt))
+capped_digit b most x v (d ∷ digits) some lt e =
     let swap : v ≡ min (x * b + digit_value d) most = omega (arith, e) in
-    rw (take_rest (d ∷ digits) 1, swap) (sym (cap most b (x * b + digit_value d) digits some))
+    rw (take_rest (d ∷ digits) 1, swap) (sym (capped_digits most b (x * b + digit_value d) digits some))
 
 -- The value of the first digits may be capped before the others are read.
-pub cap_join : (most : ℕ) (front behind : List ℕ)
+pub capped_append : (most : ℕ) (front behind : List ℕ)
     → min (digits_value_after 10 (min (digits_value 10 front) most) behind) most ≡ min (digits_value 10 (front ++ behind)) most
-cap_join most front behind = cap most 10 (digits_value 10 front) behind (omega arith) ∙ ap (λ n. min n most) (sym (value_join front behind))
+capped_append most front behind = capped_digits most 10 (digits_value 10 front) behind (omega arith)
+    ∙ ap (λ n. min n most) (sym (value_join front behind))
 
 pub take_join : (k : ℕ) (front behind : List ℕ) → length front ≤ k → take k (front ++ behind) ≡ front ++ take (k - length front) behind
 take_join k front behind le =
@@ -53,23 +55,23 @@ take_join k front behind le =
     ap (λ n. take n (front ++ behind)) e ∙ take-append-add front behind (k - length front)
 
 -- A value above 0 that is moved by 19 decimal places or more exceeds the cap.
-pub past : (value tens : ℕ) → 1 ≤ value → 18 < tens → 1000000000000000000 ≡ min (value * 10 ^ tens) 1000000000000000000
-past value tens some many =
+pub moved_past_cap : (value tens : ℕ) → 1 ≤ value → 18 < tens → 1000000000000000000 ≡ min (value * 10 ^ tens) 1000000000000000000
+moved_past_cap value tens some many =
     let pow : 10 ^ 18 ≤ 10 ^ tens = pow-le-pow_right (omega arith) {i = 18} {j = tens} (omega (arith, many)) in
     let times : 1 * 10 ^ 18 ≤ value * 10 ^ tens = mul-le 1 (10 ^ 18) value (10 ^ tens) some pow in
     omega (arith, times)
 
 -- A value may be capped before it is multiplied: the capped product is the same.
-pub cap_up : (most value k : ℕ) → 1 ≤ k → min (min value most * k) most ≡ min (value * k) most
-cap_up most value k some =
+pub capped_times : (most value k : ℕ) → 1 ≤ k → min (min value most * k) most ≡ min (value * k) most
+capped_times most value k some =
     let none : min value most * k ≡ min value most * k + 0 = omega arith in
     let same : value * k + 0 ≡ value * k = omega arith in
     ap (λ n. min n most) none ∙ cap_step most k value 0 some ∙ ap (λ n. min n most) same
 
 -- A value may be capped before it is rounded up: the capped result is the same.
-pub cap_round : (most value up front carry result : ℕ) → front ≡ min value most → carry ≡ up → result ≡ min most (front + carry)
+pub capped_rounding : (most value up front carry result : ℕ) → front ≡ min value most → carry ≡ up → result ≡ min most (front + carry)
     → result ≡ min (value + up) most
-cap_round most value up front carry result f u e = omega (arith, f, u, e)
+capped_rounding most value up front carry result f u e = omega (arith, f, u, e)
 
 -- Equal powers of ten give the same value.
 pub same_powers : (most n up right down left : ℕ) → up ≡ right → down ≡ left

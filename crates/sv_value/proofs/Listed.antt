@@ -11,49 +11,50 @@ use Rattle.sv_errors.specs.declared.code.Code.{Code}
 use Rattle.sv_errors.specs.declared.code.Code.TheVariants.{DataOutOfRange, TooMuchData, InvalidExpression}
 use Rattle.sv_lexer.specs.declared.token.Kind.TheVariants.{Number, Base, Word, Expression, Other}
 use Rattle.sv_text.specs.Cut.{cut_at}
-use Rattle.sv_text.proofs.Parts.{parts_some}
+use Rattle.sv_text.proofs.Parts.{at_least_one_part}
 use Rattle.sv_value.specs.Channels.{Span as Ends, inner, list_channels, next, read_items, read_list, channel_range, span}
 use Rattle.sv_value.specs.Value.{ReadIsChannelList}
-use Rattle.sv_value.proofs.Spans.{run_up, run_down, run_one, length_run}
+use Rattle.sv_value.proofs.Spans.{range_upwards, range_downwards, range_of_one, range_length}
 
 cons_channel : (c : ℕ) (cs : List ℕ) → 1 ≤ c → c ≤ channel_count → list_all is_channel cs ≡ true → list_all is_channel (c ∷ cs) ≡ true
 cons_channel c cs some most h = rw (le-leb 1 c some, le-leb c channel_count most) h
 
 -- All channels between two channels are channels.
-run_channels : (k first last : ℕ) → (first - last) + (last - first) ≡ k → 1 ≤ first → first ≤ channel_count → 1 ≤ last
+range_has_channels : (k first last : ℕ) → (first - last) + (last - first) ≡ k → 1 ≤ first → first ≤ channel_count → 1 ≤ last
     → last ≤ channel_count → list_all is_channel (channel_range first last) ≡ true
-run_channels zero first last size f1 f2 l1 l2 =
+range_has_channels zero first last size f1 f2 l1 l2 =
     let e : first ≡ last = omega (arith, size) in
-    rw e (ap (list_all is_channel) (run_one last) ∙ cons_channel last [] l1 l2 refl)
-run_channels (suc k) first last size f1 f2 l1 l2 =
+    rw e (ap (list_all is_channel) (range_of_one last) ∙ cons_channel last [] l1 l2 refl)
+range_has_channels (suc k) first last size f1 f2 l1 l2 =
     elim (cases_lt first last) [
       | inl up ↦
-          ap (list_all is_channel) (run_up first last up)
+          ap (list_all is_channel) (range_upwards first last up)
           ∙ cons_channel first (channel_range (first + 1) last) f1 f2
-          (run_channels k (first + 1) last (omega (arith, size, up)) (omega arith) (omega (arith, up, l2)) l1 l2)
+          (range_has_channels k (first + 1) last (omega (arith, size, up)) (omega arith) (omega (arith, up, l2)) l1 l2)
       | inr other ↦
           let down : last < first = omega (arith, size, other) in
-          ap (list_all is_channel) (run_down first last down)
+          ap (list_all is_channel) (range_downwards first last down)
           ∙ cons_channel first (channel_range (first - 1) last) f1 f2
-          (run_channels k (first - 1) last (omega (arith, size, down)) (omega (arith, down, l1)) (omega (arith, f2)) l1 l2)
+          (range_has_channels k (first - 1) last (omega (arith, size, down)) (omega (arith, down, l1)) (omega (arith, f2)) l1 l2)
     ]
 
-both : (a b : Bool) → (a && b) ≡ true → (a ≡ true) × (b ≡ true)
-both true b h = (refl, h)
-both false b h = absurd cc
+both_conjuncts : (a b : Bool) → (a && b) ≡ true → (a ≡ true) × (b ≡ true)
+both_conjuncts true b h = (refl, h)
+both_conjuncts false b h = absurd cc
 
 ends_channels : (first last : ℕ) → (is_channel first && is_channel last) ≡ true → list_all is_channel (channel_range first last) ≡ true
 ends_channels first last h =
-    let one = both (is_channel first) (is_channel last) h in
-    let f = both (nat_le 1 first) (nat_le first channel_count) one.0 in
-    let l = both (nat_le 1 last) (nat_le last channel_count) one.1 in
-    run_channels ((first - last) + (last - first)) first last refl (leb-true 1 first f.0)
+    let one = both_conjuncts (is_channel first) (is_channel last) h in
+    let f = both_conjuncts (nat_le 1 first) (nat_le first channel_count) one.0 in
+    let l = both_conjuncts (nat_le 1 last) (nat_le last channel_count) one.1 in
+    range_has_channels ((first - last) + (last - first)) first last refl (leb-true 1 first f.0)
     (leb-true first channel_count f.1) (leb-true 1 last l.0) (leb-true last channel_count l.1)
 
 -- Channels are a valid list if there are 1 to 128 of them.
-are_listed : (before list : List ℕ) → list_all is_channel before ≡ true → length before ≤ longest_list → 1 ≤ length before → before ≡ list
+channels_are_list : (before list : List ℕ) → list_all is_channel before ≡ true → length before ≤ longest_list → 1 ≤ length before
+    → before ≡ list
     → is_channel_list list ≡ true
-are_listed before list all most some e = rw (← e) (rw (le-leb 1 (length before) some, le-leb (length before) longest_list most) all)
+channels_are_list before list all most some e = rw (← e) (rw (le-leb 1 (length before) some, le-leb (length before) longest_list most) all)
 
 -- If an item and the items after it are read without error, all of them are channels.
 item_channels : (o : Option Ends) (before list : List ℕ) (others : List ℕ → Result (List ℕ) Code) → list_all is_channel before ≡ true
@@ -74,7 +75,7 @@ item_channels (Some ends) before list others all go h =
     at true true is_legal is_full e = absurd cc
     at true false is_legal is_full e =
         let channels = ends_channels ends.first ends.last is_legal in
-        let run_size = length_run ends.first ends.last in
+        let run_size = range_length ends.first ends.last in
         let size = length-append before (channel_range ends.first ends.last) in
         go (before ++ channel_range ends.first ends.last)
         (list_all-append is_channel before (channel_range ends.first ends.last) ∙ rw (all, channels) refl)
@@ -82,7 +83,7 @@ item_channels (Some ends) before list others all go h =
 
 listed_channels : (items : List (List ℕ)) (before list : List ℕ) → list_all is_channel before ≡ true → length before ≤ longest_list
     → 1 ≤ length before + length items → list_channels before items ≡ Ok list → is_channel_list list ≡ true
-listed_channels [] before list all most some h = are_listed before list all most (omega (arith, some)) cc
+listed_channels [] before list all most some h = channels_are_list before list all most (omega (arith, some)) cc
 listed_channels (item ∷ items) before list all most some h =
     item_channels (span item) before list (λ so_far. list_channels so_far items) all
     (λ so_far a m s e. listed_channels items so_far list a m (omega (arith, s)) e) h
@@ -94,7 +95,7 @@ items_channels (Some text) list h = at (list_all (λ item. is_some (span item)) 
   where
     at : (t : Bool) → cond t (list_channels [] (cut_at 44 text)) (Err InvalidExpression) ≡ Ok list → is_channel_list list ≡ true
     at false e = absurd cc
-    at true e = let some = parts_some 44 text in listed_channels (cut_at 44 text) [] list refl (omega arith) (omega (arith, some)) e
+    at true e = let some = at_least_one_part 44 text in listed_channels (cut_at 44 text) [] list refl (omega arith) (omega (arith, some)) e
 
 pub read_channels : ReadIsChannelList
 read_channels Expression text list h = items_channels (inner text) list h
@@ -104,8 +105,8 @@ read_channels Word text list h = absurd cc
 read_channels Other text list h = absurd cc
 
 -- A list that the code returns is valid.
-pub if_listed : {L : Type 0} (items : L → List ℕ) (text : List ℕ) (r : Result L Code)
+pub returned_list_is_valid : {L : Type 0} (items : L → List ℕ) (text : List ℕ) (r : Result L Code)
     → MatchResult r (λ list. read_list text ≡ Ok (items list)) (λ code. read_list text ≡ Err code)
     → IfOk r (λ list. is_channel_list (items list) ≡ true)
-if_listed items text (Ok list) h = items_channels (inner text) (items list) h
-if_listed items text (Err code) h = tt
+returned_list_is_valid items text (Ok list) h = items_channels (inner text) (items list) h
+returned_list_is_valid items text (Err code) h = tt

@@ -35,18 +35,18 @@ length_six n lt =
     length-append (replicate (6 - length (decimal n)) 48) (decimal n) ∙ omega (arith, short, zeros)
 
 -- Zeros and digits that are written after a text appear after it as six digits.
-pub six_behind : (text rest zeros digits new six : List ℕ) → length zeros + length digits ≡ 6 → six ≡ zeros ++ digits
+pub six_digits_written : (text rest zeros digits new six : List ℕ) → length zeros + length digits ≡ 6 → six ≡ zeros ++ digits
     → new ≡ (text ++ zeros) ++ (digits ++ drop (length digits) (drop (length zeros) rest)) → new ≡ text ++ (six ++ drop 6 rest)
-six_behind text rest zeros digits new six size e h =
+six_digits_written text rest zeros digits new six size e h =
     let dropped : drop (length digits) (drop (length zeros) rest) ≡ drop 6 rest =
     drop-drop (length digits) (length zeros) rest ∙ ap (λ n. drop n rest) size in
     h ∙ ap (λ r. (text ++ zeros) ++ (digits ++ r)) dropped ∙ simp append_assoc refl ∙ ap (λ s. text ++ (s ++ drop 6 rest)) (sym e)
 
 -- A sign, digits, a point and six digits that are written in this order are the text of a voltage.
-pub all_behind : (old new volts six : List ℕ) (sign : ℕ) → length six ≡ 6
+pub voltage_is_written : (old new volts six : List ℕ) (sign : ℕ) → length six ≡ 6
     → new ≡ (((sign ∷ []) ++ volts) ++ 46 ∷ []) ++ (six ++ drop 6 (drop 1 (drop (length volts) (drop 1 old))))
     → new ≡ (sign ∷ (volts ++ 46 ∷ six)) ++ drop (length (sign ∷ (volts ++ 46 ∷ six))) old
-all_behind old new volts six sign size h =
+voltage_is_written old new volts six sign size h =
     let whole : length (sign ∷ (volts ++ 46 ∷ six)) ≡ 1 + length volts + 1 + 6 = let inner = length-append volts (46 ∷ six) in
     omega (arith, inner, size) in
     let dropped : drop 6 (drop 1 (drop (length volts) (drop 1 old))) ≡ drop (length (sign ∷ (volts ++ 46 ∷ six))) old =
@@ -55,13 +55,14 @@ all_behind old new volts six sign size h =
     h ∙ ap (λ r. (((sign ∷ []) ++ volts) ++ 46 ∷ []) ++ (six ++ r)) dropped ∙ simp append_assoc refl
 
 -- The text of a voltage, written over the beginning of `old`.
-abbrev pub in_front : List ℕ → ℕ → List ℕ → ℕ → List ℕ
-in_front old sign volts n = (sign ∷ (volts ++ 46 ∷ six_digits n)) ++ drop (length (sign ∷ (volts ++ 46 ∷ six_digits n))) old
+abbrev pub voltage_written_over : List ℕ → ℕ → List ℕ → ℕ → List ℕ
+voltage_written_over old sign volts n = (sign ∷ (volts ++ 46 ∷ six_digits n)) ++ drop (length (sign ∷ (volts ++ 46 ∷ six_digits n))) old
 
 pub voltage_same : (old volts volts2 : List ℕ) (sign sign2 n n2 : ℕ) → sign ≡ sign2 → volts ≡ volts2 → n ≡ n2
-    → in_front old sign volts n ≡ in_front old sign2 volts2 n2
+    → voltage_written_over old sign volts n ≡ voltage_written_over old sign2 volts2 n2
 voltage_same old volts volts2 sign sign2 n n2 s v e =
-    ap (λ x. in_front old x volts n) s ∙ ap (λ x. in_front old sign2 x n) v ∙ ap (λ x. in_front old sign2 volts2 x) e
+    ap (λ x. voltage_written_over old x volts n) s ∙ ap (λ x. voltage_written_over old sign2 x n) v
+        ∙ ap (λ x. voltage_written_over old sign2 volts2 x) e
 
 pub voltage_size : (volts : List ℕ) (n : ℕ) → n < 1000000 → length (volts ++ 46 ∷ six_digits n) ≡ length volts + 1 + 6
 voltage_size volts n lt = let inner = length-append volts (46 ∷ six_digits n) in let six = length_six n lt in omega (arith, inner, six)

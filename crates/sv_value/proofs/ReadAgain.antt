@@ -16,8 +16,8 @@ use Rattle.sv_value.specs.Decimal.{Parts, digits_in, behind_digits, fraction_in,
 use Rattle.sv_value.specs.Number.{magnitude, nearest, significant_digits, signed, read_with}
 use Rattle.sv_value.specs.Value.{power_of_volts, within_volts}
 use Rattle.sv_value.specs.PrintedVoltage.{PrintedIsRead, six_digits}
-use Rattle.sv_value.proofs.Pieces.{digits_joined, behind_joined}
-use Rattle.sv_value.proofs.Rounding.{value_join, after_moves, nearest_right}
+use Rattle.sv_value.proofs.Pieces.{digits_in_append, behind_digits_append}
+use Rattle.sv_value.proofs.Rounding.{value_join, value_after_more_digits, nearest_right}
 use Rattle.sv_value.proofs.Printed.{length_six, volts_short}
 
 is_digit : (b : ℕ) → digit_value b < 10 → is_ascii_digit b ≡ true
@@ -57,7 +57,7 @@ whole_value m le =
     let behind = six_value (m % 1000000) (omega arith) in
     let size = length_six (m % 1000000) (omega arith) in
     value_join (decimal (m / 1000000)) (six_digits (m % 1000000))
-    ∙ after_moves (digits_value 10 (decimal (m / 1000000))) (six_digits (m % 1000000))
+    ∙ value_after_more_digits (digits_value 10 (decimal (m / 1000000))) (six_digits (m % 1000000))
     ∙ rw (front, behind, size) (omega arith)
 
 -- The parts that are read from a sign, digits, a point, digits and the rest.
@@ -77,11 +77,11 @@ parts_printed : (negative : Bool) (whole fraction : List ℕ) → list_all is_as
     (behind_fraction (behind_digits (whole ++ 46 ∷ fraction))) ≡ parts_of negative whole fraction []
 parts_printed negative whole fraction w f =
     let text : List ℕ = whole ++ 46 ∷ fraction in
-    let front : digits_in text ≡ whole = digits_joined whole (46 ∷ fraction) w ∙ append-nil whole in
-    let behind : behind_digits text ≡ 46 ∷ fraction = behind_joined whole (46 ∷ fraction) w in
-    let all : digits_in fraction ≡ fraction = ap digits_in (sym (append-nil fraction)) ∙ digits_joined fraction [] f
+    let front : digits_in text ≡ whole = digits_in_append whole (46 ∷ fraction) w ∙ append-nil whole in
+    let behind : behind_digits text ≡ 46 ∷ fraction = behind_digits_append whole (46 ∷ fraction) w in
+    let all : digits_in fraction ≡ fraction = ap digits_in (sym (append-nil fraction)) ∙ digits_in_append fraction [] f
     ∙ append-nil fraction in
-    let none : behind_digits fraction ≡ [] = ap behind_digits (sym (append-nil fraction)) ∙ behind_joined fraction [] f in
+    let none : behind_digits fraction ≡ [] = ap behind_digits (sym (append-nil fraction)) ∙ behind_digits_append fraction [] f in
     ap (λ d. parts_of negative d (fraction_in (behind_digits text)) (behind_fraction (behind_digits text))) front
     ∙ ap (λ b. parts_of negative whole (fraction_in b) (behind_fraction b)) behind
     ∙ ap (λ d. parts_of negative whole d (behind_digits fraction)) all

@@ -17,11 +17,11 @@ after_join b n [] ys = refl
 after_join b n (x ∷ xs) ys = after_join b (n * b + digit_value x) xs ys
 
 -- Further digits multiply the value so far by ten each.
-pub after_moves : (n : ℕ) (ds : List ℕ) → digits_value_after 10 n ds ≡ n * 10 ^ length ds + digits_value 10 ds
-after_moves n [] = omega arith
-after_moves n (d ∷ ds) =
-    let a = after_moves (n * 10 + digit_value d) ds in
-    let b = after_moves (0 * 10 + digit_value d) ds in
+pub value_after_more_digits : (n : ℕ) (ds : List ℕ) → digits_value_after 10 n ds ≡ n * 10 ^ length ds + digits_value 10 ds
+value_after_more_digits n [] = omega arith
+value_after_more_digits n (d ∷ ds) =
+    let a = value_after_more_digits (n * 10 + digit_value d) ds in
+    let b = value_after_more_digits (0 * 10 + digit_value d) ds in
     let p : 10 ^ suc (length ds) ≡ 10 * 10 ^ length ds = pow-succ' 10 (length ds) in
     omega (arith, a, b, ap (λ x. n * x) p)
 
@@ -38,8 +38,8 @@ nearest_short n d k some =
     let under : 2 * (d * k) ≡ 2 * d * k = omega arith in
     rw (over, under) (mul-div-mul_right (2 * n + d) (2 * d) (omega (arith, some)))
 
-pub ten_some : (n : ℕ) → 1 ≤ 10 ^ n
-ten_some n = one-le-pow n 10 (omega arith)
+pub power_of_ten_positive : (n : ℕ) → 1 ≤ 10 ^ n
+power_of_ten_positive n = one-le-pow n 10 (omega arith)
 
 -- If the power of ten in the numerator is the greater one, nothing is rounded.
 pub nearest_right : (n up down : ℕ) → down ≤ up → nearest (n * 10 ^ up) (10 ^ down) ≡ n * 10 ^ (up - down)
@@ -49,43 +49,43 @@ nearest_right n up down le =
     let over : n * 10 ^ up ≡ n * 10 ^ (up - down) * 10 ^ down = ap (λ k. n * k) split ∙ omega arith in
     let under : 10 ^ down ≡ 1 * 10 ^ down = omega arith in
     ap (λ k. nearest k (10 ^ down)) over ∙ ap (λ k. nearest (n * 10 ^ (up - down) * 10 ^ down) k) under
-    ∙ nearest_short (n * 10 ^ (up - down)) 1 (10 ^ down) (ten_some down) ∙ nearest_whole (n * 10 ^ (up - down))
+    ∙ nearest_short (n * 10 ^ (up - down)) 1 (10 ^ down) (power_of_ten_positive down) ∙ nearest_whole (n * 10 ^ (up - down))
 
 -- If the one in the denominator is the greater one, only the difference matters.
 pub nearest_left : (n up down : ℕ) → up ≤ down → nearest (n * 10 ^ up) (10 ^ down) ≡ nearest n (10 ^ (down - up))
 nearest_left n up down le =
     let split : 10 ^ down ≡ 10 ^ (down - up) * 10 ^ up =
     ap (λ k. 10 ^ k) (let e : down ≡ (down - up) + up = omega (arith, le) in e) ∙ pow-add 10 (down - up) up in
-    ap (λ k. nearest (n * 10 ^ up) k) split ∙ nearest_short n (10 ^ (down - up)) (10 ^ up) (ten_some up)
+    ap (λ k. nearest (n * 10 ^ up) k) split ∙ nearest_short n (10 ^ (down - up)) (10 ^ up) (power_of_ten_positive up)
 
 digit_most : (b : ℕ) → is_ascii_digit b ≡ true → digit_value b ≤ 9
 digit_most b h = grind (arith, nat_tests, h)
 
 -- A number is less than the power of ten that has one digit more.
-pub value_less : (ds : List ℕ) → list_all is_ascii_digit ds ≡ true → digits_value 10 ds < 10 ^ length ds
-value_less [] h = omega arith
-value_less (d ∷ ds) h =
+pub value_below_power_of_ten : (ds : List ℕ) → list_all is_ascii_digit ds ≡ true → digits_value 10 ds < 10 ^ length ds
+value_below_power_of_ten [] h = omega arith
+value_below_power_of_ten (d ∷ ds) h =
     let digits = and_parts (is_ascii_digit d) (list_all is_ascii_digit ds) h in
     let most = digit_most d digits.0 in
-    let rest = value_less ds digits.1 in
-    let moves = after_moves (0 * 10 + digit_value d) ds in
+    let rest = value_below_power_of_ten ds digits.1 in
+    let moves = value_after_more_digits (0 * 10 + digit_value d) ds in
     let p : 10 ^ suc (length ds) ≡ 10 * 10 ^ length ds = pow-succ' 10 (length ds) in
     let part : digit_value d * 10 ^ length ds ≤ 9 * 10 ^ length ds =
     mul-le (digit_value d) (10 ^ length ds) 9 (10 ^ length ds) most (omega arith) in
     omega (arith, moves, p, part, rest)
 
 -- If more digits are left out than there are, the value is less than a half and rounds to 0.
-pub nearest_none : (ds : List ℕ) (c : ℕ) → list_all is_ascii_digit ds ≡ true → length ds < c → nearest (digits_value 10 ds) (10 ^ c) ≡ 0
-nearest_none ds c h lt =
-    let less = value_less ds h in
+pub nearest_is_zero : (ds : List ℕ) (c : ℕ) → list_all is_ascii_digit ds ≡ true → length ds < c → nearest (digits_value 10 ds) (10 ^ c) ≡ 0
+nearest_is_zero ds c h lt =
+    let less = value_below_power_of_ten ds h in
     let p : 10 ^ suc (length ds) ≡ 10 * 10 ^ length ds = pow-succ' 10 (length ds) in
     let more : 10 ^ suc (length ds) ≤ 10 ^ c = pow-le-pow_right (omega arith) (omega (arith, lt)) in
     div-eq_of_lt (omega (arith, less, p, more))
 
 -- A value whose first omitted digit is 5 or more is rounded up, any other is rounded down.
-half : (kept digit behind p : ℕ) → digit ≤ 9 → behind < p
+rounds_by_next_digit : (kept digit behind p : ℕ) → digit ≤ 9 → behind < p
     → nearest ((kept * 10 + digit) * p + behind) (10 * p) ≡ kept + (if nat_le 5 digit then 1 else 0)
-half kept digit behind p most lt = at (nat_le 5 digit) refl
+rounds_by_next_digit kept digit behind p most lt = at (nat_le 5 digit) refl
   where
     spread : (kept * 10 + digit) * p ≡ 10 * (kept * p) + digit * p
     spread = omega arith
@@ -122,10 +122,12 @@ nearest_digits ds c kept h some size =
     let digits = and_parts (is_ascii_digit digit) (list_all is_ascii_digit behind) parts.1 in
     let few : length behind ≡ c - 1 = length-drop (suc kept) ds ∙ omega (arith, some, size) in
     let value : digits_value 10 ds ≡ (digits_value 10 front * 10 + digit_value digit) * 10 ^ (c - 1) + digits_value 10 behind =
-    ap (digits_value 10) split ∙ value_join front (digit ∷ behind) ∙ after_moves (digits_value 10 front * 10 + digit_value digit) behind
+    ap (digits_value 10) split ∙ value_join front (digit ∷ behind) ∙ value_after_more_digits
+        (digits_value 10 front * 10 + digit_value digit) behind
     ∙ ap (λ n. (digits_value 10 front * 10 + digit_value digit) * 10 ^ n + digits_value 10 behind) few in
-    let less : digits_value 10 behind < 10 ^ (c - 1) = rw (← few) (value_less behind digits.1) in
+    let less : digits_value 10 behind < 10 ^ (c - 1) = rw (← few) (value_below_power_of_ten behind digits.1) in
     let tens : 10 ^ c ≡ 10 * 10 ^ (c - 1) = ap (λ n. 10 ^ n) (let e : c ≡ suc (c - 1) = omega (arith, some) in e) ∙ pow-succ' 10 (c - 1) in
     ap (λ n. nearest n (10 ^ c)) value ∙ ap (nearest
     ((digits_value 10 front * 10 + digit_value digit) * 10 ^ (c - 1) + digits_value 10 behind)) tens
-    ∙ half (digits_value 10 front) (digit_value digit) (digits_value 10 behind) (10 ^ (c - 1)) (digit_most digit digits.0) less
+    ∙ rounds_by_next_digit (digits_value 10 front) (digit_value digit) (digits_value 10 behind) (10 ^ (c - 1)) (digit_most digit digits.0)
+        less

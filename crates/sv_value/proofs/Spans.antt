@@ -12,13 +12,13 @@ use Rattle.sv_errors.specs.Limits.{is_channel, channel_count, longest_list}
 use Rattle.sv_value.specs.Channels.{Span as Ends, next, channel_range, span_of}
 use Rattle.sv_value.specs.Plain.{ends_up_to}
 
-pub run_up : (first last : ℕ) → first < last → channel_range first last ≡ first ∷ channel_range (first + 1) last
-run_up first last lt =
+pub range_upwards : (first last : ℕ) → first < last → channel_range first last ≡ first ∷ channel_range (first + 1) last
+range_upwards first last lt =
     let size : last - first + 1 ≡ suc (last - (first + 1) + 1) = omega (arith, lt) in
     rw (le-leb first last (omega (arith, lt)), le-leb (first + 1) last (omega (arith, lt)), size) refl
 
-pub run_one : (channel : ℕ) → channel_range channel channel ≡ channel ∷ []
-run_one channel =
+pub range_of_one : (channel : ℕ) → channel_range channel channel ≡ channel ∷ []
+range_of_one channel =
     let size : channel - channel + 1 ≡ 1 = omega arith in
     rw (le-leb channel channel (omega arith), size) refl
 
@@ -41,12 +41,12 @@ run_rest first last lt =
       | inr none ↦
           let one : first - 1 ≡ last = omega (arith, none, lt) in
           let size : first - last ≡ 1 = omega (arith, none, lt) in
-          rw (one, size) (run_one last)
+          rw (one, size) (range_of_one last)
     ]
 
 -- A downward range begins with its first channel.
-pub run_down : (first last : ℕ) → last < first → channel_range first last ≡ first ∷ channel_range (first - 1) last
-run_down first last lt =
+pub range_downwards : (first last : ℕ) → last < first → channel_range first last ≡ first ∷ channel_range (first - 1) last
+range_downwards first last lt =
     let size : first - last + 1 ≡ suc (first - last) = omega (arith, lt) in
     let end : last + (first - last) ≡ first = omega (arith, lt) in
     run_back first last lt
@@ -60,8 +60,8 @@ length_range : (first n : ℕ) → length (range_with_len first n) ≡ n
 length_range first zero = refl
 length_range first (suc n) = ap suc (length_range (first + 1) n)
 
-pub length_run : (first last : ℕ) → length (channel_range first last) ≡ (first - last) + (last - first) + 1
-length_run first last =
+pub range_length : (first last : ℕ) → length (channel_range first last) ≡ (first - last) + (last - first) + 1
+range_length first last =
     elim (cases_lt last first) [
       | inl lt ↦ ap length (run_back first last lt) ∙ length-reverse (range_with_len last (first - last + 1))
           ∙ length_range last (first - last + 1) ∙ omega (arith, lt)
@@ -74,25 +74,26 @@ length_run first last =
 pub push_up : (before items list : List ℕ) (first last channel : ℕ) → channel < last → list ≡ items ++ channel ∷ []
     → items ++ channel_range channel last ≡ before ++ channel_range first last
     → list ++ channel_range (channel + 1) last ≡ before ++ channel_range first last
-push_up before items list first last channel lt e h = rw e (simp append_assoc (ap (λ cs. items ++ cs) (sym (run_up channel last lt)) ∙ h))
+push_up before items list first last channel lt e h =
+    rw e (simp append_assoc (ap (λ cs. items ++ cs) (sym (range_upwards channel last lt)) ∙ h))
 
 pub push_down : (before items list : List ℕ) (first last channel : ℕ) → last < channel → list ≡ items ++ channel ∷ []
     → items ++ channel_range channel last ≡ before ++ channel_range first last
     → list ++ channel_range (channel - 1) last ≡ before ++ channel_range first last
 push_down before items list first last channel lt e h =
-    rw e (simp append_assoc (ap (λ cs. items ++ cs) (sym (run_down channel last lt)) ∙ h))
+    rw e (simp append_assoc (ap (λ cs. items ++ cs) (sym (range_downwards channel last lt)) ∙ h))
 
 -- A list with a range after it is longer by the length of the range.
 pub run_fits : (before : List ℕ) (first last : ℕ)
     → length (before ++ channel_range first last) ≡ length before + (first - last) + (last - first) + 1
-run_fits before first last = let run_size = length_run first last in length-append before (channel_range first last)
+run_fits before first last = let run_size = range_length first last in length-append before (channel_range first last)
     ∙ omega (arith, run_size)
 
 -- An item whose ends were read up to the cap is an item with these ends, up to the cap.
-capped_some : (o : Option Ends) (span : Span) → ends_up_to o ≡ Some span
+capped_item_is_item : (o : Option Ends) (span : Span) → ends_up_to o ≡ Some span
     → (e : Ends) × (o ≡ Some e) × (min e.first 1000000000000000000 ≡ span.first) × (min e.last 1000000000000000000 ≡ span.last)
-capped_some None span h = absurd cc
-capped_some (Some e) span h = (e, refl, cc, cc)
+capped_item_is_item None span h = absurd cc
+capped_item_is_item (Some e) span h = (e, refl, cc, cc)
 
 -- The numbers of channels are below the cap, so a channel's number was read exactly.
 channel_same : (n m : ℕ) → min n 1000000000000000000 ≡ m → is_channel m ≡ true → n ≡ m
@@ -105,12 +106,13 @@ channel_same n m e c =
     second false b h = absurd cc
 
 -- A range is added to the channels before it, or is refused if the list becomes too long.
-pub add_is : (o : Option Ends) (span : Span) (before : List ℕ) (full : Bool) → ends_up_to o ≡ Some span → is_channel span.first ≡ true
+pub item_is_added : (o : Option Ends) (span : Span) (before : List ℕ) (full : Bool) → ends_up_to o ≡ Some span
+    → is_channel span.first ≡ true
     → is_channel span.last ≡ true → nat_lt longest_list (length before + abs_diff span.first span.last + 1) ≡ full
     → (others : List ℕ → Result (List ℕ) Code)
     → next o before others ≡ (if full then Err TooMuchData else others (before ++ channel_range span.first span.last))
-add_is o span before full h first last room others =
-    let some = capped_some o span h in
+item_is_added o span before full h first last room others =
+    let some = capped_item_is_item o span h in
     let f = channel_same some.0.first span.first some.2 first in
     let l = channel_same some.0.last span.last some.3 last in
     let size : length (before ++ channel_range span.first span.last) ≡ length before + abs_diff span.first span.last + 1 =
@@ -118,6 +120,6 @@ add_is o span before full h first last room others =
     rw (some.1, f, l, first, last, size, room) refl
 
 -- An item has at most two parts.
-pub span_more : (a b : List ℕ) (others : List (List ℕ)) → 1 ≤ length others → span_of (a ∷ b ∷ others) ≡ None
-span_more a b [] some = absurd (omega (arith, some))
-span_more a b (c ∷ others) some = refl
+pub span_has_at_most_two_parts : (a b : List ℕ) (others : List (List ℕ)) → 1 ≤ length others → span_of (a ∷ b ∷ others) ≡ None
+span_has_at_most_two_parts a b [] some = absurd (omega (arith, some))
+span_has_at_most_two_parts a b (c ∷ others) some = refl

@@ -9,7 +9,7 @@ use Rattle.std.proofs.lemmas.List.{append_assoc, append-nil}
 use Rattle.sv_text.specs.White.{is_white, trim_start}
 use Rattle.sv_value.specs.Decimal.{Parts, number_parts, is_spelled, begins_well, digits_in, behind_digits, behind_sign, fraction_in, behind_fraction, behind_letter, behind_mark, exponent_in, is_down, behind_exponent, behind_whole, behind_mantissa}
 use Rattle.sv_value.specs.Spelling.{AreDigits, IsSpace, IsSign, IsFraction, IsExponent, NoExponent, IsSuffix, IsTail, Spells, ReadAsSpelled}
-use Rattle.sv_value.proofs.Pieces.{begins, is_sign, is_point, digits_joined, behind_joined, digits_none, behind_none, trim_joined, trim_none, digits_apart, digits_all, trim_apart, sign_joined, sign_apart, fraction_joined, fraction_apart}
+use Rattle.sv_value.proofs.Pieces.{begins, is_sign, is_point, digits_in_append, behind_digits_append, digits_none, behind_none, trim_start_append, trim_none, digits_split, digits_all, trim_start_split, sign_before_text, sign_split, fraction_before_text, fraction_split}
 
 -- Letters, digits and white space are distinct from each other, from signs and from the point.
 letter_plain : (b : ℕ) → is_ascii_alphabetic b ≡ true → (is_white b ≡ false) × (is_ascii_digit b ≡ false) × (is_point b ≡ false)
@@ -36,11 +36,11 @@ sign_plain sign text minus (inr (inl s)) h = rw s.0 refl
 sign_plain sign text minus (inr (inr s)) h = rw s.0 refl
 
 -- The text begins with neither a digit nor a point.
-abbrev IsPlain : List ℕ → Type 0
-IsPlain text = (begins is_ascii_digit text ≡ false) × (begins is_point text ≡ false)
+abbrev BeginsNoNumber : List ℕ → Type 0
+BeginsNoNumber text = (begins is_ascii_digit text ≡ false) × (begins is_point text ≡ false)
 
 -- White space before such a text doesn't change this.
-space_plain : (space text : List ℕ) → IsSpace space → IsPlain text → IsPlain (space ++ text)
+space_plain : (space text : List ℕ) → IsSpace space → BeginsNoNumber text → BeginsNoNumber (space ++ text)
 space_plain [] text all h = h
 space_plain (b ∷ space) text all h = at (is_white b) refl all
   where
@@ -48,27 +48,27 @@ space_plain (b ∷ space) text all h = at (is_white b) refl all
     at true is all = white_plain b is
     at false is all = absurd cc
 
-suffix_plain : (suffix : List ℕ) → begins_well suffix ≡ true → IsPlain suffix × (begins is_white suffix ≡ false)
+suffix_plain : (suffix : List ℕ) → begins_well suffix ≡ true → BeginsNoNumber suffix × (begins is_white suffix ≡ false)
 suffix_plain [] h = ((refl, refl), refl)
 suffix_plain (b ∷ suffix) h = let p = letter_plain b h in ((p.1, p.2), p.0)
 
 -- The suffix is the text after the white space.
-suffix_read : (text suffix : List ℕ) → IsSuffix text suffix → (trim_start text ≡ suffix) × IsPlain text
+suffix_read : (text suffix : List ℕ) → IsSuffix text suffix → (trim_start text ≡ suffix) × BeginsNoNumber text
 suffix_read text suffix s =
     let p = suffix_plain suffix s.3 in
-    rw s.1 (trim_joined s.0 suffix s.2 ∙ trim_none suffix p.1, space_plain s.0 suffix s.2 p.0)
+    rw s.1 (trim_start_append s.0 suffix s.2 ∙ trim_none suffix p.1, space_plain s.0 suffix s.2 p.0)
 
 suffix_spelled : (text : List ℕ) → begins_well (trim_start text) ≡ true → IsSuffix text (trim_start text)
-suffix_spelled text h = let a = trim_apart text in (a.0, a.1, a.2, h)
+suffix_spelled text h = let a = trim_start_split text in (a.0, a.1, a.2, h)
 
 -- White space around an exponent's letter is skipped.
 mark_joined : (before behind text : List ℕ) (letter : ℕ) → IsSpace before → (letter ≡ 69) ⊎ (letter ≡ 101) → IsSpace behind
     → begins is_white text ≡ false
     → behind_mark (before ++ letter ∷ (behind ++ text)) ≡ text
 mark_joined before behind text letter b (inl l) h plain =
-    rw l (ap behind_letter (trim_joined before (69 ∷ (behind ++ text)) b) ∙ trim_joined behind text h ∙ trim_none text plain)
+    rw l (ap behind_letter (trim_start_append before (69 ∷ (behind ++ text)) b) ∙ trim_start_append behind text h ∙ trim_none text plain)
 mark_joined before behind text letter b (inr l) h plain =
-    rw l (ap behind_letter (trim_joined before (101 ∷ (behind ++ text)) b) ∙ trim_joined behind text h ∙ trim_none text plain)
+    rw l (ap behind_letter (trim_start_append before (101 ∷ (behind ++ text)) b) ∙ trim_start_append behind text h ∙ trim_none text plain)
 
 joined : (before behind sign digits text : List ℕ) (letter : ℕ)
     → (before ++ letter ∷ (behind ++ (sign ++ digits))) ++ text ≡ before ++ letter ∷ (behind ++ (sign ++ (digits ++ text)))
@@ -87,17 +87,17 @@ exponent_joined piece digits text minus e =
     let mark : behind_mark (piece ++ text) ≡ e.2 ++ (digits ++ text) =
     ap behind_mark whole ∙ mark_joined e.0 e.1 (e.2 ++ (digits ++ text)) e.3 e.5 e.6 e.7
     (sign_plain e.2 (digits ++ text) minus e.8 some.0) in
-    let signed = sign_joined e.2 (digits ++ text) minus e.8 some.1 in (
-      ap (λ xs. digits_in (behind_sign xs)) mark ∙ ap digits_in signed.1 ∙ digits_joined digits text e.9,
+    let signed = sign_before_text e.2 (digits ++ text) minus e.8 some.1 in (
+      ap (λ xs. digits_in (behind_sign xs)) mark ∙ ap digits_in signed.1 ∙ digits_in_append digits text e.9,
       ap has_minus mark ∙ signed.0,
-      ap (λ xs. behind_digits (behind_sign xs)) mark ∙ ap behind_digits signed.1 ∙ behind_joined digits text e.9,
+      ap (λ xs. behind_digits (behind_sign xs)) mark ∙ ap behind_digits signed.1 ∙ behind_digits_append digits text e.9,
     )
 
 -- An E begins the exponent, and white space may follow it.
-marked : (text : List ℕ) → is_empty (digits_in (behind_sign (behind_letter text))) ≡ false
+exponent_letter : (text : List ℕ) → is_empty (digits_in (behind_sign (behind_letter text))) ≡ false
     → (letter : ℕ) × (space : List ℕ) × (text ≡ letter ∷ (space ++ behind_letter text)) × ((letter ≡ 69) ⊎ (letter ≡ 101)) × IsSpace space
-marked [] h = absurd cc
-marked (b ∷ text) h = at (b == 69) (b == 101) refl refl h (trim_apart text)
+exponent_letter [] h = absurd cc
+exponent_letter (b ∷ text) h = at (b == 69) (b == 101) refl refl h (trim_start_split text)
   where
     at : (e f : Bool) → (b == 69) ≡ e → (b == 101) ≡ f → is_empty (digits_in (behind_sign (cond (e || f) (trim_start text) []))) ≡ false
         → ((space : List ℕ) × (text ≡ space ++ trim_start text) × IsSpace space)
@@ -111,10 +111,10 @@ marked (b ∷ text) h = at (b == 69) (b == 101) refl refl h (trim_apart text)
 exponent_apart : (text : List ℕ) → is_empty (exponent_in text) ≡ false
     → (piece : List ℕ) × (text ≡ piece ++ behind_exponent text) × IsExponent piece (is_down text) (exponent_in text)
 exponent_apart text some =
-    let a = trim_apart text in
-    let m = marked (trim_start text) some in
-    let s = sign_apart (behind_mark text) in
-    let d = digits_apart (behind_sign (behind_mark text)) in
+    let a = trim_start_split text in
+    let m = exponent_letter (trim_start text) some in
+    let s = sign_split (behind_mark text) in
+    let d = digits_split (behind_sign (behind_mark text)) in
     let rest = behind_digits (behind_sign (behind_mark text)) in
     let whole : text ≡ a.0 ++ m.0 ∷ (m.1 ++ (s.0 ++ (exponent_in text ++ rest))) =
     a.1 ∙ ap (λ xs. a.0 ++ xs) (m.2 ∙ ap (λ xs. m.0 ∷ (m.1 ++ xs)) (s.1 ∙ ap (λ xs. s.0 ++ xs) d)) in
@@ -135,10 +135,10 @@ none_there (x ∷ xs) h = absurd cc
 -- The exponent and the suffix that are read after the mantissa are those of the number.
 abbrev IsRead : List ℕ → Parts → Type 0
 IsRead tail number = (is_down tail ≡ number.down) × (exponent_in tail ≡ number.exponent)
-    × (trim_start (behind_exponent tail) ≡ number.suffix) × (begins_well number.suffix ≡ true) × IsPlain tail
+    × (trim_start (behind_exponent tail) ≡ number.suffix) × (begins_well number.suffix ≡ true) × BeginsNoNumber tail
 
 -- An exponent begins with neither a digit nor a point.
-exponent_plain : (piece digits text : List ℕ) (minus : Bool) → IsExponent piece minus digits → IsPlain (piece ++ text)
+exponent_plain : (piece digits text : List ℕ) (minus : Bool) → IsExponent piece minus digits → BeginsNoNumber (piece ++ text)
 exponent_plain piece digits text minus e =
     rw (e.4, joined e.0 e.1 e.2 digits text e.3) (space_plain e.0 (e.3 ∷ (e.1 ++ (e.2 ++ (digits ++ text)))) e.5 (letter e.6))
   where
@@ -146,8 +146,8 @@ exponent_plain piece digits text minus e =
     letter (inl l) = rw l (refl, refl)
     letter (inr l) = rw l (refl, refl)
 
-tail_read : (tail : List ℕ) (number : Parts) → IsTail tail number → IsRead tail number
-tail_read tail number (inl h) =
+spelled_tail_is_read : (tail : List ℕ) (number : Parts) → IsTail tail number → IsRead tail number
+spelled_tail_is_read tail number (inl h) =
     let r = suffix_read h.1 number.suffix h.4 in
     let j = exponent_joined h.0 number.exponent h.1 number.down h.3 in
     let digits : exponent_in (h.0 ++ h.1) ≡ number.exponent =
@@ -160,7 +160,7 @@ tail_read tail number (inl h) =
       h.4.3,
       exponent_plain h.0 number.exponent h.1 number.down h.3,
     )
-tail_read tail number (inr h) = at (is_empty (exponent_in tail)) refl
+spelled_tail_is_read tail number (inr h) = at (is_empty (exponent_in tail)) refl
   where
     at : (t : Bool) → is_empty (exponent_in tail) ≡ t → IsRead tail number
     at true is = let r = suffix_read tail number.suffix h.3 in
@@ -172,10 +172,10 @@ front_empty [] behind some e = some refl
 front_empty (b ∷ front) behind some e = absurd cc
 
 -- The exponent and the suffix that are read after the mantissa are spelled there.
-tail_spelled : (tail : List ℕ) (number : Parts) → is_down tail ≡ number.down → exponent_in tail ≡ number.exponent
+read_tail_is_spelled : (tail : List ℕ) (number : Parts) → is_down tail ≡ number.down → exponent_in tail ≡ number.exponent
     → trim_start (behind_exponent tail) ≡ number.suffix → begins_well number.suffix ≡ true
     → IsTail tail number
-tail_spelled tail number d x s w = at (is_empty (exponent_in tail)) refl
+read_tail_is_spelled tail number d x s w = at (is_empty (exponent_in tail)) refl
   where
     at : (t : Bool) → is_empty (exponent_in tail) ≡ t → IsTail tail number
     at false is =
@@ -226,17 +226,17 @@ spelled_read : (text : List ℕ) (number : Parts) → Spells text number → (is
     × (number_parts text ≡ number)
 spelled_read text number s =
     let (sign, fraction, tail, e, isSign, isWhole, isFraction, some, isTail) = s in
-    let t = tail_read tail number isTail in
-    let signed = sign_joined sign (number.whole ++ (fraction ++ tail)) number.negative isSign
+    let t = spelled_tail_is_read tail number isTail in
+    let signed = sign_before_text sign (number.whole ++ (fraction ++ tail)) number.negative isSign
     (mantissa_plain number.whole fraction number.fraction tail isWhole isFraction some) in
     let plain = fraction_plain fraction number.fraction tail isFraction t.4.0 in
     let behind : behind_sign text ≡ number.whole ++ (fraction ++ tail) = ap behind_sign e ∙ signed.1 in
     let whole : digits_in (behind_sign text) ≡ number.whole =
-    ap digits_in behind ∙ digits_joined number.whole (fraction ++ tail) isWhole
+    ap digits_in behind ∙ digits_in_append number.whole (fraction ++ tail) isWhole
     ∙ ap (λ xs. number.whole ++ xs) (digits_none (fraction ++ tail) plain) ∙ append-nil number.whole in
     let mantissa : behind_whole text ≡ fraction ++ tail =
-    ap behind_digits behind ∙ behind_joined number.whole (fraction ++ tail) isWhole ∙ behind_none (fraction ++ tail) plain in
-    let f = fraction_joined fraction number.fraction tail isFraction t.4.0 t.4.1 in
+    ap behind_digits behind ∙ behind_digits_append number.whole (fraction ++ tail) isWhole ∙ behind_none (fraction ++ tail) plain in
+    let f = fraction_before_text fraction number.fraction tail isFraction t.4.0 t.4.1 in
     let rest : behind_mantissa text ≡ tail = ap behind_fraction mantissa ∙ f.1 in
     let same : number_parts text ≡ number = same_parts number _ _ _ _ _ _ (ap has_minus e ∙ signed.0) whole (ap fraction_in mantissa ∙ f.0)
     (ap is_down rest ∙ t.0) (ap exponent_in rest ∙ t.1)
@@ -248,9 +248,9 @@ spelled_read text number s =
 read_spelled : (text : List ℕ) → is_spelled (number_parts text) ≡ true → Spells text (number_parts text)
 read_spelled text h =
     let b = and_parts _ _ h in
-    let s = sign_apart text in
-    let d = digits_apart (behind_sign text) in
-    let f = fraction_apart (behind_whole text) in (
+    let s = sign_split text in
+    let d = digits_split (behind_sign text) in
+    let f = fraction_split (behind_whole text) in (
       s.0,
       f.0,
       behind_mantissa text,
@@ -259,7 +259,7 @@ read_spelled text h =
       digits_all (behind_sign text),
       f.2,
       there_digits (number_parts text).whole (number_parts text).fraction b.0,
-      tail_spelled (behind_mantissa text) (number_parts text) refl refl refl b.1,
+      read_tail_is_spelled (behind_mantissa text) (number_parts text) refl refl refl b.1,
     )
 
 pub spelled : ReadAsSpelled

@@ -9,7 +9,7 @@ use Rattle.sv_vxi.specs.declared.arguments.GenericCall.TheVariants.{Readstb, Tri
 use Rattle.sv_vxi.specs.Arguments.{LinkCall, DeviceAbort, DeviceWrite, DeviceRead, Generic, DeviceLock, DeviceUnlock, DeviceEnableSrq, DeviceDocmd, DestroyLink, Arguments, CreateLink, OnLink, CreateIntrChan, DestroyIntrChan, procedure_of, call_fields, argument_fields, InBounds, BeginsWith, core_calls, abort_calls, is_one_of, ArgumentsAre}
 use Rattle.sv_vxi.specs.Limits.{max_handle}
 use Rattle.sv_vxi.specs.Reading.{Kind, signed, unsigned, boolean, opaque, any, Makes, read, read_on_link, arguments_at}
-use Rattle.sv_vxi.proofs.Spelled.{Values, fields, make, Bounded, text_bound, read_begins, read_takes, on_link_begins, on_link_takes}
+use Rattle.sv_vxi.proofs.Spelled.{Values, fields, make, Bounded, opaque_length_bound, encoded_fields_are_read, read_takes, encoded_link_call_is_read, on_link_takes}
 
 infixr 10 ◌&◌
 abbrev ◌&◌ : {A B : Type 0} → A → B → A × B
@@ -44,51 +44,61 @@ generic_begins : (call : GenericCall) (lid : ℤ) (flags lock_timeout io_timeout
     → BeginsAll bytes (argument_fields (OnLink lid (Generic call flags lock_timeout io_timeout))) after
     → read_on_link generic (Generic call) bytes ≡ Ok (OnLink lid (Generic call flags lock_timeout io_timeout))
 generic_begins call lid flags lock_timeout io_timeout bytes after h =
-    on_link_begins generic (Generic call) lid (flags & lock_timeout & io_timeout & tt) bytes after tt h
+    encoded_link_call_is_read generic (Generic call) lid (flags & lock_timeout & io_timeout & tt) bytes after tt h
 
 -- Encoded arguments are read.
-pub arguments_begin : (a : Arguments) (bytes after : List ℕ) → BeginsWith bytes a after → arguments_at (procedure_of a) bytes ≡ Ok a
-arguments_begin (OnLink lid DeviceAbort) bytes after (bounds, h) = on_link_begins [] DeviceAbort lid tt bytes after tt h
-arguments_begin (CreateLink client_id lock_device lock_timeout device) bytes after (bounds, h) =
-    read_begins create_link CreateLink (client_id & lock_device & lock_timeout & device & tt) bytes after (text_bound _ h.2.2.2.1, tt) h
-arguments_begin (OnLink lid (DeviceWrite io_timeout lock_timeout flags text)) bytes after (bounds, h) =
-    on_link_begins device_write DeviceWrite lid (io_timeout & lock_timeout & flags & text & tt) bytes after (text_bound _ h.2.2.2.2.1, tt) h
-arguments_begin (OnLink lid (DeviceRead request_size io_timeout lock_timeout flags term_char)) bytes after (bounds, h) =
-    on_link_begins device_read DeviceRead lid (request_size & io_timeout & lock_timeout & flags & term_char & tt) bytes after tt h
-arguments_begin (OnLink lid (Generic Readstb flags lock io)) bytes after (bounds, h) =
+pub encoded_arguments_are_read : (a : Arguments) (bytes after : List ℕ) → BeginsWith bytes a after
+    → arguments_at (procedure_of a) bytes ≡ Ok a
+encoded_arguments_are_read (OnLink lid DeviceAbort) bytes after (bounds, h) =
+    encoded_link_call_is_read [] DeviceAbort lid tt bytes after tt h
+encoded_arguments_are_read (CreateLink client_id lock_device lock_timeout device) bytes after (bounds, h) =
+    encoded_fields_are_read create_link CreateLink (client_id & lock_device & lock_timeout & device & tt) bytes after
+        (opaque_length_bound _ h.2.2.2.1, tt) h
+encoded_arguments_are_read (OnLink lid (DeviceWrite io_timeout lock_timeout flags text)) bytes after (bounds, h) =
+    encoded_link_call_is_read device_write DeviceWrite lid (io_timeout & lock_timeout & flags & text & tt) bytes after
+        (opaque_length_bound _ h.2.2.2.2.1, tt) h
+encoded_arguments_are_read (OnLink lid (DeviceRead request_size io_timeout lock_timeout flags term_char)) bytes after (bounds, h) =
+    encoded_link_call_is_read device_read DeviceRead lid (request_size & io_timeout & lock_timeout & flags & term_char & tt) bytes after tt
+        h
+encoded_arguments_are_read (OnLink lid (Generic Readstb flags lock io)) bytes after (bounds, h) =
     generic_begins Readstb lid flags lock io bytes after h
-arguments_begin (OnLink lid (Generic Trigger flags lock io)) bytes after (bounds, h) =
+encoded_arguments_are_read (OnLink lid (Generic Trigger flags lock io)) bytes after (bounds, h) =
     generic_begins Trigger lid flags lock io bytes after h
-arguments_begin (OnLink lid (Generic Clear flags lock io)) bytes after (bounds, h) =
+encoded_arguments_are_read (OnLink lid (Generic Clear flags lock io)) bytes after (bounds, h) =
     generic_begins Clear lid flags lock io bytes after h
-arguments_begin (OnLink lid (Generic Remote flags lock io)) bytes after (bounds, h) =
+encoded_arguments_are_read (OnLink lid (Generic Remote flags lock io)) bytes after (bounds, h) =
     generic_begins Remote lid flags lock io bytes after h
-arguments_begin (OnLink lid (Generic Local flags lock io)) bytes after (bounds, h) =
+encoded_arguments_are_read (OnLink lid (Generic Local flags lock io)) bytes after (bounds, h) =
     generic_begins Local lid flags lock io bytes after h
-arguments_begin (OnLink lid (DeviceLock flags lock_timeout)) bytes after (bounds, h) =
-    on_link_begins device_lock DeviceLock lid (flags & lock_timeout & tt) bytes after tt h
-arguments_begin (OnLink lid DeviceUnlock) bytes after (bounds, h) = on_link_begins [] DeviceUnlock lid tt bytes after tt h
-arguments_begin (OnLink lid (DeviceEnableSrq enable handle)) bytes after (bounds, h) =
-    on_link_begins enable_srq DeviceEnableSrq lid (enable & handle & tt) bytes after (bounds, tt) h
-arguments_begin (OnLink lid (DeviceDocmd flags io_timeout lock_timeout cmd network_order datasize text)) bytes after (bounds, h) =
-    on_link_begins device_docmd DeviceDocmd lid (flags & io_timeout & lock_timeout & cmd & network_order & datasize & text & tt) bytes after
-    (text_bound _ h.2.2.2.2.2.2.2.1, tt) h
-arguments_begin (OnLink lid DestroyLink) bytes after (bounds, h) = on_link_begins [] DestroyLink lid tt bytes after tt h
-arguments_begin (CreateIntrChan host_addr host_port prog_num prog_vers prog_family) bytes after (bounds, h) =
-    read_begins create_intr_chan CreateIntrChan (host_addr & host_port & prog_num & prog_vers & prog_family & tt) bytes after tt h
-arguments_begin DestroyIntrChan bytes after h = refl
+encoded_arguments_are_read (OnLink lid (DeviceLock flags lock_timeout)) bytes after (bounds, h) =
+    encoded_link_call_is_read device_lock DeviceLock lid (flags & lock_timeout & tt) bytes after tt h
+encoded_arguments_are_read (OnLink lid DeviceUnlock) bytes after (bounds, h) =
+    encoded_link_call_is_read [] DeviceUnlock lid tt bytes after tt h
+encoded_arguments_are_read (OnLink lid (DeviceEnableSrq enable handle)) bytes after (bounds, h) =
+    encoded_link_call_is_read enable_srq DeviceEnableSrq lid (enable & handle & tt) bytes after (bounds, tt) h
+encoded_arguments_are_read (OnLink lid (DeviceDocmd flags io_timeout lock_timeout cmd network_order datasize text)) bytes after
+    (bounds, h) =
+    encoded_link_call_is_read device_docmd DeviceDocmd lid (flags & io_timeout & lock_timeout & cmd & network_order & datasize & text & tt)
+        bytes after
+    (opaque_length_bound _ h.2.2.2.2.2.2.2.1, tt) h
+encoded_arguments_are_read (OnLink lid DestroyLink) bytes after (bounds, h) =
+    encoded_link_call_is_read [] DestroyLink lid tt bytes after tt h
+encoded_arguments_are_read (CreateIntrChan host_addr host_port prog_num prog_vers prog_family) bytes after (bounds, h) =
+    encoded_fields_are_read create_intr_chan CreateIntrChan (host_addr & host_port & prog_num & prog_vers & prog_family & tt) bytes after tt
+        h
+encoded_arguments_are_read DestroyIntrChan bytes after h = refl
 
 -- What the bytes are as arguments is what is read from them.
 pub arguments_read : (proc : ℕ) (bytes : List ℕ) (a : Arguments) → ArgumentsAre proc bytes (Ok a) → arguments_at proc bytes ≡ Ok a
-arguments_read proc bytes a h = ap (λ (n : ℕ). arguments_at n bytes) (sym h.0) ∙ arguments_begin a bytes h.1 h.2
+arguments_read proc bytes a h = ap (λ (n : ℕ). arguments_at n bytes) (sym h.0) ∙ encoded_arguments_are_read a bytes h.1 h.2
 
 -- The same bytes have only one meaning as a call's arguments.
-pub one_arguments : (proc : ℕ) (bytes : List ℕ) (a b : Result Arguments Garbage) → ArgumentsAre proc bytes a → ArgumentsAre proc bytes b
+pub arguments_unique : (proc : ℕ) (bytes : List ℕ) (a b : Result Arguments Garbage) → ArgumentsAre proc bytes a → ArgumentsAre proc bytes b
     → a ≡ b
-one_arguments proc bytes (Ok a) (Ok b) h k = sym (arguments_read proc bytes a h) ∙ arguments_read proc bytes b k
-one_arguments proc bytes (Ok a) (Err garbage) h k = absurd (k a h.1 h.0 h.2)
-one_arguments proc bytes (Err garbage) (Ok b) h k = absurd (h b k.1 k.0 k.2)
-one_arguments proc bytes (Err garbage) (Err other) h k = refl
+arguments_unique proc bytes (Ok a) (Ok b) h k = sym (arguments_read proc bytes a h) ∙ arguments_read proc bytes b k
+arguments_unique proc bytes (Ok a) (Err garbage) h k = absurd (k a h.1 h.0 h.2)
+arguments_unique proc bytes (Err garbage) (Ok b) h k = absurd (h b k.1 k.0 k.2)
+arguments_unique proc bytes (Err garbage) (Err other) h k = refl
 
 -- Arguments of this call that are read are encoded there.
 abbrev Takes : ℕ → (List ℕ → Result Arguments Garbage) → Type 0

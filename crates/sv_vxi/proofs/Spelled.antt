@@ -6,7 +6,7 @@ use Rattle.sv_xdr.specs.declared.garbage.Garbage.{Garbage}
 use Rattle.sv_xdr.specs.Garbage.{◌>>=◌}
 use Rattle.sv_xdr.specs.Spelling.{Field, Unsigned, Signed, Boolean, Opaque, Begins, BeginsAll}
 use Rattle.sv_xdr.specs.Reader.{unsigned_at, signed_at, boolean_at, opaque_at}
-use Rattle.sv_xdr.proofs.Fields.{IsBytes, bytes_after, unsigned_begins, signed_begins, boolean_begins, opaque_again, word_fits, unsigned_takes, signed_takes, boolean_takes, opaque_at_takes}
+use Rattle.sv_xdr.proofs.Fields.{IsBytes, bytes_after, unsigned_reads, signed_reads, boolean_reads, opaque_reads, word_fits, unsigned_takes, signed_takes, boolean_takes, opaque_at_takes}
 use Rattle.std.specs.Result.{result_map_both}
 use Rattle.sv_vxi.specs.Arguments.{LinkCall, Arguments, OnLink}
 use Rattle.sv_vxi.specs.Reading.{Kind, signed, unsigned, boolean, opaque, Makes, read, read_on_link}
@@ -41,21 +41,21 @@ Bounded (unsigned ∷ kinds) values = Bounded kinds values.1
 Bounded (boolean ∷ kinds) values = Bounded kinds values.1
 Bounded (opaque most ∷ kinds) values = (length values.0 ≤ most) × Bounded kinds values.1
 
-pub text_bound : {bytes after : List ℕ} (text : List ℕ) → Begins bytes (Opaque text) after → length text ≤ 4294967295
-text_bound {bytes} {after} text b = omega (arith, word_fits b.1.0 (length text) b.1.2)
+pub opaque_length_bound : {bytes after : List ℕ} (text : List ℕ) → Begins bytes (Opaque text) after → length text ≤ 4294967295
+opaque_length_bound {bytes} {after} text b = omega (arith, word_fits b.1.0 (length text) b.1.2)
 
 -- Encoded fields are read.
-pub read_begins : {A : Type 0} (kinds : List Kind) (makes : Makes kinds A) (values : Values kinds) (bytes after : List ℕ)
+pub encoded_fields_are_read : {A : Type 0} (kinds : List Kind) (makes : Makes kinds A) (values : Values kinds) (bytes after : List ℕ)
     → Bounded kinds values → BeginsAll bytes (fields kinds values) after → read kinds makes bytes ≡ Ok (make kinds makes values)
-read_begins [] makes values bytes after bounds h = refl
-read_begins (signed ∷ kinds) makes values bytes after bounds h =
-    rw (signed_begins _ _ _ h.1) (read_begins kinds (makes values.0) values.1 h.0 after bounds h.2)
-read_begins (unsigned ∷ kinds) makes values bytes after bounds h =
-    rw (unsigned_begins _ _ _ h.1) (read_begins kinds (makes values.0) values.1 h.0 after bounds h.2)
-read_begins (boolean ∷ kinds) makes values bytes after bounds h =
-    rw (boolean_begins _ _ _ h.1) (read_begins kinds (makes values.0) values.1 h.0 after bounds h.2)
-read_begins (opaque most ∷ kinds) makes values bytes after bounds h =
-    rw (opaque_again most _ _ _ h.1 bounds.0) (read_begins kinds (makes values.0) values.1 h.0 after bounds.1 h.2)
+encoded_fields_are_read [] makes values bytes after bounds h = refl
+encoded_fields_are_read (signed ∷ kinds) makes values bytes after bounds h =
+    rw (signed_reads _ _ _ h.1) (encoded_fields_are_read kinds (makes values.0) values.1 h.0 after bounds h.2)
+encoded_fields_are_read (unsigned ∷ kinds) makes values bytes after bounds h =
+    rw (unsigned_reads _ _ _ h.1) (encoded_fields_are_read kinds (makes values.0) values.1 h.0 after bounds h.2)
+encoded_fields_are_read (boolean ∷ kinds) makes values bytes after bounds h =
+    rw (boolean_reads _ _ _ h.1) (encoded_fields_are_read kinds (makes values.0) values.1 h.0 after bounds h.2)
+encoded_fields_are_read (opaque most ∷ kinds) makes values bytes after bounds h =
+    rw (opaque_reads most _ _ _ h.1 bounds.0) (encoded_fields_are_read kinds (makes values.0) values.1 h.0 after bounds.1 h.2)
 
 bind_ok : {A B : Type 0} (r : Result A XdrFault) (f : A → Result B Garbage) (b : B) → (r >>= f) ≡ Ok b
     → (x : A) × (r ≡ Ok x) × (f x ≡ Ok b)
@@ -93,11 +93,11 @@ read_takes (opaque most ∷ kinds) makes bytes a fits e =
 
 -- ---- calls on a link
 
-pub on_link_begins : (kinds : List Kind) (makes : Makes kinds LinkCall) (lid : ℤ) (values : Values kinds) (bytes after : List ℕ)
+pub encoded_link_call_is_read : (kinds : List Kind) (makes : Makes kinds LinkCall) (lid : ℤ) (values : Values kinds) (bytes after : List ℕ)
     → Bounded kinds values → BeginsAll bytes (Signed lid ∷ fields kinds values) after
     → read_on_link kinds makes bytes ≡ Ok (OnLink lid (make kinds makes values))
-on_link_begins kinds makes lid values bytes after bounds h =
-    rw (signed_begins _ _ _ h.1, read_begins kinds makes values h.0 after bounds h.2) refl
+encoded_link_call_is_read kinds makes lid values bytes after bounds h =
+    rw (signed_reads _ _ _ h.1, encoded_fields_are_read kinds makes values h.0 after bounds h.2) refl
 
 map_ok : (lid : ℤ) (r : Result LinkCall Garbage) (a : Arguments) → result_map_both (OnLink lid) (λ garbage. garbage) r ≡ Ok a
     → (call : LinkCall) × (r ≡ Ok call) × (a ≡ OnLink lid call)

@@ -39,10 +39,11 @@ opaque_appended size text n old one two new size_is n_is first second third =
     rw (size_is, pad_is) at all
 
 -- If a piece has no room, the writing stops there.
-pub each_ends : (piece : List ℕ) (pieces : List (List ℕ)) (fault : XdrFault) (r : Result Unit XdrFault) (old new : Writer) → r ≡ Err fault
+pub each_stops_at_fault : (piece : List ℕ) (pieces : List (List ℕ)) (fault : XdrFault) (r : Result Unit XdrFault) (old new : Writer)
+    → r ≡ Err fault
     → Writes piece (Err fault) old new
     → WritesEach (piece ∷ pieces) r old new
-each_ends piece pieces fault r old new e h =
+each_stops_at_fault piece pieces fault r old new e h =
     let nothing : Appends [] old new = record {
       text = h.2.text ∙ sym (append-nil (text_of old));
       rest = sym h.2.rest;
@@ -60,7 +61,7 @@ each_first piece pieces (Err fault) old mid new first h =
 
 pub each_last : (piece : List ℕ) (r : Result Unit XdrFault) (old new : Writer) → Writes piece r old new → WritesEach (piece ∷ []) r old new
 each_last piece (Ok done) old new h = rw append-nil h
-each_last piece (Err fault) old new h = each_ends piece [] fault (Err fault) old new refl h
+each_last piece (Err fault) old new h = each_stops_at_fault piece [] fault (Err fault) old new refl h
 
 -- For functions that write their fields one by one.
-pub ruleset each_piece = (each_ends, each_first, each_last)
+pub ruleset each_piece = (each_stops_at_fault, each_first, each_last)

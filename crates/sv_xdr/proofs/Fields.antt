@@ -77,9 +77,9 @@ padded_takes n bytes text after e =
     )
 
 -- Encoded data with their padding are read.
-pub padded_again : (text pad after : List ℕ) → IsPad (length text) pad → padded_at (length text) (text ++ (pad ++ after)) ≡ Ok (text, after)
+pub padded_reads : (text pad after : List ℕ) → IsPad (length text) pad → padded_at (length text) (text ++ (pad ++ after)) ≡ Ok (text, after)
 unfolding padded_at
-padded_again text pad after h =
+padded_reads text pad after h =
     let size : length pad ≡ pad_len (length text) = pad_len_unique (length text) (length pad) h.0 h.1 in
     let long : length text + pad_len (length text) ≤ length (text ++ (pad ++ after)) =
     omega (arith, length-append text (pad ++ after), length-append pad after) in
@@ -98,24 +98,24 @@ padded_again text pad after h =
       take_at text (pad ++ after) (length text) refl,
     ) refl
 
-pub unsigned_again : (front after : List ℕ) (n : ℕ) → IsWord front n → unsigned_at (front ++ after) ≡ Ok (n, after)
-unsigned_again (a ∷ b ∷ c ∷ d ∷ []) after n h =
+pub unsigned_word_reads : (front after : List ℕ) (n : ℕ) → IsWord front n → unsigned_at (front ++ after) ≡ Ok (n, after)
+unsigned_word_reads (a ∷ b ∷ c ∷ d ∷ []) after n h =
     let value : from_be_bytes w32 (a ∷ b ∷ c ∷ d ∷ []) ≡ n = omega (arith, h.4) in
     let long : 4 ≤ length (a ∷ b ∷ c ∷ d ∷ after) = omega arith in
     rw (le-ltb (length (a ∷ b ∷ c ∷ d ∷ after)) 4 long) (ap (λ (k : ℕ). let r : Result (ℕ × List ℕ) XdrFault = Ok (k, after) in r) value)
-unsigned_again _ after n h = absurd h
+unsigned_word_reads _ after n h = absurd h
 
 -- The encoding of opaque data is read as these data.
-pub opaque_again : (max : ℕ) (bytes text after : List ℕ) → Begins bytes (Opaque text) after → length text ≤ max
+pub opaque_reads : (max : ℕ) (bytes text after : List ℕ) → Begins bytes (Opaque text) after → length text ≤ max
     → opaque_at max bytes ≡ Ok (text, after)
 unfolding opaque_at
-opaque_again max bytes text after b le =
+opaque_reads max bytes text after b le =
     let size = b.1.0 in
     let pad = b.1.1 in
     let regrouped : bytes ≡ size ++ (text ++ (pad ++ after)) = b.2 ∙ ap (λ (x : List ℕ). x ++ after) b.1.4 ∙ simp append_assoc in
     let first : unsigned_at bytes ≡ Ok (length text, text ++ (pad ++ after)) =
-    ap unsigned_at regrouped ∙ unsigned_again size (text ++ (pad ++ after)) (length text) b.1.2 in
-    rw (first, le-ltb max (length text) le) (padded_again text pad after b.1.3)
+    ap unsigned_at regrouped ∙ unsigned_word_reads size (text ++ (pad ++ after)) (length text) b.1.2 in
+    rw (first, le-ltb max (length text) le) (padded_reads text pad after b.1.3)
 
 -- Opaque data that are read are encoded there.
 pub opaque_takes : (bytes size rest text after : List ℕ) (n max : ℕ) → bytes ≡ size ++ rest → IsWord size n → n ≤ max
@@ -128,16 +128,17 @@ opaque_takes bytes size rest text after n max front word le e =
     ((size ++ (text ++ pad), (size, pad, rw t.2 word, rw t.2 t.1, refl), parts), rw t.2 le)
 
 -- If the length isn't above the maximum, the bytes after it decide what is read.
-pub opaque_one : (max n : ℕ) (bytes rest text after : List ℕ) (r : Result (List ℕ × List ℕ) XdrFault) → unsigned_at bytes ≡ Ok (n, rest)
+pub opaque_length_decides : (max n : ℕ) (bytes rest text after : List ℕ) (r : Result (List ℕ × List ℕ) XdrFault)
+    → unsigned_at bytes ≡ Ok (n, rest)
     → n ≤ max → padded_at n rest ≡ r
     → Begins bytes (Opaque text) after → length text ≤ max → r ≡ Ok (text, after)
 unfolding opaque_at
-opaque_one max n bytes rest text after r first le second b short =
+opaque_length_decides max n bytes rest text after r first le second b short =
     let reads : opaque_at max bytes ≡ padded_at n rest = rw (first, le-ltb max n le) refl in
-    sym second ∙ sym reads ∙ opaque_again max bytes text after b short
+    sym second ∙ sym reads ∙ opaque_reads max bytes text after b short
 
-pub pair_parts : {A B : Type 0} (x y : A) (v w : B) → (let r : Result (A × B) XdrFault = Ok (x, v) in r) ≡ Ok (y, w) → (x ≡ y) × (v ≡ w)
-pair_parts {A} {B} x y v w e = (ap (λ (p : A × B). p.0) (ok_pair (x, v) (y, w) e), ap (λ (p : A × B). p.1) (ok_pair (x, v) (y, w) e))
+pub ok_pair_parts : {A B : Type 0} (x y : A) (v w : B) → (let r : Result (A × B) XdrFault = Ok (x, v) in r) ≡ Ok (y, w) → (x ≡ y) × (v ≡ w)
+ok_pair_parts {A} {B} x y v w e = (ap (λ (p : A × B). p.0) (ok_pair (x, v) (y, w) e), ap (λ (p : A × B). p.1) (ok_pair (x, v) (y, w) e))
 
 -- All elements are bytes.
 abbrev pub IsBytes : List ℕ → Type 0
@@ -155,13 +156,13 @@ bytes_after field bytes after fits b = λ i.
     let e = ap (λ (l : List ℕ). get_or l (length b.0 + i) 0) b.2 ∙ get_or-append-add b.0 after i 0 in
     omega (arith, fits (length b.0 + i), e)
 
-pub unsigned_begins : (bytes after : List ℕ) (n : ℕ) → Begins bytes (Unsigned n) after → unsigned_at bytes ≡ Ok (n, after)
-unsigned_begins bytes after n b = ap unsigned_at b.2 ∙ unsigned_again b.0 after n b.1
+pub unsigned_reads : (bytes after : List ℕ) (n : ℕ) → Begins bytes (Unsigned n) after → unsigned_at bytes ≡ Ok (n, after)
+unsigned_reads bytes after n b = ap unsigned_at b.2 ∙ unsigned_word_reads b.0 after n b.1
 
 pub unsigned_takes : (bytes after : List ℕ) (n : ℕ) → IsBytes bytes → unsigned_at bytes ≡ Ok (n, after) → Begins bytes (Unsigned n) after
 unsigned_takes (a ∷ b ∷ c ∷ d ∷ rest) after n fits e =
     let long = guard_ok (ltb (length (a ∷ b ∷ c ∷ d ∷ rest)) 4) Short _ (n, after) e in
-    let parts = pair_parts (from_be_bytes w32 (a ∷ b ∷ c ∷ d ∷ [])) n rest after long.1 in
+    let parts = ok_pair_parts (from_be_bytes w32 (a ∷ b ∷ c ∷ d ∷ [])) n rest after long.1 in
     (a ∷ b ∷ c ∷ d ∷ [], (fits 0, fits 1, fits 2, fits 3, omega (arith, parts.0)), ap (λ (l : List ℕ). a ∷ b ∷ c ∷ d ∷ l) parts.1)
 unsigned_takes _ after n fits e = absurd cc
 
@@ -195,23 +196,23 @@ signed_is : (n : ℕ) (z : ℤ) → IsTwosComplement n z → cast_signed w32 n �
 signed_is n (pos k) h = omega (arith, ints)
 signed_is n (negsuc k) h = grind (arith, ints)
 
-pub signed_begins : (bytes after : List ℕ) (z : ℤ) → Begins bytes (Signed z) after → signed_at bytes ≡ Ok (z, after)
+pub signed_reads : (bytes after : List ℕ) (z : ℤ) → Begins bytes (Signed z) after → signed_at bytes ≡ Ok (z, after)
 unfolding signed_at
-signed_begins bytes after z b = rw (unsigned_begins bytes after b.1.0 (b.0, b.1.1, b.2), signed_is b.1.0 z b.1.2) refl
+signed_reads bytes after z b = rw (unsigned_reads bytes after b.1.0 (b.0, b.1.1, b.2), signed_is b.1.0 z b.1.2) refl
 
 pub signed_takes : (bytes after : List ℕ) (z : ℤ) → IsBytes bytes → signed_at bytes ≡ Ok (z, after) → Begins bytes (Signed z) after
 unfolding signed_at
 signed_takes bytes after z fits e =
     let word = bind_ok (unsigned_at bytes) (λ n. Ok (cast_signed w32 n.0, n.1)) (z, after) e in
     let n = word.0.0 in
-    let parts = pair_parts (cast_signed w32 n) z word.0.1 after word.2 in
+    let parts = ok_pair_parts (cast_signed w32 n) z word.0.1 after word.2 in
     let b = unsigned_takes bytes word.0.1 n fits word.1 in
     (b.0, (n, b.1, subst (IsTwosComplement n) parts.0 (signed_of n (word_fits b.0 n b.1))), b.2 ∙ ap (λ (l : List ℕ). b.0 ++ l) parts.1)
 
-pub boolean_begins : (bytes after : List ℕ) (value : Bool) → Begins bytes (Boolean value) after → boolean_at bytes ≡ Ok (value, after)
+pub boolean_reads : (bytes after : List ℕ) (value : Bool) → Begins bytes (Boolean value) after → boolean_at bytes ≡ Ok (value, after)
 unfolding boolean_at
-boolean_begins bytes after false b = rw (unsigned_begins bytes after 0 b) refl
-boolean_begins bytes after true b = rw (unsigned_begins bytes after 1 b) refl
+boolean_reads bytes after false b = rw (unsigned_reads bytes after 0 b) refl
+boolean_reads bytes after true b = rw (unsigned_reads bytes after 1 b) refl
 
 -- A boolean is encoded as 0 or 1.
 truth_of : (n : ℕ) (rest after : List ℕ) (value : Bool)

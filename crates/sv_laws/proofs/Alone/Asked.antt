@@ -17,22 +17,22 @@ use Rattle.sv_history.specs.Effect.{result_reply}
 use Rattle.sv_history.specs.PolledStatus.{IsPolled}
 use Rattle.sv_history.specs.Settling.{SettlesIn, Settles}
 use Rattle.sv_history.specs.History.{own_acts, IsLogOf}
-use Rattle.sv_history.proofs.Projections.{of_mine}
+use Rattle.sv_history.proofs.Projections.{of_own_act}
 use Rattle.sv_laws.specs.QueryAlone.{IsAtRest, AsksAlone, reported, NoneReported, write_reply, read_reply, IsAnswered, QueryAlone}
-use Rattle.sv_laws.proofs.OneLog.{one_log, one_end}
-use Rattle.sv_laws.proofs.EveryLog.Steps.{stays}
-use Rattle.sv_laws.proofs.Cuts.Written.{wrote}
+use Rattle.sv_laws.proofs.OneLog.{one_log, settling_has_one_end}
+use Rattle.sv_laws.proofs.EveryLog.Steps.{settled_log_stays}
+use Rattle.sv_laws.proofs.Cuts.Written.{log_with_write}
 use Rattle.sv_laws.proofs.Cuts.FirstPart.{Resting}
-use Rattle.sv_laws.proofs.Alone.Texts.{Left, Over, nothing_due, unended_is, over_rests}
-use Rattle.sv_laws.proofs.Alone.Steps.{stands_over, stage_settled}
+use Rattle.sv_laws.proofs.Alone.Texts.{Left, Over, nothing_due, unended_if_one_left, over_zero_is_at_rest}
+use Rattle.sv_laws.proofs.Alone.Steps.{plain_act_keeps_standard, stage_settled}
 use Rattle.sv_laws.proofs.Alone.Written.{Ready, Responds, responds}
-use Rattle.sv_laws.proofs.Alone.Turns.{IsFree, turn_writes, whole, is_read, turn_reads}
+use Rattle.sv_laws.proofs.Alone.Turns.{IsFree, turn_writes, whole, log_after_read, turn_reads}
 use Rattle.sv_links.specs.Waiting.{waits}
 use Rattle.sv_laws.specs.Adding.{all_replies}
-use Rattle.sv_laws.proofs.EveryLog.EachEvent.{idle_free, fit_log}
+use Rattle.sv_laws.proofs.EveryLog.EachEvent.{next_call_means_none_suspended, fit_log}
 use Rattle.sv_laws.proofs.Alone.Heard.{quiet_heard}
-use Rattle.sv_laws.proofs.Alone.Unbegun.{rests}
-use Rattle.sv_laws.proofs.Alone.Quiet.{Same, same_start, quiet_same, earlier_log, at_rest_now}
+use Rattle.sv_laws.proofs.Alone.Unbegun.{all_executed_is_at_rest}
+use Rattle.sv_laws.proofs.Alone.Quiet.{Same, same_start, quiet_same, earlier_log, resting_if_answerable}
 
 -- ---- a Turn
 
@@ -43,9 +43,9 @@ pub record Turns (c : ℕ) (config : Config) (start log : List Act) : Type 0 whe
   pub said : IsPolled polled (device_acts start)
   pub settles : Settles config (own_acts config polled (Turn c) start ++ start) log
 
-pub turns : (c : ℕ) (config : Config) (past : List PlainEvent) (start log : List Act) → IsLogOf config past start
+pub turn_leads_to : (c : ℕ) (config : Config) (past : List PlainEvent) (start log : List Act) → IsLogOf config past start
     → IsLogOf config (Turn c ∷ past) log → Turns c config start log
-turns c config past start log was is_log =
+turn_leads_to c config past start log was is_log =
     let same = one_log config past is_log.0 start is_log.4 was in
     record {
       polled = is_log.1;
@@ -53,9 +53,9 @@ turns c config past start log was is_log =
       settles = subst (λ (l : List Act). Settles config (own_acts config is_log.1 (Turn c) l ++ l) log) same is_log.8;
     }
 
-pub answerable_free : (acts : List InstrumentAct) → held_unit acts ≡ None → has_ended (exchange_acts acts) ≡ false
+pub idle_exchange_is_answerable : (acts : List InstrumentAct) → held_unit acts ≡ None → has_ended (exchange_acts acts) ≡ false
     → is_answerable acts ≡ true
-answerable_free acts held unended = rw (held, unended) (or_true (is_something (response (exchange_acts acts))))
+idle_exchange_is_answerable acts held unended = rw (held, unended) (or_true (is_something (response (exchange_acts acts))))
   where
     or_true : (b : Bool) → (b || true) ≡ true
     or_true true = refl
@@ -63,8 +63,8 @@ answerable_free acts held unended = rw (held, unended) (or_true (is_something (r
 
 pub told : (c : ℕ) (act : InstrumentAct) (call reply : List ℕ) (log : List Act)
     → of c (On c (Replied reply) ∷ OnDevice (Applied act) ∷ On c (CallTaken call) ∷ log) ≡ Replied reply ∷ CallTaken call ∷ of c log
-told c act call reply log = of_mine c (Replied reply) (OnDevice (Applied act) ∷ On c (CallTaken call) ∷ log)
-    ∙ ap (λ (l : List ConnAct). Replied reply ∷ l) (of_mine c (CallTaken call) log)
+told c act call reply log = of_own_act c (Replied reply) (OnDevice (Applied act) ∷ On c (CallTaken call) ∷ log)
+    ∙ ap (λ (l : List ConnAct). Replied reply ∷ l) (of_own_act c (CallTaken call) log)
 
 module _ (c lid : ℕ) (asked : Question) (sent answer : List ℕ) (most : ℕ) (config : Config) (past between : List PlainEvent)
     (start before log : List Act) (rest : IsAtRest (exchange_acts (instrument_acts (device_acts start))))
@@ -79,10 +79,10 @@ module _ (c lid : ℕ) (asked : Question) (sent answer : List ℕ) (most : ℕ) 
   -- ---- the write
 
   at_rest : Left ([] ∷ []) (exchange_acts base) × (held_unit base ≡ None)
-  at_rest = rests config past start asks.writes.was rest.text_left
+  at_rest = all_executed_is_at_rest config past start asks.writes.was rest.text_left
 
   unended : has_ended (exchange_acts base) ≡ false
-  unended = unended_is [] (exchange_acts base) at_rest.0
+  unended = unended_if_one_left [] (exchange_acts base) at_rest.0
 
   ready : Ready asked sent answer base
   ready = let fits = asks.fits.1 in record {
@@ -103,13 +103,14 @@ module _ (c lid : ℕ) (asked : Question) (sent answer : List ℕ) (most : ℕ) 
   wrote_reply = write_reply asks.writes.call.xid sent
 
   first : Turns c config start written.0
-  first = turns c config past start written.0 asks.writes.was written.1
+  first = turn_leads_to c config past start written.0 asks.writes.was written.1
 
   resting : Resting config start
-  resting = at_rest_now config past start first.polled asks.writes.was unended (answerable_free base at_rest.1 unended) first.said
+  resting = resting_if_answerable config past start first.polled asks.writes.was unended
+      (idle_exchange_is_answerable base at_rest.1 unended) first.said
 
   abbrev wrote_now : List Act
-  wrote_now = wrote c asks.writes.call.bytes wrote_reply sent true start
+  wrote_now = log_with_write c asks.writes.call.bytes wrote_reply sent true start
 
   responding : Responds c config asked answer start wrote_now base
   responding = responds c config asked sent answer start wrote_now base resting ready
@@ -124,7 +125,7 @@ module _ (c lid : ℕ) (asked : Question) (sent answer : List ℕ) (most : ℕ) 
       asks.writes.call free asks.writes.short
       unended asks.writes.ends in
       let there = subst (λ (l : List Act). Settles config l written.0) own first.settles in
-      one_end there.0 responding.steps config wrote_now written.0 responding.end there.1 responding.settles
+      settling_has_one_end there.0 responding.steps config wrote_now written.0 responding.end there.1 responding.settles
 
   written_told : of c written.0 ≡ Replied wrote_reply ∷ CallTaken asks.writes.call.bytes ∷ of c start
   written_told = ap (of c) written_is ∙ responding.mine ∙ told c (Exchanged (Accepted sent true)) asks.writes.call.bytes wrote_reply start
@@ -145,7 +146,7 @@ module _ (c lid : ℕ) (asked : Question) (sent answer : List ℕ) (most : ℕ) 
   started = same_start config (Turn c ∷ past) written.0 written.1 (ap held_unit last_is ∙ responding.held)
 
   none_due : due (exchange_acts (instrument_acts (device_acts written.0))) ≡ NothingDue
-  none_due = nothing_due _ (over_rests bytes _ over_written)
+  none_due = nothing_due _ (over_zero_is_at_rest bytes _ over_written)
 
   same : Same (exchange_acts (instrument_acts (device_acts written.0))) (link_acts (device_acts written.0))
       (reported (instrument_acts (device_acts written.0))) before
@@ -153,7 +154,7 @@ module _ (c lid : ℕ) (asked : Question) (sent answer : List ℕ) (most : ℕ) 
 
   no_call : waits c (wait_acts (device_acts written.0)) ≡ None
   no_call = ap (λ (l : List Act). waits c (wait_acts (device_acts l))) written_is ∙ ap (waits c) responding.stage.calm.calls
-      ∙ idle_free c start asks.writes.call.bytes (fit_log config past start asks.writes.was) asks.writes.call.next
+      ∙ next_call_means_none_suspended c start asks.writes.call.bytes (fit_log config past start asks.writes.was) asks.writes.call.next
 
   replies_same : all_replies (of c before) ≡ all_replies (of c written.0)
   replies_same = (quiet_heard config _ _ _ none_due c (all_replies (of c written.0)) (Turn c ∷ past) between written.0 before written.1
@@ -169,26 +170,27 @@ module _ (c lid : ℕ) (asked : Question) (sent answer : List ℕ) (most : ℕ) 
   held = same.held
 
   left_now : Left ([] ∷ []) (exchange_acts now)
-  left_now = over_rests bytes (exchange_acts now) over
+  left_now = over_zero_is_at_rest bytes (exchange_acts now) over
 
   -- ---- the read
 
   second : Turns c config before log
-  second = turns c config (between ++ Turn c ∷ past) before log asks.reads.went_on is_log
+  second = turn_leads_to c config (between ++ Turn c ∷ past) before log asks.reads.went_on is_log
 
   abbrev reply : List ℕ
   reply = result_reply asks.reads.call.xid (whole most (term_of asks.reads.flags asks.reads.term_char) answer)
 
   abbrev read_now : List Act
-  read_now = is_read c asks.reads.call.bytes reply (length bytes) before
+  read_now = log_after_read c asks.reads.call.bytes reply (length bytes) before
 
   abbrev last : List InstrumentAct
   last = Exchanged (ResponseRead (length bytes)) ∷ now
 
   resting_now : Resting config before
   resting_now =
-      let none = unended_is [] (exchange_acts now) left_now in
-      at_rest_now config (between ++ Turn c ∷ past) before second.polled asks.reads.went_on none (answerable_free now held none) second.said
+      let none = unended_if_one_left [] (exchange_acts now) left_now in
+      resting_if_answerable config (between ++ Turn c ∷ past) before second.polled asks.reads.went_on none
+          (idle_exchange_is_answerable now held none) second.said
 
   read_settled : (n : ℕ) → SettlesIn n config read_now log → log ≡ read_now
   read_settled n settles =
@@ -200,7 +202,7 @@ module _ (c lid : ℕ) (asked : Question) (sent answer : List ℕ) (most : ℕ) 
         dropped = left_now.dropped;
         given = left_now.given;
       } in
-      stays n config read_now log (stage_settled config before read_now last resting_now
+      settled_log_stays n config read_now log (stage_settled config before read_now last resting_now
       (record { calm = record { links = refl; calls = refl; clock = refl; scans = refl }; is = refl }) held
       (nothing_due (exchange_acts last) left)) settles
 
@@ -243,7 +245,7 @@ module _ (c lid : ℕ) (asked : Question) (sent answer : List ℕ) (most : ℕ) 
     read_reports = subst (λ (l : List InstrumentAct). NoneReported asked now l) (sym new_is) (record {
       none = refl;
       errors = λ other. refl;
-      standard = λ other k. stands_over k (Exchanged (ResponseRead (length bytes))) now tt;
+      standard = λ other k. plain_act_keeps_standard k (Exchanged (ResponseRead (length bytes))) now tt;
     });
   }
 

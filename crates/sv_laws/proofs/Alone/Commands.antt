@@ -32,55 +32,56 @@ use Rattle.sv_history.specs.Effect.{acts_of}
 use Rattle.sv_history.specs.Resuming.{failure_effect, late}
 use Rattle.sv_history.specs.Settling.{InstrumentDoes, IsNext, SettlesIn, Settles}
 use Rattle.sv_history.specs.History.{IsLogOf}
-use Rattle.sv_history.proofs.OneStep.{next_once}
-use Rattle.sv_history.proofs.Projections.{device_shared, link_acts_happened, wait_acts_happened, instrument_acts_happened}
+use Rattle.sv_history.proofs.OneStep.{next_step_unique}
+use Rattle.sv_history.proofs.Projections.{device_acts_append, link_acts_applied, wait_acts_applied, instrument_acts_applied}
 use Rattle.sv_laws.specs.QueryAlone.{IsAtRest, Writes, write_reply, is_command, is_query_error, query_errors}
 use Rattle.sv_laws.proofs.NoneLate.{none_late}
-use Rattle.sv_laws.proofs.EveryLog.Steps.{Rested, log_settled, rested}
-use Rattle.sv_laws.proofs.EveryLog.EachEvent.{each_settled}
-use Rattle.sv_laws.proofs.Cuts.Written.{wrote}
-use Rattle.sv_laws.proofs.Cuts.FirstPart.{Resting, there_same}
-use Rattle.sv_laws.proofs.Alone.Texts.{Left, text_comes, first_short, unit_due, unended_is, done_due, done_left, done_none, left_due, left_finished, none_finished, nothing_due}
+use Rattle.sv_laws.proofs.EveryLog.Steps.{Rested, log_settled, settled_is_rested}
+use Rattle.sv_laws.proofs.EveryLog.EachEvent.{settling_keeps}
+use Rattle.sv_laws.proofs.Cuts.Written.{log_with_write}
+use Rattle.sv_laws.proofs.Cuts.FirstPart.{Resting, is_there_same_unless_device}
+use Rattle.sv_laws.proofs.Alone.Texts.{Left, write_with_end_is_left, first_short, unit_due, unended_if_one_left, done_due, done_left, done_none, left_due, left_finished, finishing_shows_none, nothing_due}
 use Rattle.sv_laws.proofs.Alone.Steps.{happened, step_next, finish_step}
-use Rattle.sv_laws.proofs.Alone.Written.{accepted, at_root}
+use Rattle.sv_laws.proofs.Alone.Written.{accepted, first_unit_is_at_root}
 use Rattle.sv_laws.proofs.Alone.Turns.{IsFree, turn_writes}
-use Rattle.sv_laws.proofs.Alone.Quiet.{left_able, at_rest_now}
-use Rattle.sv_laws.proofs.Alone.Unbegun.{rests}
-use Rattle.sv_laws.proofs.Alone.Asked.{Turns, turns, answerable_free}
+use Rattle.sv_laws.proofs.Alone.Quiet.{able_after_leaving_was_able, resting_if_answerable}
+use Rattle.sv_laws.proofs.Alone.Unbegun.{all_executed_is_at_rest}
+use Rattle.sv_laws.proofs.Alone.Asked.{Turns, turn_leads_to, idle_exchange_is_answerable}
 use Rattle.sv_laws.proofs.Alone.Phases.{inside}
-use Rattle.sv_laws.proofs.Alone.Moves.{happened_one, finishes, rests_now}
+use Rattle.sv_laws.proofs.Alone.Moves.{happened_by_result, step_finishes_message, no_step_while_nothing_due}
 
 -- ---- the unit
 
 -- The unit of the command is done in the second log, and no unit is held. No query error was
 -- reported since the first log.
-abbrev IsDone : List InstrumentAct → List InstrumentAct → Type 0
-IsDone log new = (exchange_acts new ≡ UnitDone ∷ exchange_acts log) × (held_unit new ≡ None) × (query_errors new ≡ query_errors log)
+abbrev UnitIsDone : List InstrumentAct → List InstrumentAct → Type 0
+UnitIsDone log new = (exchange_acts new ≡ UnitDone ∷ exchange_acts log) × (held_unit new ≡ None) × (query_errors new ≡ query_errors log)
 
 -- The order can be performed after this log, and then its unit is done (`IsDone`).
 abbrev Performed : Order → List InstrumentAct → Type 0
-Performed command log = (adds : List InstrumentAct) × Performs command log (adds ++ log) × IsDone log (adds ++ log)
+Performed command log = (adds : List InstrumentAct) × Performs command log (adds ++ log) × UnitIsDone log (adds ++ log)
 
-other_error : (code given : Code) → is_query_error given ≡ false → Some given ≡ Some code → is_query_error code ≡ false
-other_error code given is e = let same : given ≡ code = cc in subst (λ (c : Code). is_query_error c ≡ false) same is
+fault_is_no_query_error : (code given : Code) → is_query_error given ≡ false → Some given ≡ Some code → is_query_error code ≡ false
+fault_is_no_query_error code given is e = let same : given ≡ code = cc in subst (λ (c : Code). is_query_error c ≡ false) same is
 
-no_trigger : (b : Bool) (code : Code) → cond b None (Some TriggerIgnored) ≡ Some code → is_query_error code ≡ false
-no_trigger true code e = absurd cc
-no_trigger false code e = other_error code TriggerIgnored refl e
+trigger_fault_is_no_query_error : (b : Bool) (code : Code) → cond b None (Some TriggerIgnored) ≡ Some code → is_query_error code ≡ false
+trigger_fault_is_no_query_error true code e = absurd cc
+trigger_fault_is_no_query_error false code e = fault_is_no_query_error code TriggerIgnored refl e
 
-no_init : (b : Bool) (code : Code) → cond b None (Some InitIgnored) ≡ Some code → is_query_error code ≡ false
-no_init true code e = absurd cc
-no_init false code e = other_error code InitIgnored refl e
+init_fault_is_no_query_error : (b : Bool) (code : Code) → cond b None (Some InitIgnored) ≡ Some code → is_query_error code ≡ false
+init_fault_is_no_query_error true code e = absurd cc
+init_fault_is_no_query_error false code e = fault_is_no_query_error code InitIgnored refl e
 
-no_setting : (a b : Bool) (code : Code) → cond a (Some DataOutOfRange) (cond b (Some SettingsConflict) None) ≡ Some code
+setting_fault_is_no_query_error : (a b : Bool) (code : Code) → cond a (Some DataOutOfRange) (cond b (Some SettingsConflict) None) ≡ Some
+    code
     → is_query_error code ≡ false
-no_setting true b code e = other_error code DataOutOfRange refl e
-no_setting false true code e = other_error code SettingsConflict refl e
-no_setting false false code e = absurd cc
+setting_fault_is_no_query_error true b code e = fault_is_no_query_error code DataOutOfRange refl e
+setting_fault_is_no_query_error false true code e = fault_is_no_query_error code SettingsConflict refl e
+setting_fault_is_no_query_error false false code e = absurd cc
 
 scans_unless : (fault : Option Code) (act : ScanAct) (log : List InstrumentAct)
     → ((code : Code) → fault ≡ Some code → is_query_error code ≡ false)
-    → (adds : List InstrumentAct) × (adds ++ log ≡ unless fault (done (Scanned act ∷ log)) log) × IsDone log (adds ++ log)
+    → (adds : List InstrumentAct) × (adds ++ log ≡ unless fault (done (Scanned act ∷ log)) log) × UnitIsDone log (adds ++ log)
 scans_unless None act log never = (Exchanged UnitDone ∷ Scanned act ∷ [], refl, (refl, refl, refl))
 scans_unless (Some code) act log never = (Exchanged UnitDone ∷ Reported code ∷ [], refl, (refl, refl, rw (never code refl) refl))
 
@@ -89,14 +90,15 @@ performed (order.Do action.ClearStatus) log is = (Exchanged UnitDone ∷ Cleared
 performed (order.Do action.Reset) log is = (Exchanged UnitDone ∷ Scanned scan.Reset ∷ [], refl, (refl, refl, refl))
 performed (order.Do action.TellComplete) log is = (Exchanged UnitDone ∷ OpcAsked ∷ [], refl, (refl, refl, refl))
 performed (order.Do action.Trigger) log is =
-    scans_unless (trigger_fault (effective_acts log) Bus) (scan.Trigger Bus) log (λ code. no_trigger _ code)
+    scans_unless (trigger_fault (effective_acts log) Bus) (scan.Trigger Bus) log (λ code. trigger_fault_is_no_query_error _ code)
 performed (order.Do action.Preset) log is = (Exchanged UnitDone ∷ Preset ∷ [], refl, (refl, refl, refl))
-performed (order.Do action.Initiate) log is = scans_unless (init_fault (effective_acts log)) scan.Init log (λ code. no_init _ code)
+performed (order.Do action.Initiate) log is = scans_unless (init_fault (effective_acts log)) scan.Init log
+    (λ code. init_fault_is_no_query_error _ code)
 performed (order.Do action.Abort) log is = (Exchanged UnitDone ∷ Scanned scan.Abort ∷ [], refl, (refl, refl, refl))
 performed (order.Do _) log is = absurd cc
 performed (order.Apply change) log is = (Exchanged UnitDone ∷ StatusChanged change ∷ [], refl, (refl, refl, refl))
 performed (order.Set given) log is =
-    scans_unless (setting_fault (effective_acts log) given) (scan.Configure given) log (λ code. no_setting _ _ code)
+    scans_unless (setting_fault (effective_acts log) given) (scan.Configure given) log (λ code. setting_fault_is_no_query_error _ _ code)
 performed (order.Configure None) log is = (
   Exchanged UnitDone ∷ Scanned (scan.Configure (setting.Count 1)) ∷ Scanned (scan.Configure (setting.Source Immediate))
       ∷ Scanned (scan.Configure (setting.Range (pos 10000000))) ∷ Scanned scan.Abort ∷ [],
@@ -115,8 +117,8 @@ performed _ log is = absurd cc
 -- ---- the phases
 
 -- No suspended call can resume, whether or not the device accepts a write or answers a read.
-abbrev Nobody : List LinkAct → List WaitAct → Type 0
-Nobody links calls = (d : ℕ) (writes reads : Bool) → IsAble (holder links) writes reads calls d → ⊥
+abbrev NobodyCanResume : List LinkAct → List WaitAct → Type 0
+NobodyCanResume links calls = (d : ℕ) (writes reads : Bool) → IsAble (holder links) writes reads calls d → ⊥
 
 module _ (config : Config) (lines : ℕ) (message unit : List ℕ) (links : List LinkAct) (errors : List Code)
     (short : length message ≤ max_message) (one : units message ≡ unit ∷ []) where
@@ -133,11 +135,12 @@ module _ (config : Config) (lines : ℕ) (message unit : List ℕ) (links : List
     state : State log
     held : held_unit (inside log) ≡ None
     linked : link_acts (device_acts log) ≡ links
-    nobody : Nobody links (wait_acts (device_acts log))
+    nobody : NobodyCanResume links (wait_acts (device_acts log))
     codes : query_errors (inside log) ≡ errors
 
-  left_nobody : (d : ℕ) (calls : List WaitAct) → Nobody links calls → Nobody links (LeftCall d ∷ calls)
-  left_nobody d calls nobody e writes reads able = nobody e writes reads (left_able (holder links) writes reads d e calls able)
+  left_nobody : (d : ℕ) (calls : List WaitAct) → NobodyCanResume links calls → NobodyCanResume links (LeftCall d ∷ calls)
+  left_nobody d calls nobody e writes reads able = nobody e writes reads
+      (able_after_leaving_was_able (holder links) writes reads d e calls able)
 
   state_moved : (log new : List Act) → exchange_acts (inside new) ≡ exchange_acts (inside log) → State log → State new
   state_moved log new same (Did acts is left none) = Did acts (same ∙ is) left none
@@ -178,19 +181,20 @@ module _ (config : Config) (lines : ℕ) (message unit : List ℕ) (links : List
   stepped : (log new : List Act) → Phase log → State log → InstrumentDoes IsStep log new → Phase new
   stepped log new p (Did acts is left none) step =
       let finish = ap due is ∙ done_due message [] unit (replicate lines []) acts left short one in
-      subst Phase (sym (finishes log new p.held finish step)) (finished_phase log p (Ended lines
+      subst Phase (sym (step_finishes_message log new p.held finish step)) (finished_phase log p (Ended lines
       (subst (λ (l : List ExchangeAct). Left ([] ∷ replicate lines []) (Finished ∷ l)) (sym is) (done_left lines message acts left))
       (ap (λ (l : List ExchangeAct). response (Finished ∷ l)) is ∙ done_none parts acts left none)))
   stepped log new p (Ended (suc k) left none) step =
-      subst Phase (sym (finishes log new p.held (left_due k (exchange_acts (inside log)) left) step)) (finished_phase log p (Ended k
+      subst Phase (sym (step_finishes_message log new p.held (left_due k (exchange_acts (inside log)) left) step))
+          (finished_phase log p (Ended k
       (left_finished k (exchange_acts (inside log)) left)
-      (none_finished ([] ∷ [] ∷ replicate k []) (exchange_acts (inside log)) left none)))
+      (finishing_shows_none ([] ∷ [] ∷ replicate k []) (exchange_acts (inside log)) left none)))
   stepped log new p (Ended zero left none) step =
-      absurd (rests_now log new p.held (nothing_due (exchange_acts (inside log)) left) step)
+      absurd (no_step_while_nothing_due log new p.held (nothing_due (exchange_acts (inside log)) left) step)
 
   next_phase : (log new : List Act) → Phase log → IsNext config log new → Phase new
   next_phase log new p (inl (adds, such, is)) =
-      subst Phase (sym (happened_one adds (Scanned (scan.Trigger Immediate) ∷ []) log new is such.1))
+      subst Phase (sym (happened_by_result adds (Scanned (scan.Trigger Immediate) ∷ []) log new is such.1))
       (scanned_phase (scan.Trigger Immediate) log p)
   next_phase log new p (inr (none, inl (d, wait, polled, oldest, for, said, is))) =
       absurd (p.nobody d (not (has_ended (exchange_acts (inside log)))) (is_answerable (inside log))
@@ -238,25 +242,26 @@ module _ (c lid : ℕ) (command : Order) (sent : List ℕ) (config : Config) (pa
       writes.query_sent.one
 
   at_rest : Left ([] ∷ []) (exchange_acts base) × (held_unit base ≡ None)
-  at_rest = rests config past start writes.was rest.text_left
+  at_rest = all_executed_is_at_rest config past start writes.was rest.text_left
 
   unended : has_ended (exchange_acts base) ≡ false
-  unended = unended_is [] (exchange_acts base) at_rest.0
+  unended = unended_if_one_left [] (exchange_acts base) at_rest.0
 
   turn : Turns c config start log
-  turn = turns c config past start log writes.was is_log
+  turn = turn_leads_to c config past start log writes.was is_log
 
   resting : Resting config start
-  resting = at_rest_now config past start turn.polled writes.was unended (answerable_free base at_rest.1 unended) turn.said
+  resting = resting_if_answerable config past start turn.polled writes.was unended (idle_exchange_is_answerable base at_rest.1 unended)
+      turn.said
 
   abbrev now : List InstrumentAct
   now = accepted sent base
 
   abbrev wrote_now : List Act
-  wrote_now = wrote c writes.call.bytes (write_reply writes.call.xid sent) sent true start
+  wrote_now = log_with_write c writes.call.bytes (write_reply writes.call.xid sent) sent true start
 
   left_now : Left (message ∷ [] ∷ replicate lines []) (exchange_acts now)
-  left_now = text_comes sent ([] ∷ replicate lines []) message (exchange_acts base) at_rest.0 writes.query_sent.cut
+  left_now = write_with_end_is_left sent ([] ∷ replicate lines []) message (exchange_acts base) at_rest.0 writes.query_sent.cut
 
   does : Performed command now
   does = performed command now is
@@ -268,7 +273,7 @@ module _ (c lid : ℕ) (command : Order) (sent : List ℕ) (config : Config) (pa
   unit_step = step_of now (adds ++ now) None (UnitDue writes.query_sent.unit) (sym at_rest.1)
       (sym (unit_due message [] writes.query_sent.unit (replicate lines []) (exchange_acts now) left_now message_short
       writes.query_sent.one rest.none_left))
-      ([], writes.query_sent.path, Ok command, at_root now left_now.done at_rest.1, writes.query_sent.reads, does.1)
+      ([], writes.query_sent.path, Ok command, first_unit_is_at_root now left_now.done at_rest.1, writes.query_sent.reads, does.1)
 
   abbrev did_now : List Act
   did_now = happened adds wrote_now
@@ -277,30 +282,31 @@ module _ (c lid : ℕ) (command : Order) (sent : List ℕ) (config : Config) (pa
   next = step_next config start wrote_now adds now resting
       (record { calm = record { links = refl; calls = refl; clock = refl; scans = refl }; is = refl }) unit_step
 
-  nobody_start : Nobody (link_acts (device_acts start)) (wait_acts (device_acts start))
+  nobody_start : NobodyCanResume (link_acts (device_acts start)) (wait_acts (device_acts start))
   nobody_start d writing reading able =
-      (none_late config past start d writes.was).1 (sym (there_same (holder (link_acts (device_acts start)))
+      (none_late config past start d writes.was).1 (sym (is_there_same_unless_device (holder (link_acts (device_acts start)))
       (link d (wait_acts (device_acts start))) (waits d (wait_acts (device_acts start))) writing reading
       (not (has_ended (exchange_acts base))) (is_answerable base) (resting.none d).0 (resting.none d).1) ∙ able)
 
   inside_is : inside did_now ≡ adds ++ now
-  inside_is = ap instrument_acts (device_shared (map Applied adds) wrote_now) ∙ instrument_acts_happened adds (device_acts wrote_now)
+  inside_is = ap instrument_acts (device_acts_append (map Applied adds) wrote_now) ∙ instrument_acts_applied adds (device_acts wrote_now)
 
   phase_did : IsPhase did_now
   phase_did = record {
     state = Did (exchange_acts now) (ap exchange_acts inside_is ∙ does.2.0) left_now rest.none_left;
     held = ap held_unit inside_is ∙ does.2.1;
-    linked = ap link_acts (device_shared (map Applied adds) wrote_now) ∙ link_acts_happened adds (device_acts wrote_now);
-    nobody = subst (Nobody (link_acts (device_acts start)))
-        (sym (ap wait_acts (device_shared (map Applied adds) wrote_now) ∙ wait_acts_happened adds (device_acts wrote_now))) nobody_start;
+    linked = ap link_acts (device_acts_append (map Applied adds) wrote_now) ∙ link_acts_applied adds (device_acts wrote_now);
+    nobody = subst (NobodyCanResume (link_acts (device_acts start)))
+        (sym (ap wait_acts (device_acts_append (map Applied adds) wrote_now) ∙ wait_acts_applied adds (device_acts wrote_now)))
+            nobody_start;
     codes = ap query_errors inside_is ∙ does.2.2;
   }
 
   phase_settled : (n : ℕ) → SettlesIn n config wrote_now log → IsPhase log
   phase_settled zero settles = absurd (settles.0 did_now next)
   phase_settled (suc n) (middle, step, more) =
-      each_settled config IsPhase (next_phase _ _ _ _ _ _ _ _) n middle log
-      (subst IsPhase (sym (next_once config wrote_now middle did_now step next)) phase_did) more
+      settling_keeps config IsPhase (next_phase _ _ _ _ _ _ _ _) n middle log
+      (subst IsPhase (sym (next_step_unique config wrote_now middle did_now step next)) phase_did) more
 
   phase_log : IsPhase log
   phase_log =
@@ -313,7 +319,7 @@ module _ (c lid : ℕ) (command : Order) (sent : List ℕ) (config : Config) (pa
   pub command_alone : IsAtRest (exchange_acts (instrument_acts (device_acts log)))
       × (query_errors (instrument_acts (device_acts log)) ≡ query_errors (instrument_acts (device_acts start)))
   command_alone = (
-    rests_at_end _ _ _ _ _ _ _ _ log (rested config log (log_settled config (Turn c ∷ past) log is_log)) phase_log
+    rests_at_end _ _ _ _ _ _ _ _ log (settled_is_rested config log (log_settled config (Turn c ∷ past) log is_log)) phase_log
         phase_log.state,
     phase_log.codes,
   )

@@ -25,24 +25,24 @@ use Rattle.sv_history.specs.Effect.{acts_of}
 use Rattle.sv_history.specs.Resuming.{failure_effect, late}
 use Rattle.sv_history.specs.Settling.{IsNext}
 use Rattle.sv_history.specs.History.{own_acts, IsLogOf}
-use Rattle.sv_history.proofs.Projections.{of_shared, device_shared, others_effect, wait_acts_happened}
+use Rattle.sv_history.proofs.Projections.{of_device_acts, device_acts_append, of_others_effect, wait_acts_applied}
 use Rattle.sv_laws.specs.Adding.{all_replies}
 use Rattle.sv_laws.specs.QueryAlone.{IsQuiet}
 use Rattle.sv_laws.proofs.OneLog.{one_log}
-use Rattle.sv_laws.proofs.EveryLog.EachEvent.{each_settled}
-use Rattle.sv_laws.proofs.Alone.Quiet.{Same, able_is, step_same, event_same}
+use Rattle.sv_laws.proofs.EveryLog.EachEvent.{settling_keeps}
+use Rattle.sv_laws.proofs.Alone.Quiet.{Same, can_resume_unfolds, step_same, event_same}
 
 -- Connection `c` has no suspended call, and `replies` are all bytes of the replies on it.
-abbrev pub Heard : ℕ → List ℕ → List Act → Type 0
-Heard c replies log = (waits c (wait_acts (device_acts log)) ≡ None) × (all_replies (of c log) ≡ replies)
+abbrev pub IdleWithReplies : ℕ → List ℕ → List Act → Type 0
+IdleWithReplies c replies log = (waits c (wait_acts (device_acts log)) ≡ None) × (all_replies (of c log) ≡ replies)
 
 -- The act is one of a connection, and isn't a reply.
 abbrev IsSilent : ConnAct → Type 0
 IsSilent act = (acts : List ConnAct) → all_replies (act ∷ acts) ≡ all_replies acts
 
-on_heard : (c d : ℕ) (act : ConnAct) (replies : List ℕ) (log : List Act) → IsSilent act → Heard c replies log
-    → Heard c replies (On d act ∷ log)
-on_heard c d act replies log silent h = (
+silent_act_keeps_replies : (c d : ℕ) (act : ConnAct) (replies : List ℕ) (log : List Act) → IsSilent act → IdleWithReplies c replies log
+    → IdleWithReplies c replies (On d act ∷ log)
+silent_act_keeps_replies c d act replies log silent h = (
   h.0,
   elim (cases_Bool (d == c)) [
     | inl e ↦ rw e (silent (of c log) ∙ h.1)
@@ -50,70 +50,71 @@ on_heard c d act replies log silent h = (
   ],
 )
 
-happened_heard : (c : ℕ) (adds : List InstrumentAct) (replies : List ℕ) (log : List Act) → Heard c replies log
-    → Heard c replies (map OnDevice (map Applied adds) ++ log)
-happened_heard c adds replies log h = (
-  ap (λ (l : List DeviceAct). waits c (wait_acts l)) (device_shared (map Applied adds) log)
-      ∙ ap (waits c) (wait_acts_happened adds (device_acts log)) ∙ h.0,
-  ap all_replies (of_shared c (map Applied adds) log) ∙ h.1,
+instrument_keeps_replies : (c : ℕ) (adds : List InstrumentAct) (replies : List ℕ) (log : List Act) → IdleWithReplies c replies log
+    → IdleWithReplies c replies (map OnDevice (map Applied adds) ++ log)
+instrument_keeps_replies c adds replies log h = (
+  ap (λ (l : List DeviceAct). waits c (wait_acts l)) (device_acts_append (map Applied adds) log)
+      ∙ ap (waits c) (wait_acts_applied adds (device_acts log)) ∙ h.0,
+  ap all_replies (of_device_acts c (map Applied adds) log) ∙ h.1,
 )
 
-left_none : (c d : ℕ) (acts : List WaitAct) → waits c acts ≡ None → waits c (Left d ∷ acts) ≡ None
-left_none c d acts none = elim (cases_Bool (d == c)) [ inl e ↦ rw e refl | inr e ↦ rw e none ]
+leaving_keeps_none_waiting : (c d : ℕ) (acts : List WaitAct) → waits c acts ≡ None → waits c (Left d ∷ acts) ≡ None
+leaving_keeps_none_waiting c d acts none = elim (cases_Bool (d == c)) [ inl e ↦ rw e refl | inr e ↦ rw e none ]
 
-failed_waits : (error : ErrorCode) (d : ℕ) (call : Option CoreCall) (log : List Act)
+failing_call_leaves_queue : (error : ErrorCode) (d : ℕ) (call : Option CoreCall) (log : List Act)
     → wait_acts (device_acts (acts_of d (failure_effect error d call) ++ log)) ≡ Left d ∷ wait_acts (device_acts log)
-failed_waits error d (Some call) log = refl
-failed_waits error d None log = refl
+failing_call_leaves_queue error d (Some call) log = refl
+failing_call_leaves_queue error d None log = refl
 
-failed_heard : (c d : ℕ) (error : ErrorCode) (call : Option CoreCall) (wait : Wait) (replies : List ℕ) (log : List Act)
-    → waits d (wait_acts (device_acts log)) ≡ Some wait → Heard c replies log
-    → Heard c replies (acts_of d (failure_effect error d call) ++ log)
-failed_heard c d error call wait replies log for h =
+timeout_keeps_replies : (c d : ℕ) (error : ErrorCode) (call : Option CoreCall) (wait : Wait) (replies : List ℕ) (log : List Act)
+    → waits d (wait_acts (device_acts log)) ≡ Some wait → IdleWithReplies c replies log
+    → IdleWithReplies c replies (acts_of d (failure_effect error d call) ++ log)
+timeout_keeps_replies c d error call wait replies log for h =
     let other : c ≢ d = λ same. let z : None ≡ Some wait = sym h.0 ∙ ap (λ (n : ℕ). waits n (wait_acts (device_acts log))) same ∙ for in
     cc in (
-      ap (waits c) (failed_waits error d call log) ∙ left_none c d (wait_acts (device_acts log)) h.0,
-      ap all_replies (others_effect d c (failure_effect error d call) log other) ∙ h.1,
+      ap (waits c) (failing_call_leaves_queue error d call log) ∙ leaving_keeps_none_waiting c d (wait_acts (device_acts log)) h.0,
+      ap all_replies (of_others_effect d c (failure_effect error d call) log other) ∙ h.1,
     )
 
 module _ (config : Config) (acts : List ExchangeAct) (links : List LinkAct) (errors : List Code) (nothing : due acts ≡ NothingDue) (c : ℕ)
     (replies : List ℕ) where
   abbrev pub Both : List Act → Type 0
-  Both log = Same acts links errors log × Heard c replies log
+  Both log = Same acts links errors log × IdleWithReplies c replies log
 
   step_heard : (log new : List Act) → Both log → IsNext config log new → Both new
   step_heard log new (s, h) (inl (adds, such, is)) = (
     step_same config acts links errors nothing c log new s (inl (adds, such, is)),
-    subst (Heard c replies) (sym is) (happened_heard c adds replies log h),
+    subst (IdleWithReplies c replies) (sym is) (instrument_keeps_replies c adds replies log h),
   )
   step_heard log new (s, h) (inr (none, inl (d, wait, polled, oldest, for, said, is))) = absurd (s.none d
-      (subst (λ (T : Type 0). T) (able_is acts links log s.exchange s.linked s.held d) oldest.0))
+      (subst (λ (T : Type 0). T) (can_resume_unfolds acts links log s.exchange s.linked s.held d) oldest.0))
   step_heard log new (s, h) (inr (none, inr (still, inl (adds, step, is)))) = (
     step_same config acts links errors nothing c log new s (inr (none, inr (still, inl (adds, step, is)))),
-    subst (Heard c replies) (sym is) (happened_heard c adds replies log h),
+    subst (IdleWithReplies c replies) (sym is) (instrument_keeps_replies c adds replies log h),
   )
   step_heard log new (s, h) (inr (none, inr (still, inr (idle, (d, wait, oldest, for, is))))) = (
     step_same config acts links errors nothing c log new s (inr (none, inr (still, inr (idle, (d, wait, oldest, for, is))))),
-    subst (Heard c replies) (sym is) (failed_heard c d (late wait) (core_call_in (pending_call (of d log))) wait replies log for h),
+    subst (IdleWithReplies c replies) (sym is)
+        (timeout_keeps_replies c d (late wait) (core_call_in (pending_call (of d log))) wait replies log for h),
   )
 
-  ticked_heard : (now : State) (log : List Act) → Heard c replies log
-      → Heard c replies ((map OnDevice (map Applied (where_scanning now)) ++ OnDevice Ticked ∷ []) ++ log)
+  ticked_heard : (now : State) (log : List Act) → IdleWithReplies c replies log
+      → IdleWithReplies c replies ((map OnDevice (map Applied (where_scanning now)) ++ OnDevice Ticked ∷ []) ++ log)
   ticked_heard Scanning log h = h
   ticked_heard _ log h = h
 
-  triggered_heard : (fault : Option Code) (log : List Act) → Heard c replies log
-      → Heard c replies (map OnDevice (map Applied (or_nothing fault)) ++ log)
+  triggered_heard : (fault : Option Code) (log : List Act) → IdleWithReplies c replies log
+      → IdleWithReplies c replies (map OnDevice (map Applied (or_nothing fault)) ++ log)
   triggered_heard None log h = h
   triggered_heard (Some code) log h = h
 
-  event_heard : (polled : ℕ) (event : PlainEvent) (log : List Act) → IsQuiet c event → Heard c replies log
-      → Heard c replies (own_acts config polled event log ++ log)
-  event_heard polled (Open d role) log quiet h = on_heard c d (Opened role) replies log (λ acts. refl) h
-  event_heard polled (Bytes d piece) log quiet h = on_heard c d (Piece piece) replies log (λ acts. refl) h
+  event_heard : (polled : ℕ) (event : PlainEvent) (log : List Act) → IsQuiet c event → IdleWithReplies c replies log
+      → IdleWithReplies c replies (own_acts config polled event log ++ log)
+  event_heard polled (Open d role) log quiet h = silent_act_keeps_replies c d (Opened role) replies log (λ acts. refl) h
+  event_heard polled (Bytes d piece) log quiet h = silent_act_keeps_replies c d (Piece piece) replies log (λ acts. refl) h
   event_heard polled (Turn d) log quiet h = absurd quiet
   event_heard polled (Refuse d) log quiet h = absurd quiet
-  event_heard polled (Took (Conn d) count) log quiet h = on_heard c d (BytesTaken count) replies log (λ acts. refl) h
+  event_heard polled (Took (Conn d) count) log quiet h = silent_act_keeps_replies c d (BytesTaken count) replies log (λ acts. refl) h
   event_heard polled (Took (Intr d) count) log quiet h = h
   event_heard polled (Close (Conn d)) log quiet h = absurd quiet
   event_heard polled (Close (Intr d)) log quiet h = h
@@ -128,6 +129,6 @@ module _ (config : Config) (acts : List ExchangeAct) (links : List LinkAct) (err
   quiet_heard past (event ∷ events) was log is_was both quiet
       (before, polled, channel_log, is_event, is_before, hears, free, said, settles) =
       let so = quiet_heard past events was before is_was both quiet.1 is_before in
-      each_settled config Both step_heard settles.0 (own_acts config polled event before ++ before) log
+      settling_keeps config Both step_heard settles.0 (own_acts config polled event before ++ before) log
       (event_same config acts links errors nothing c polled event before quiet.0 so.0, event_heard polled event before quiet.0 so.1)
       settles.1

@@ -38,34 +38,34 @@ use Rattle.sv_history.specs.CoreChannel.{term_of}
 use Rattle.sv_history.specs.Admission.{stop_of, admission}
 use Rattle.sv_history.specs.Settling.{CanResume, IsNext, SettlesIn, Settles}
 use Rattle.sv_history.specs.History.{own_acts, IsLogOf}
-use Rattle.sv_history.proofs.OneStep.{next_once}
-use Rattle.sv_history.proofs.Projections.{of_mine, of_shared, device_shared, link_acts_happened, wait_acts_happened, instrument_acts_happened}
+use Rattle.sv_history.proofs.OneStep.{next_step_unique}
+use Rattle.sv_history.proofs.Projections.{of_own_act, of_device_acts, device_acts_append, link_acts_applied, wait_acts_applied, instrument_acts_applied}
 use Rattle.sv_laws.specs.Adding.{all_replies}
 use Rattle.sv_laws.specs.QueryAlone.{OneRead, UnitEnd, IsAtRest, reported, write_reply, read_reply, holds, hold_fault, held_answer, AsksHeld, IsHeldAnswered, HeldAlone}
 use Rattle.sv_laws.proofs.NoneLate.{none_late}
-use Rattle.sv_laws.proofs.EveryLog.Steps.{Rested, log_settled, rested}
-use Rattle.sv_laws.proofs.EveryLog.EachEvent.{each_settled, idle_free, fit_log}
-use Rattle.sv_laws.proofs.EveryLog.Taken.{core_taken}
-use Rattle.sv_laws.proofs.Cuts.Written.{wrote}
-use Rattle.sv_laws.proofs.Cuts.FirstPart.{Resting, there_same, held_waits}
-use Rattle.sv_laws.proofs.Alone.Texts.{Left, Over, text_comes, first_short, unit_due, ended_is, unended_is, over_rests}
+use Rattle.sv_laws.proofs.EveryLog.Steps.{Rested, log_settled, settled_is_rested}
+use Rattle.sv_laws.proofs.EveryLog.EachEvent.{settling_keeps, next_call_means_none_suspended, fit_log}
+use Rattle.sv_laws.proofs.EveryLog.Taken.{core_call_is_on_core_role}
+use Rattle.sv_laws.proofs.Cuts.Written.{log_with_write}
+use Rattle.sv_laws.proofs.Cuts.FirstPart.{Resting, is_there_same_unless_device, held_unit_means_measuring}
+use Rattle.sv_laws.proofs.Alone.Texts.{Left, Over, write_with_end_is_left, first_short, unit_due, ended_if_two_left, unended_if_one_left, over_zero_is_at_rest}
 use Rattle.sv_laws.proofs.Alone.Steps.{happened, step_next}
-use Rattle.sv_laws.proofs.Alone.Written.{accepted, at_root}
-use Rattle.sv_laws.proofs.Alone.Turns.{IsFree, is_own, turn_of, turn_writes, turn_reads, answers_read, some_line}
-use Rattle.sv_laws.proofs.Alone.Quiet.{earlier_log, at_rest_now}
-use Rattle.sv_laws.proofs.Alone.Unbegun.{rests}
-use Rattle.sv_laws.proofs.Alone.Asked.{Turns, turns, answerable_free, told}
-use Rattle.sv_laws.proofs.Alone.Phases.{Status, At, Mine, Others, Initiated, ending_more, inside}
-use Rattle.sv_laws.proofs.Alone.Moves.{never_answered, Holds, Gone, Live, Phase, escaped_more, step_phase, quiet_phase, Settled, StillHolds, StillShows, IsGone, settled_is}
+use Rattle.sv_laws.proofs.Alone.Written.{accepted, first_unit_is_at_root}
+use Rattle.sv_laws.proofs.Alone.Turns.{IsFree, free_link_is_own, turn_adds_outcome, turn_writes, turn_reads, response_makes_answerable, line_is_nonempty}
+use Rattle.sv_laws.proofs.Alone.Quiet.{earlier_log, resting_if_answerable}
+use Rattle.sv_laws.proofs.Alone.Unbegun.{all_executed_is_at_rest}
+use Rattle.sv_laws.proofs.Alone.Asked.{Turns, turn_leads_to, idle_exchange_is_answerable, told}
+use Rattle.sv_laws.proofs.Alone.Phases.{Status, At, ReadHasStatus, OthersCannotResume, InitiatedIfReadings, unit_end_with_more_acts, inside}
+use Rattle.sv_laws.proofs.Alone.Moves.{unanswerable_without_response, Holds, Gone, Live, Phase, escaped_more, step_phase, quiet_phase, Settled, StillHolds, StillShows, IsGone, settled_is}
 
 -- ---- the unit begins
 
 -- The query starts with acts of the scanner, and then its unit is held. If the unit will answer
 -- with readings, the newest of these acts initiates a measurement.
-begins : (query : Order) (what : Awaited) (acts : List InstrumentAct) → holds query ≡ Some what → hold_fault query acts ≡ None
+query_begins_held : (query : Order) (what : Awaited) (acts : List InstrumentAct) → holds query ≡ Some what → hold_fault query acts ≡ None
     → (scans : List ScanAct) × Performs query acts (Held what ∷ map Scanned scans ++ acts)
     × (what ≡ awaited.Readings → (older : List ScanAct) × (scans ≡ scan.Init ∷ older))
-begins (order.Do action.Read) what acts is none =
+query_begins_held (order.Do action.Read) what acts is none =
     let same : awaited.Readings ≡ what = cc in
     let so : Held awaited.Readings ∷ Scanned scan.Init ∷ Scanned scan.Abort ∷ acts
     ≡ unless (hold_fault (order.Do action.Read) acts) (Held awaited.Readings ∷ Scanned scan.Init ∷ Scanned scan.Abort ∷ acts) acts =
@@ -74,39 +74,39 @@ begins (order.Do action.Read) what acts is none =
       ap (λ (w : Awaited). Held w ∷ Scanned scan.Init ∷ Scanned scan.Abort ∷ acts) (sym same) ∙ so,
       (λ reads. (scan.Abort ∷ [], refl)),
     )
-begins (order.Do action.WaitAndTell) what acts is none =
+query_begins_held (order.Do action.WaitAndTell) what acts is none =
     let same : awaited.One ≡ what = cc in (
       [],
       ap (λ (w : Awaited). Held w ∷ acts) (sym same),
       (λ reads. absurd (let other : awaited.One ≡ awaited.Readings = same ∙ reads in cc)),
     )
-begins (order.Do _) what acts is none = absurd cc
-begins (order.Measure None) what acts is none =
+query_begins_held (order.Do _) what acts is none = absurd cc
+query_begins_held (order.Measure None) what acts is none =
     let same : awaited.Readings ≡ what = cc in
     let scans : List ScanAct = scan.Init ∷ scan.Configure (setting.Count 1) ∷ scan.Configure (setting.Source Immediate)
     ∷ scan.Configure (setting.Range (pos 10000000)) ∷ scan.Abort ∷ [] in
     (scans, ap (λ (w : Awaited). Held w ∷ map Scanned scans ++ acts) (sym same), (λ reads. (drop 1 scans, refl)))
-begins (order.Measure (Some list)) what acts is none =
+query_begins_held (order.Measure (Some list)) what acts is none =
     let same : awaited.Readings ≡ what = cc in
     let scans : List ScanAct = scan.Init ∷ scan.Configure (setting.List list) ∷ scan.Configure (setting.Count 1)
     ∷ scan.Configure (setting.Source Immediate) ∷ scan.Configure (setting.Range (pos 10000000)) ∷ scan.Abort ∷ [] in
     (scans, ap (λ (w : Awaited). Held w ∷ map Scanned scans ++ acts) (sym same), (λ reads. (drop 1 scans, refl)))
-begins _ what acts is none = absurd cc
+query_begins_held _ what acts is none = absurd cc
 
-scanned_exchange : (scans : List ScanAct) (acts : List InstrumentAct) → exchange_acts (map Scanned scans ++ acts) ≡ exchange_acts acts
-scanned_exchange [] acts = refl
-scanned_exchange (act ∷ scans) acts = scanned_exchange scans acts
+scans_keep_exchange : (scans : List ScanAct) (acts : List InstrumentAct) → exchange_acts (map Scanned scans ++ acts) ≡ exchange_acts acts
+scans_keep_exchange [] acts = refl
+scans_keep_exchange (act ∷ scans) acts = scans_keep_exchange scans acts
 
-scanned_codes : (scans : List ScanAct) (acts : List InstrumentAct) → reported (map Scanned scans ++ acts) ≡ reported acts
-scanned_codes [] acts = refl
-scanned_codes (act ∷ scans) acts = scanned_codes scans acts
+scans_keep_reported : (scans : List ScanAct) (acts : List InstrumentAct) → reported (map Scanned scans ++ acts) ≡ reported acts
+scans_keep_reported [] acts = refl
+scans_keep_reported (act ∷ scans) acts = scans_keep_reported scans acts
 
 -- A held unit answers with `held_answer` when it ends.
-releases_so : (query : Order) (what : Awaited) → holds query ≡ Some what → (acts : List InstrumentAct)
+held_unit_answers : (query : Order) (what : Awaited) → holds query ≡ Some what → (acts : List InstrumentAct)
     → after_release what acts ≡ after_answering (held_answer what acts) (done acts)
-releases_so query awaited.One is acts = refl
-releases_so query awaited.Readings is acts = refl
-releases_so query awaited.Nothing is acts = absurd (never query is)
+held_unit_answers query awaited.One is acts = refl
+held_unit_answers query awaited.Readings is acts = refl
+held_unit_answers query awaited.Nothing is acts = absurd (never query is)
   where
     never : (query : Order) → holds query ≡ Some awaited.Nothing → ⊥
     never (order.Do action.Read) is = absurd cc
@@ -117,12 +117,14 @@ releases_so query awaited.Nothing is acts = absurd (never query is)
 
 -- ---- the read is suspended
 
-read_waits : (config : Config) (polled c lid most io_timeout lock_timeout flags term_char : ℕ) (acts : List DeviceAct) → IsFree c lid acts
+read_is_suspended : (config : Config) (polled c lid most io_timeout lock_timeout flags term_char : ℕ) (acts : List DeviceAct)
+    → IsFree c lid acts
     → is_answerable (instrument_acts acts) ≡ false
     → admission config polled c (OnLink (pos lid) (DeviceRead most io_timeout lock_timeout flags term_char))
     (stop_of c (OnLink (pos lid) (DeviceRead most io_timeout lock_timeout flags term_char)) acts) acts
     ≡ suspend_by (Entered c (Some lid) ForResponse (Some (config.clock + ticks acts + io_timeout)))
-read_waits config polled c lid most io_timeout lock_timeout flags term_char acts f none = rw (is_own c lid acts f, f.unlocked, none) refl
+read_is_suspended config polled c lid most io_timeout lock_timeout flags term_char acts f none =
+    rw (free_link_is_own c lid acts f, f.unlocked, none) refl
 
 module _ (c lid : ℕ) (query : Order) (what : Awaited) (sent : List ℕ) (most : ℕ) (config : Config)
     (past between later : List PlainEvent) (start before log : List Act)
@@ -156,7 +158,7 @@ module _ (c lid : ℕ) (query : Order) (what : Awaited) (sent : List ℕ) (most 
       let far = asks.writes.short in omega (arith, least, far)
 
   abbrev releasing : (acts : List InstrumentAct) → after_release what acts ≡ after_answering (held_answer what acts) (done acts)
-  releasing = releases_so query what asks.waits
+  releasing = held_unit_answers query what asks.waits
 
   abbrev IsLive : Bool → List Act → Type 0
   IsLive = Live config c lid asks.reads.call.xid most asks.reads.timeout asks.reads.lock_timeout asks.reads.flags asks.reads.term_char
@@ -177,32 +179,33 @@ module _ (c lid : ℕ) (query : Order) (what : Awaited) (sent : List ℕ) (most 
   -- ---- the write
 
   at_rest : Left ([] ∷ []) (exchange_acts base) × (held_unit base ≡ None)
-  at_rest = rests config past start asks.writes.was rest.text_left
+  at_rest = all_executed_is_at_rest config past start asks.writes.was rest.text_left
 
   unended : has_ended (exchange_acts base) ≡ false
-  unended = unended_is [] (exchange_acts base) at_rest.0
+  unended = unended_if_one_left [] (exchange_acts base) at_rest.0
 
   abbrev written : (log : List Act) × IsLogOf config (Turn c ∷ past) log
   written = earlier_log config between (Turn c ∷ past) before asks.reads.went_on
 
   first : Turns c config start written.0
-  first = turns c config past start written.0 asks.writes.was written.1
+  first = turn_leads_to c config past start written.0 asks.writes.was written.1
 
   resting : Resting config start
-  resting = at_rest_now config past start first.polled asks.writes.was unended (answerable_free base at_rest.1 unended) first.said
+  resting = resting_if_answerable config past start first.polled asks.writes.was unended
+      (idle_exchange_is_answerable base at_rest.1 unended) first.said
 
   abbrev wrote_now : List Act
-  wrote_now = wrote c asks.writes.call.bytes (write_reply asks.writes.call.xid sent) sent true start
+  wrote_now = log_with_write c asks.writes.call.bytes (write_reply asks.writes.call.xid sent) sent true start
 
   abbrev now : List InstrumentAct
   now = accepted sent base
 
   left_now : Left (message ∷ [] ∷ replicate lines []) (exchange_acts now)
-  left_now = text_comes sent ([] ∷ replicate lines []) message (exchange_acts base) at_rest.0 asks.writes.query_sent.cut
+  left_now = write_with_end_is_left sent ([] ∷ replicate lines []) message (exchange_acts base) at_rest.0 asks.writes.query_sent.cut
 
   begun : (scans : List ScanAct) × Performs query now (Held what ∷ map Scanned scans ++ now)
       × (what ≡ awaited.Readings → (older : List ScanAct) × (scans ≡ scan.Init ∷ older))
-  begun = begins query what now asks.waits (can query asks.can)
+  begun = query_begins_held query what now asks.waits (can query asks.can)
     where
       can : (query : Order) → hold_fault query base ≡ None → hold_fault query now ≡ None
       can (order.Do action.Read) none = none
@@ -212,7 +215,7 @@ module _ (c lid : ℕ) (query : Order) (what : Awaited) (sent : List ℕ) (most 
   abbrev adds : List InstrumentAct
   adds = Held what ∷ map Scanned begun.0
 
-  initiates : Initiated what (adds ++ Exchanged (Accepted sent true) ∷ [])
+  initiates : InitiatedIfReadings what (adds ++ Exchanged (Accepted sent true) ∷ [])
   initiates reads =
       let (older, is) = begun.2 reads in (
         Held what ∷ [],
@@ -225,7 +228,7 @@ module _ (c lid : ℕ) (query : Order) (what : Awaited) (sent : List ℕ) (most 
       (sym (unit_due message [] asks.writes.query_sent.unit (replicate lines []) (exchange_acts now) left_now message_short
       asks.writes.query_sent.one
       rest.none_left))
-      ([], asks.writes.query_sent.path, Ok query, at_root now left_now.done at_rest.1, asks.writes.query_sent.reads, begun.1)
+      ([], asks.writes.query_sent.path, Ok query, first_unit_is_at_root now left_now.done at_rest.1, asks.writes.query_sent.reads, begun.1)
 
   abbrev held_now : List Act
   held_now = happened adds wrote_now
@@ -237,20 +240,21 @@ module _ (c lid : ℕ) (query : Order) (what : Awaited) (sent : List ℕ) (most 
   free : IsFree c lid (device_acts start)
   free = record { owns = asks.writes.owns; unlocked = asks.writes.unlocked }
 
-  others_start : Others c links (wait_acts (device_acts start))
+  others_start : OthersCannotResume c links (wait_acts (device_acts start))
   others_start d ne writes reads able =
-      (none_late config past start d asks.writes.was).1 (sym (there_same (holder links) (link d (wait_acts (device_acts start)))
+      (none_late config past start d asks.writes.was).1
+          (sym (is_there_same_unless_device (holder links) (link d (wait_acts (device_acts start)))
       (waits d (wait_acts (device_acts start))) writes reads (not (has_ended (exchange_acts base))) (is_answerable base)
       (resting.none d).0 (resting.none d).1) ∙ able)
 
   inside_is : inside held_now ≡ adds ++ now
-  inside_is = ap instrument_acts (device_shared (map Applied adds) wrote_now) ∙ instrument_acts_happened adds (device_acts wrote_now)
+  inside_is = ap instrument_acts (device_acts_append (map Applied adds) wrote_now) ∙ instrument_acts_applied adds (device_acts wrote_now)
 
   exchange_is : exchange_acts (inside held_now) ≡ exchange_acts now
-  exchange_is = ap exchange_acts inside_is ∙ scanned_exchange begun.0 now
+  exchange_is = ap exchange_acts inside_is ∙ scans_keep_exchange begun.0 now
 
   calls_are : wait_acts (device_acts held_now) ≡ wait_acts (device_acts start)
-  calls_are = ap wait_acts (device_shared (map Applied adds) wrote_now) ∙ wait_acts_happened adds (device_acts wrote_now)
+  calls_are = ap wait_acts (device_acts_append (map Applied adds) wrote_now) ∙ wait_acts_applied adds (device_acts wrote_now)
 
   phase_held : IsPhase false held_now
   phase_held = inl (record {
@@ -260,21 +264,21 @@ module _ (c lid : ℕ) (query : Order) (what : Awaited) (sent : List ℕ) (most 
           inside_is ∙ sym (append_assoc adds (Exchanged (Accepted sent true) ∷ []) base),
           initiates,
         ) (
-          ap (waits c) calls_are ∙ idle_free c start asks.writes.call.bytes (fit_log config past start asks.writes.was)
+          ap (waits c) calls_are ∙ next_call_means_none_suspended c start asks.writes.call.bytes (fit_log config past start asks.writes.was)
               asks.writes.call.next,
-          ap all_replies (of_shared c (map Applied adds) wrote_now
+          ap all_replies (of_device_acts c (map Applied adds) wrote_now
               ∙ told c (Exchanged (Accepted sent true)) asks.writes.call.bytes (write_reply asks.writes.call.xid sent) start),
         );
-    linked = ap link_acts (device_shared (map Applied adds) wrote_now) ∙ link_acts_happened adds (device_acts wrote_now);
-    others = subst (Others c links) (sym calls_are) others_start;
-    codes = ap reported inside_is ∙ scanned_codes begun.0 now;
+    linked = ap link_acts (device_acts_append (map Applied adds) wrote_now) ∙ link_acts_applied adds (device_acts wrote_now);
+    others = subst (OthersCannotResume c links) (sym calls_are) others_start;
+    codes = ap reported inside_is ∙ scans_keep_reported begun.0 now;
   })
 
   phase_settled : (n : ℕ) → SettlesIn n config wrote_now written.0 → IsPhase false written.0
   phase_settled zero settles = absurd (settles.0 held_now next)
   phase_settled (suc n) (middle, step, more) =
-      let same = next_once config wrote_now middle held_now step next in
-      each_settled config (IsPhase false) (step_phase _ _ _ _ _ _ _ _ _ _ _ _ _ _ _ _ _ _ _ _ _ false) n middle written.0
+      let same = next_step_unique config wrote_now middle held_now step next in
+      settling_keeps config (IsPhase false) (step_phase _ _ _ _ _ _ _ _ _ _ _ _ _ _ _ _ _ _ _ _ _ false) n middle written.0
       (subst (IsPhase false) (sym same) phase_held) more
 
   phase_written : IsPhase false written.0
@@ -295,7 +299,7 @@ module _ (c lid : ℕ) (query : Order) (what : Awaited) (sent : List ℕ) (most 
   middle = earlier_log config later (Turn c ∷ (between ++ Turn c ∷ past)) log asks.is_log
 
   second : Turns c config before middle.0
-  second = turns c config (between ++ Turn c ∷ past) before middle.0 asks.reads.went_on middle.1
+  second = turn_leads_to c config (between ++ Turn c ∷ past) before middle.0 asks.reads.went_on middle.1
 
   abbrev reading : CoreCall
   reading = record {
@@ -304,7 +308,7 @@ module _ (c lid : ℕ) (query : Order) (what : Awaited) (sent : List ℕ) (most 
   }
 
   abbrev My : Status → List Act → Type 0
-  My s log = Mine c limit reading replies s (of c log) (wait_acts (device_acts log))
+  My s log = ReadHasStatus c limit reading replies s (of c log) (wait_acts (device_acts log))
 
   free_before : IsLive false before → IsFree c lid (device_acts before)
   free_before v = record {
@@ -315,14 +319,15 @@ module _ (c lid : ℕ) (query : Order) (what : Awaited) (sent : List ℕ) (most 
   abbrev waiting_now : List Act
   waiting_now = OnDevice (Waited (Entered c (Some lid) ForResponse (Some limit))) ∷ On c (CallTaken asks.reads.call.bytes) ∷ before
 
-  others_entered : Others c links (wait_acts (device_acts before)) → Others c links (wait_acts (device_acts waiting_now))
+  others_entered : OthersCannotResume c links (wait_acts (device_acts before))
+      → OthersCannotResume c links (wait_acts (device_acts waiting_now))
   others_entered others d ne writes reads able =
       let far = ne_eqb c d (λ e. ne (sym e)) in others d ne writes reads (rw far at able)
 
   mine_waiting : My (At false) before → My (At true) waiting_now
   mine_waiting m =
-      let mine : of c waiting_now ≡ CallTaken asks.reads.call.bytes ∷ of c before = of_mine c (CallTaken asks.reads.call.bytes) before in
-      let is = (core_taken (of c before) asks.reads.call.bytes reading asks.reads.call.next asks.reads.call.asks).1 in (
+      let mine : of c waiting_now ≡ CallTaken asks.reads.call.bytes ∷ of c before = of_own_act c (CallTaken asks.reads.call.bytes) before in
+      let is = (core_call_is_on_core_role (of c before) asks.reads.call.bytes reading asks.reads.call.next asks.reads.call.asks).1 in (
         rw (eq-eqb c c refl) refl,
         rw (eq-eqb c c refl) refl,
         ap (λ (l : List ConnAct). core_call_in (pending_call l)) mine ∙ is,
@@ -330,19 +335,20 @@ module _ (c lid : ℕ) (query : Order) (what : Awaited) (sent : List ℕ) (most 
       )
 
   rest_before : Rested config before
-  rest_before = rested config before (log_settled config (between ++ Turn c ∷ past) before asks.reads.went_on)
+  rest_before = settled_is_rested config before (log_settled config (between ++ Turn c ∷ past) before asks.reads.went_on)
 
   suspended : IsLive false before → Left (message ∷ [] ∷ replicate lines []) (exchange_acts (inside before))
       → held_unit (inside before) ≡ Some what → response (exchange_acts (inside before)) ≡ []
-      → (newer : List InstrumentAct) × (inside before ≡ newer ++ base) × Initiated what newer → My (At false) before
+      → (newer : List InstrumentAct) × (inside before ≡ newer ++ base) × InitiatedIfReadings what newer → My (At false) before
       → IsPhase true (own_acts config second.polled (Turn c) before ++ before)
   suspended v left held none since mine =
-      let no = never_answered before none (ended_is message [] (replicate lines []) (exchange_acts (inside before)) left) in
+      let no = unanswerable_without_response before none
+          (ended_if_two_left message [] (replicate lines []) (exchange_acts (inside before)) left) in
       let own : own_acts config second.polled (Turn c) before ++ before ≡ waiting_now =
-      turn_of config second.polled c lid
+      turn_adds_outcome config second.polled c lid
       (DeviceRead most asks.reads.timeout asks.reads.lock_timeout asks.reads.flags asks.reads.term_char)
       (suspend_by (Entered c (Some lid) ForResponse (Some limit))) before asks.reads.call
-      (read_waits config second.polled c lid most asks.reads.timeout asks.reads.lock_timeout asks.reads.flags asks.reads.term_char
+      (read_is_suspended config second.polled c lid most asks.reads.timeout asks.reads.lock_timeout asks.reads.flags asks.reads.term_char
       (device_acts before) (free_before v) no) in
       subst (IsPhase true) (sym own) (inl (record {
         state = Holds left held none since (mine_waiting mine);
@@ -360,13 +366,13 @@ module _ (c lid : ℕ) (query : Order) (what : Awaited) (sent : List ℕ) (most 
       let own = turn_reads config second.polled c lid most asks.reads.timeout asks.reads.lock_timeout asks.reads.flags
       asks.reads.term_char answer
       before asks.reads.call (free_before v) over.shows fits in
-      let l = over_rests bytes (exchange_acts (inside before)) over in
+      let l = over_zero_is_at_rest bytes (exchange_acts (inside before)) over in
       let read : List InstrumentAct = Exchanged (ResponseRead (length bytes)) ∷ [] in
       let told_now = told c (Exchanged (ResponseRead (length bytes))) asks.reads.call.bytes
       (read_reply asks.reads.call.xid answer most term) before
       in
       subst (IsPhase true) (sym own) (inl (record {
-        state = Gone refl 0 (ending_more what base read (inside before) (read ++ inside before) refl e) fits
+        state = Gone refl 0 (unit_end_with_more_acts what base read (inside before) (read ++ inside before) refl e) fits
             (record { left = l.left; done = l.done; overrun = l.overrun; dropped = l.dropped; given = l.given })
             (response_read (exchange_acts (inside before)) (length bytes) ∙ ap (drop (length bytes)) over.shows
             ∙ drop_all (length bytes) bytes (omega arith)) held
@@ -391,7 +397,7 @@ module _ (c lid : ℕ) (query : Order) (what : Awaited) (sent : List ℕ) (most 
       (own_acts config second.polled (Turn c) before) before escaped)
 
   phase_middle : IsPhase true middle.0
-  phase_middle = each_settled config (IsPhase true) (step_phase _ _ _ _ _ _ _ _ _ _ _ _ _ _ _ _ _ _ _ _ _ true) second.settles.0
+  phase_middle = settling_keeps config (IsPhase true) (step_phase _ _ _ _ _ _ _ _ _ _ _ _ _ _ _ _ _ _ _ _ _ true) second.settles.0
       (own_acts config second.polled (Turn c) before ++ before) middle.0 (taken_phase phase_before) second.settles.1
 
   phase_log : IsPhase true log
@@ -401,16 +407,17 @@ module _ (c lid : ℕ) (query : Order) (what : Awaited) (sent : List ℕ) (most 
   -- ---- at the end
 
   rest_log : Rested config log
-  rest_log = rested config log (log_settled config (later ++ Turn c ∷ (between ++ Turn c ∷ past)) log asks.is_log)
+  rest_log = settled_is_rested config log (log_settled config (later ++ Turn c ∷ (between ++ Turn c ∷ past)) log asks.is_log)
 
   abbrev Result : Type 0
   Result = IsHeldAnswered c what sent most term asks.writes.call.xid asks.reads.call.xid start log
 
   finally : reported (inside log) ≡ reported base → IsSettledIn true log → Result
-  finally codes (StillHolds left held none since mine) = absurd (held_waits config log what rest_log held idle)
+  finally codes (StillHolds left held none since mine) = absurd (held_unit_means_measuring config log what rest_log held idle)
   finally codes (StillShows e fits over held mine) =
       absurd ((none_late config (later ++ Turn c ∷ (between ++ Turn c ∷ past)) log c asks.is_log).1
-      (able (answers_read (held_answer what e.done ++ 10 ∷ []) (device_acts log) over.shows (some_line (held_answer what e.done)))))
+      (able (response_makes_answerable (held_answer what e.done ++ 10 ∷ []) (device_acts log) over.shows
+          (line_is_nonempty (held_answer what e.done)))))
     where
       able : is_answerable (inside log) ≡ true → CanResume (device_acts log) c
       able can = rw mine.0 can

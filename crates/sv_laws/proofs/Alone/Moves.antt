@@ -32,7 +32,7 @@ use Rattle.sv_history.specs.declared.event.Port.TheVariants.{Conn, Intr}
 use Rattle.sv_history.specs.Event.{PlainEvent, Open, Bytes, Turn, Refuse, Took, Close, Dialed, Input, External, Tick}
 use Rattle.sv_history.specs.History.{own_acts, IsLogOf}
 use Rattle.sv_laws.proofs.OneLog.{one_log}
-use Rattle.sv_laws.proofs.EveryLog.EachEvent.{each_settled}
+use Rattle.sv_laws.proofs.EveryLog.EachEvent.{settling_keeps}
 use Rattle.sv_laws.proofs.Alone.Steps.{finish_step}
 use Rattle.sv_history.specs.declared.event.Config.{Config}
 use Rattle.sv_history.specs.Act.{Act, ConnAct, Opened, Replied, Waited, Applied, Ticked, On, OnDevice, of, device_acts, link_acts, wait_acts, instrument_acts, ticks}
@@ -44,57 +44,59 @@ use Rattle.sv_history.specs.Request.{core_call_in}
 use Rattle.sv_history.specs.Effect.{acts_of, result_reply, call_effect}
 use Rattle.sv_history.specs.Resuming.{leaving, resume_effect, failure_effect, late}
 use Rattle.sv_history.specs.Settling.{InstrumentDoes, CanResume, IsNext}
-use Rattle.sv_history.proofs.Projections.{of_mine, device_shared, instrument_acts_happened}
+use Rattle.sv_history.proofs.Projections.{of_own_act, device_acts_append, instrument_acts_applied}
 use Rattle.sv_laws.specs.Adding.{all_replies}
 use Rattle.sv_laws.specs.QueryAlone.{OneRead, UnitEnd, reported, held_answer, IsQuiet}
 use Rattle.sv_laws.proofs.EveryLog.Steps.{Rested, next_extends}
-use Rattle.sv_laws.proofs.Alone.Texts.{Left, Over, answered, ended_is, fits_alone, finish_due, finished_one, empty_due, finished_empty, over_rests, nothing_due, over_parts, left_due, left_finished, none_finished}
+use Rattle.sv_laws.proofs.Alone.Texts.{Left, Over, answered, ended_if_two_left, short_answer_fits, finish_due, finishing_shows_response, empty_due, finished_empty, over_zero_is_at_rest, nothing_due, over_parts, left_due, left_finished, finishing_shows_none}
 use Rattle.sv_laws.proofs.Alone.Turns.{whole, reads_whole}
-use Rattle.sv_laws.proofs.Alone.Phases.{Status, At, Told, Mine, Others, Initiated, initiated_more, ending_more, one_read_or, inside, Alike, alike_scanned, alike_ticked, alike_channel, alike_piece, alike_taken, alike_other, alike_failed, others_left}
+use Rattle.sv_laws.proofs.Alone.Phases.{Status, At, Told, ReadHasStatus, OthersCannotResume, InitiatedIfReadings, stays_initiated, unit_end_with_more_acts, one_read_or_not, inside, Alike, alike_scanned, alike_ticked, alike_channel, alike_piece, alike_taken, alike_other, alike_failed, others_left}
 
 -- ---- a log with more acts
 
-inside_more : (adds log : List Act) → inside (adds ++ log) ≡ inside adds ++ inside log
-inside_more [] log = refl
-inside_more (On d act ∷ adds) log = inside_more adds log
-inside_more (OnDevice (Applied act) ∷ adds) log = ap (λ (l : List InstrumentAct). act ∷ l) (inside_more adds log)
-inside_more (OnDevice _ ∷ adds) log = inside_more adds log
+inside_of_append : (adds log : List Act) → inside (adds ++ log) ≡ inside adds ++ inside log
+inside_of_append [] log = refl
+inside_of_append (On d act ∷ adds) log = inside_of_append adds log
+inside_of_append (OnDevice (Applied act) ∷ adds) log = ap (λ (l : List InstrumentAct). act ∷ l) (inside_of_append adds log)
+inside_of_append (OnDevice _ ∷ adds) log = inside_of_append adds log
 
-pub ticks_more : (adds log : List Act) → ticks (device_acts log) ≤ ticks (device_acts (adds ++ log))
-ticks_more [] log = omega arith
-ticks_more (On d act ∷ adds) log = ticks_more adds log
-ticks_more (OnDevice Ticked ∷ adds) log = let least = ticks_more adds log in omega (arith, least)
-ticks_more (OnDevice _ ∷ adds) log = ticks_more adds log
+pub ticks_never_fall : (adds log : List Act) → ticks (device_acts log) ≤ ticks (device_acts (adds ++ log))
+ticks_never_fall [] log = omega arith
+ticks_never_fall (On d act ∷ adds) log = ticks_never_fall adds log
+ticks_never_fall (OnDevice Ticked ∷ adds) log = let least = ticks_never_fall adds log in omega (arith, least)
+ticks_never_fall (OnDevice _ ∷ adds) log = ticks_never_fall adds log
 
 -- ---- a step of the instrument
 
-pub happened_one : (adds acts : List InstrumentAct) (log new : List Act) → new ≡ map OnDevice (map Applied adds) ++ log
+pub happened_by_result : (adds acts : List InstrumentAct) (log new : List Act) → new ≡ map OnDevice (map Applied adds) ++ log
     → adds ++ inside log ≡ acts ++ inside log → new ≡ map OnDevice (map Applied acts) ++ log
-happened_one adds acts log new is same =
+happened_by_result adds acts log new is same =
     is ∙ ap (λ (l : List InstrumentAct). map OnDevice (map Applied l) ++ log) (append_cancel_right adds acts (inside log) same)
 
-pub finishes : (log new : List Act) → held_unit (inside log) ≡ None → due (exchange_acts (inside log)) ≡ FinishDue
+pub step_finishes_message : (log new : List Act) → held_unit (inside log) ≡ None → due (exchange_acts (inside log)) ≡ FinishDue
     → InstrumentDoes IsStep log new → new ≡ OnDevice (Applied (Exchanged Finished)) ∷ log
-finishes log new held finish (adds, step, is) =
+step_finishes_message log new held finish (adds, step, is) =
     let free = subst (λ (o : Option Awaited). StepOf o (due (exchange_acts (inside log))) (inside log) (adds ++ inside log)) held step in
     let so : adds ++ inside log ≡ Exchanged Finished ∷ inside log =
     subst (λ (d : Due). StepOf None d (inside log) (adds ++ inside log)) finish free in
-    happened_one adds (Exchanged Finished ∷ []) log new is so
+    happened_by_result adds (Exchanged Finished ∷ []) log new is so
 
-pub rests_now : (log new : List Act) → held_unit (inside log) ≡ None → due (exchange_acts (inside log)) ≡ NothingDue
+pub no_step_while_nothing_due : (log new : List Act) → held_unit (inside log) ≡ None → due (exchange_acts (inside log)) ≡ NothingDue
     → InstrumentDoes IsStep log new → ⊥
-rests_now log new held nothing (adds, step, is) =
+no_step_while_nothing_due log new held nothing (adds, step, is) =
     let free = subst (λ (o : Option Awaited). StepOf o (due (exchange_acts (inside log))) (inside log) (adds ++ inside log)) held step in
     subst (λ (d : Due). StepOf None d (inside log) (adds ++ inside log)) nothing free
 
-answers_if : (answer : List ℕ) (acts : List InstrumentAct) → fits_response (answers (UnitDone ∷ exchange_acts acts)) answer ≡ true
+fitting_answer_is_added : (answer : List ℕ) (acts : List InstrumentAct)
+    → fits_response (answers (UnitDone ∷ exchange_acts acts)) answer ≡ true
     → after_answering answer (done acts) ≡ Exchanged (Answered answer) ∷ Exchanged UnitDone ∷ acts
-answers_if answer acts fits = rw fits refl
+fitting_answer_is_added answer acts fits = rw fits refl
 
 -- No read can be answered while there is no response, and the message has ended but isn't finished.
-pub never_answered : (log : List Act) → response (exchange_acts (inside log)) ≡ [] → has_ended (exchange_acts (inside log)) ≡ true
+pub unanswerable_without_response : (log : List Act) → response (exchange_acts (inside log)) ≡ []
+    → has_ended (exchange_acts (inside log)) ≡ true
     → is_answerable (inside log) ≡ false
-never_answered log none ended = rw (none, ended) (and_false _)
+unanswerable_without_response log none ended = rw (none, ended) (and_false _)
   where
     and_false : (b : Bool) → (b && false) ≡ false
     and_false true = refl
@@ -117,12 +119,12 @@ module _ (config : Config) (c lid xid most io_timeout lock_timeout flags term_ch
   answer_of acts e = held_answer what e.done
 
   abbrev pub My : Status → List Act → Type 0
-  My s log = Mine c limit call replies s (of c log) (wait_acts (device_acts log))
+  My s log = ReadHasStatus c limit call replies s (of c log) (wait_acts (device_acts log))
 
   -- The log continues `base`, the instrument's log before the write. If the unit answers with
   -- readings, a measurement was initiated since then.
   abbrev pub Since : List InstrumentAct → Type 0
-  Since acts = (newer : List InstrumentAct) × (acts ≡ newer ++ base) × Initiated what newer
+  Since acts = (newer : List InstrumentAct) × (acts ≡ newer ++ base) × InitiatedIfReadings what newer
 
   -- `Holds`: the unit is held. `Gave`: the unit has ended, and its answer was added to the message.
   -- `Shows`: the message is finished, and its response can be read. `Gone`: the response was read.
@@ -145,7 +147,7 @@ module _ (config : Config) (c lid xid most io_timeout lock_timeout flags term_ch
   pub record Live (taken : Bool) (log : List Act) : Type 0 where
     pub state : State taken log
     pub linked : link_acts (device_acts log) ≡ links
-    pub others : Others c links (wait_acts (device_acts log))
+    pub others : OthersCannotResume c links (wait_acts (device_acts log))
     pub codes : reported (inside log) ≡ errors
 
   -- The law doesn't apply: the deadline of the read has come, or the answer is too long for one
@@ -158,9 +160,9 @@ module _ (config : Config) (c lid xid most io_timeout lock_timeout flags term_ch
   Phase taken log = Live taken log ⊎ Escaped log
 
   pub escaped_more : (adds log : List Act) → Escaped log → Escaped (adds ++ log)
-  escaped_more adds log (inl past) = let least = ticks_more adds log in inl (omega (arith, past, least))
+  escaped_more adds log (inl past) = let least = ticks_never_fall adds log in inl (omega (arith, past, least))
   escaped_more adds log (inr (e, long)) =
-      inr (ending_more what base (inside adds) (inside log) (inside (adds ++ log)) (inside_more adds log) e, long)
+      inr (unit_end_with_more_acts what base (inside adds) (inside log) (inside (adds ++ log)) (inside_of_append adds log) e, long)
 
   -- ---- logs that don't differ for the query
 
@@ -173,16 +175,16 @@ module _ (config : Config) (c lid xid most io_timeout lock_timeout flags term_ch
         a.adds ++ since.0,
         a.is ∙ ap (λ (l : List InstrumentAct). a.adds ++ l) since.1
             ∙ sym (append_assoc a.adds since.0 base),
-        initiated_more what a.adds since.0 since.2,
+        stays_initiated what a.adds since.0 since.2,
       ) (a.mine (At taken) mine)
   state_alike taken log new a (Gave e fits acts is left none held mine) =
-      Gave (ending_more what base a.adds (inside log) (inside new) a.is e) fits acts (a.exchange ∙ is) left none (a.held ∙ held)
+      Gave (unit_end_with_more_acts what base a.adds (inside log) (inside new) a.is e) fits acts (a.exchange ∙ is) left none (a.held ∙ held)
       (a.mine (At taken) mine)
   state_alike taken log new a (Shows k e fits over held mine) =
-      Shows k (ending_more what base a.adds (inside log) (inside new) a.is e) fits
+      Shows k (unit_end_with_more_acts what base a.adds (inside log) (inside new) a.is e) fits
       (subst (Over k (held_answer what e.done ++ 10 ∷ [])) (sym a.exchange) over) (a.held ∙ held) (a.mine (At taken) mine)
   state_alike taken log new a (Gone was k e fits left none held mine) =
-      Gone was k (ending_more what base a.adds (inside log) (inside new) a.is e) fits
+      Gone was k (unit_end_with_more_acts what base a.adds (inside log) (inside new) a.is e) fits
       (subst (Left ([] ∷ replicate k [])) (sym a.exchange) left)
       (ap response a.exchange ∙ none) (a.held ∙ held) (a.mine (Told (reply_of (held_answer what e.done))) mine)
 
@@ -198,17 +200,18 @@ module _ (config : Config) (c lid xid most io_timeout lock_timeout flags term_ch
 
   released : (taken : Bool) (log new : List Act) → Left parts (exchange_acts (inside log)) → held_unit (inside log) ≡ Some what
       → response (exchange_acts (inside log)) ≡ [] → Since (inside log) → My (At taken) log → link_acts (device_acts log) ≡ links
-      → Others c links (wait_acts (device_acts log)) → reported (inside log) ≡ errors → InstrumentDoes IsStep log new → Phase taken new
+      → OthersCannotResume c links (wait_acts (device_acts log)) → reported (inside log) ≡ errors → InstrumentDoes IsStep log new
+      → Phase taken new
   released taken log new left held none since mine linked others codes (adds, step, is) =
       let out = subst (λ (o : Option Awaited). StepOf o (due (exchange_acts (inside log))) (inside log) (adds ++ inside log)) held step in
       let answer = held_answer what (inside log) in
       let so : adds ++ inside log ≡ after_answering answer (done (inside log)) = out.1 ∙ releases (inside log) in
-      elim (one_read_or (term_of flags term_char) most answer) [
+      elim (one_read_or_not (term_of flags term_char) most answer) [
         | inl fits ↦
             let far = fits.1 in
-            let room = fits_alone answer parts (exchange_acts (inside log)) left (omega (arith, far)) in
+            let room = short_answer_fits answer parts (exchange_acts (inside log)) left (omega (arith, far)) in
             let both : List InstrumentAct = Exchanged (Answered answer) ∷ Exchanged UnitDone ∷ [] in
-            let there = happened_one adds both log new is (so ∙ answers_if answer (inside log) room) in
+            let there = happened_by_result adds both log new is (so ∙ fitting_answer_is_added answer (inside log) room) in
             subst (Phase taken) (sym there) (inl (record {
               state = Gave (record {
                 done = inside log;
@@ -227,8 +230,8 @@ module _ (config : Config) (c lid xid most io_timeout lock_timeout flags term_ch
               codes = codes;
             }))
         | inr long ↦
-            let now : inside new ≡ adds ++ inside log = ap inside is ∙ ap instrument_acts (device_shared (map Applied adds) log)
-            ∙ instrument_acts_happened adds (device_acts log) in
+            let now : inside new ≡ adds ++ inside log = ap inside is ∙ ap instrument_acts (device_acts_append (map Applied adds) log)
+            ∙ instrument_acts_applied adds (device_acts log) in
             inr (inr (
               record {
                 done = inside log;
@@ -245,47 +248,53 @@ module _ (config : Config) (c lid xid most io_timeout lock_timeout flags term_ch
       ]
 
   stepped : (taken : Bool) (log new : List Act) → State taken log → link_acts (device_acts log) ≡ links
-      → Others c links (wait_acts (device_acts log)) → reported (inside log) ≡ errors → InstrumentDoes IsStep log new → Phase taken new
+      → OthersCannotResume c links (wait_acts (device_acts log)) → reported (inside log) ≡ errors → InstrumentDoes IsStep log new
+      → Phase taken new
   stepped taken log new (Holds left held none since mine) linked others codes step = released taken log new left held none since mine
       linked others codes step
   stepped taken log new (Gave e fits acts is left none held mine) linked others codes step =
       let answer = held_answer what e.done in
       let finish = ap due is ∙ finish_due message [] unit answer (replicate lines []) acts left short one in
-      subst (Phase taken) (sym (finishes log new held finish step)) (inl (record {
-        state = Shows lines (ending_more what base (Exchanged Finished ∷ []) (inside log) (Exchanged Finished ∷ inside log) refl e) fits
+      subst (Phase taken) (sym (step_finishes_message log new held finish step)) (inl (record {
+        state = Shows lines (unit_end_with_more_acts what base (Exchanged Finished ∷ []) (inside log) (Exchanged Finished ∷ inside log) refl
+            e) fits
             (subst (λ (l : List ExchangeAct). Over lines (answer ++ 10 ∷ []) (Finished ∷ l)) (sym is)
-            (finished_one lines message answer acts left)) held mine;
+            (finishing_shows_response lines message answer acts left)) held mine;
         linked = linked;
         others = others;
         codes = codes;
       }))
   stepped taken log new (Shows (suc k) e fits over held mine) linked others codes step =
       let bytes = held_answer what e.done ++ 10 ∷ [] in
-      subst (Phase taken) (sym (finishes log new held (empty_due k bytes (exchange_acts (inside log)) over) step)) (inl (record {
-        state = Shows k (ending_more what base (Exchanged Finished ∷ []) (inside log) (Exchanged Finished ∷ inside log) refl e) fits
+      subst (Phase taken) (sym (step_finishes_message log new held (empty_due k bytes (exchange_acts (inside log)) over) step))
+          (inl (record {
+        state = Shows k (unit_end_with_more_acts what base (Exchanged Finished ∷ []) (inside log) (Exchanged Finished ∷ inside log) refl e)
+            fits
             (finished_empty k bytes (exchange_acts (inside log)) over) held mine;
         linked = linked;
         others = others;
         codes = codes;
       }))
   stepped taken log new (Shows zero e fits over held mine) linked others codes step =
-      absurd (rests_now log new held (nothing_due (exchange_acts (inside log))
-      (over_rests (held_answer what e.done ++ 10 ∷ []) (exchange_acts (inside log)) over)) step)
+      absurd (no_step_while_nothing_due log new held (nothing_due (exchange_acts (inside log))
+      (over_zero_is_at_rest (held_answer what e.done ++ 10 ∷ []) (exchange_acts (inside log)) over)) step)
   stepped taken log new (Gone was (suc k) e fits left none held mine) linked others codes step =
-      subst (Phase taken) (sym (finishes log new held (left_due k (exchange_acts (inside log)) left) step)) (inl (record {
-        state = Gone was k (ending_more what base (Exchanged Finished ∷ []) (inside log) (Exchanged Finished ∷ inside log) refl e) fits
+      subst (Phase taken) (sym (step_finishes_message log new held (left_due k (exchange_acts (inside log)) left) step)) (inl (record {
+        state = Gone was k (unit_end_with_more_acts what base (Exchanged Finished ∷ []) (inside log) (Exchanged Finished ∷ inside log) refl
+            e) fits
             (left_finished k (exchange_acts (inside log)) left)
-            (none_finished ([] ∷ [] ∷ replicate k []) (exchange_acts (inside log)) left none) held mine;
+            (finishing_shows_none ([] ∷ [] ∷ replicate k []) (exchange_acts (inside log)) left none) held mine;
         linked = linked;
         others = others;
         codes = codes;
       }))
   stepped taken log new (Gone was zero e fits left none held mine) linked others codes step =
-      absurd (rests_now log new held (nothing_due (exchange_acts (inside log)) left) step)
+      absurd (no_step_while_nothing_due log new held (nothing_due (exchange_acts (inside log)) left) step)
 
   -- ---- a call times out
 
-  mine_late : (taken : Bool) (own : List ConnAct) (calls : List WaitAct) (clock : ℕ) → Mine c limit call replies (At taken) own calls
+  mine_late : (taken : Bool) (own : List ConnAct) (calls : List WaitAct) (clock : ℕ)
+      → ReadHasStatus c limit call replies (At taken) own calls
       → IsExpired clock calls c → limit ≤ clock
   mine_late false own calls clock m (wait, last, for, until, past) = absurd (let z : Some wait ≡ None = sym for ∙ m.0 in cc)
   mine_late true own calls clock m (wait, last, for, until, past) =
@@ -303,7 +312,8 @@ module _ (config : Config) (c lid xid most io_timeout lock_timeout flags term_ch
 
   -- ---- a call resumes
 
-  others_cannot : (d : ℕ) (log : List Act) → d ≢ c → link_acts (device_acts log) ≡ links → Others c links (wait_acts (device_acts log))
+  others_cannot : (d : ℕ) (log : List Act) → d ≢ c → link_acts (device_acts log) ≡ links
+      → OthersCannotResume c links (wait_acts (device_acts log))
       → CanResume (device_acts log) d → ⊥
   others_cannot d log ne linked others able = others d ne (not (has_ended (exchange_acts (inside log)))) (is_answerable (inside log))
       (subst (λ (l : List LinkAct). IsAble (holder l) (not (has_ended (exchange_acts (inside log)))) (is_answerable (inside log))
@@ -340,9 +350,9 @@ module _ (config : Config) (c lid xid most io_timeout lock_timeout flags term_ch
       let l = over_parts k bytes (exchange_acts (inside log)) over in
       let read : List InstrumentAct = Exchanged (ResponseRead (length bytes)) ∷ [] in
       let mine : of c (after_read answer log) ≡ Replied (reply_of answer) ∷ of c log =
-      of_mine c (Replied (reply_of answer))
+      of_own_act c (Replied (reply_of answer))
       (OnDevice (Applied (Exchanged (ResponseRead (length bytes)))) ∷ OnDevice (Waited (LeftCall c)) ∷ log) in
-      Gone refl k (ending_more what base read (inside log) (read ++ inside log) refl e) fits
+      Gone refl k (unit_end_with_more_acts what base read (inside log) (read ++ inside log) refl e) fits
       (record { left = l.left; done = l.done; overrun = l.overrun; dropped = l.dropped; given = l.given })
       (response_read (exchange_acts (inside log)) (length bytes) ∙ ap (drop (length bytes)) over.shows
       ∙ drop_all (length bytes) bytes (omega arith)) held
@@ -356,7 +366,7 @@ module _ (config : Config) (c lid xid most io_timeout lock_timeout flags term_ch
       → Over k (held_answer what e.done ++ 10 ∷ []) (exchange_acts (inside log))
       → held_unit (inside log) ≡ None → My (At taken) log → taken ≡ true → waits c (wait_acts (device_acts log)) ≡ Some wait
       → new ≡ acts_of c (resume_effect config polled c wait (core_call_in (pending_call (of c log))) (device_acts log)) ++ log
-      → link_acts (device_acts log) ≡ links → Others c links (wait_acts (device_acts log)) → reported (inside log) ≡ errors
+      → link_acts (device_acts log) ≡ links → OthersCannotResume c links (wait_acts (device_acts log)) → reported (inside log) ≡ errors
       → Phase taken new
   shows_resumes false k polled wait log new e fits over held mine was for is linked others codes = absurd cc
   shows_resumes true k polled wait log new e fits over held mine was for is linked others codes =
@@ -371,19 +381,19 @@ module _ (config : Config) (c lid xid most io_timeout lock_timeout flags term_ch
       }))
 
   state_resumes : (taken : Bool) (polled : ℕ) (wait : Wait) (log new : List Act) → State taken log
-      → link_acts (device_acts log) ≡ links → Others c links (wait_acts (device_acts log)) → reported (inside log) ≡ errors
+      → link_acts (device_acts log) ≡ links → OthersCannotResume c links (wait_acts (device_acts log)) → reported (inside log) ≡ errors
       → CanResume (device_acts log) c
       → waits c (wait_acts (device_acts log)) ≡ Some wait
       → new ≡ acts_of c (resume_effect config polled c wait (core_call_in (pending_call (of c log))) (device_acts log)) ++ log
       → Phase taken new
   state_resumes taken polled wait log new (Holds left held none since mine) linked others codes able for is =
       let can = (able_reads taken log mine able).1 in
-      absurd (let z : true ≡ false = sym can ∙ never_answered log none
-      (ended_is message [] (replicate lines []) (exchange_acts (inside log)) left) in cc)
+      absurd (let z : true ≡ false = sym can ∙ unanswerable_without_response log none
+      (ended_if_two_left message [] (replicate lines []) (exchange_acts (inside log)) left) in cc)
   state_resumes taken polled wait log new (Gave e fits acts same left none held mine) linked others codes able for is =
       let can = (able_reads taken log mine able).1 in
-      absurd (let z : true ≡ false = sym can ∙ never_answered log (ap response same ∙ none)
-      (ap has_ended same ∙ ended_is message [] (replicate lines []) acts left) in cc)
+      absurd (let z : true ≡ false = sym can ∙ unanswerable_without_response log (ap response same ∙ none)
+      (ap has_ended same ∙ ended_if_two_left message [] (replicate lines []) acts left) in cc)
   state_resumes taken polled wait log new (Shows k e fits over held mine) linked others codes able for is =
       shows_resumes taken k polled wait log new e fits over held mine (able_reads taken log mine able).0 for is linked others codes
   state_resumes taken polled wait log new (Gone was k e fits left none held mine) linked others codes able for is =
@@ -393,7 +403,7 @@ module _ (config : Config) (c lid xid most io_timeout lock_timeout flags term_ch
 
   live_step : (taken : Bool) (log new : List Act) → Live taken log → IsNext config log new → Phase taken new
   live_step taken log new v (inl (adds, such, is)) =
-      let there = happened_one adds (Scanned (Trigger Immediate) ∷ []) log new is such.1 in
+      let there = happened_by_result adds (Scanned (Trigger Immediate) ∷ []) log new is such.1 in
       inl (subst (Live taken) (sym there) (live_alike taken log _ (alike_scanned c limit call replies links (Trigger Immediate) log) v))
   live_step taken log new v (inr (none, inl (d, wait, polled, oldest, for, said, is))) = elim (cases_eq d c) [
     | inl same ↦ state_resumes taken polled wait log new v.state v.linked v.others v.codes
@@ -463,7 +473,7 @@ module _ (config : Config) (c lid xid most io_timeout lock_timeout flags term_ch
   quiet_phase taken past [] was log is_was phase quiet is_log = subst (Phase taken) (one_log config past was log is_was is_log) phase
   quiet_phase taken past (event ∷ events) was log is_was phase quiet
       (before, polled, channel_log, is_event, is_before, hears, free, said, settles) =
-      each_settled config (Phase taken) (step_phase taken) settles.0 (own_acts config polled event before ++ before) log
+      settling_keeps config (Phase taken) (step_phase taken) settles.0 (own_acts config polled event before ++ before) log
       (event_phase taken polled event before quiet.0 (quiet_phase taken past events was before is_was phase quiet.1 is_before)) settles.1
 
   -- ---- when no step is due any more

@@ -37,16 +37,17 @@ use Rattle.sv_laws.specs.Cuts.{NoneWaits}
 use Rattle.sv_laws.specs.QueryAlone.{IsQuiet, reported}
 use Rattle.sv_laws.proofs.OneLog.{one_log}
 use Rattle.sv_laws.proofs.NoneLate.{none_late}
-use Rattle.sv_laws.proofs.EveryLog.Steps.{log_settled, rested}
-use Rattle.sv_laws.proofs.EveryLog.EachEvent.{each_settled}
+use Rattle.sv_laws.proofs.EveryLog.Steps.{log_settled, settled_is_rested}
+use Rattle.sv_laws.proofs.EveryLog.EachEvent.{settling_keeps}
 use Rattle.sv_laws.proofs.Cuts.FirstPart.{Resting}
 
 -- ---- while no step of message exchange is due
 
 -- A call that can resume after another call left the queue could also resume before.
-pub left_able : (holds : Option ℕ) (writes reads : Bool) (c d : ℕ) (acts : List WaitAct) → IsAble holds writes reads (Left c ∷ acts) d
+pub able_after_leaving_was_able : (holds : Option ℕ) (writes reads : Bool) (c d : ℕ) (acts : List WaitAct)
+    → IsAble holds writes reads (Left c ∷ acts) d
     → IsAble holds writes reads acts d
-left_able holds writes reads c d acts h = elim (cases_Bool (c == d)) [
+able_after_leaving_was_able holds writes reads c d acts h = elim (cases_Bool (c == d)) [
   | inl e ↦ absurd (let z : false ≡ true = rw e at h in cc)
   | inr e ↦ rw e at h
 ]
@@ -64,10 +65,10 @@ pub record Same (acts : List ExchangeAct) (links : List LinkAct) (errors : List 
   pub codes : reported (instrument_acts (device_acts log)) ≡ errors
   pub none : (d : ℕ) → IsAble (holder links) (not (has_ended acts)) (can_read acts) (wait_acts (device_acts log)) d → ⊥
 
-pub able_is : (acts : List ExchangeAct) (links : List LinkAct) (log : List Act) → exchange_acts (device_acts log) ≡ acts
+pub can_resume_unfolds : (acts : List ExchangeAct) (links : List LinkAct) (log : List Act) → exchange_acts (device_acts log) ≡ acts
     → link_acts (device_acts log) ≡ links → held_unit (instrument_acts (device_acts log)) ≡ None → (d : ℕ)
     → CanResume (device_acts log) d ≡ IsAble (holder links) (not (has_ended acts)) (can_read acts) (wait_acts (device_acts log)) d
-able_is acts links log exchange linked held d =
+can_resume_unfolds acts links log exchange linked held d =
     ap (λ (o : Option Awaited). IsAble (holder (link_acts (device_acts log))) (not (has_ended (exchange_acts (device_acts log))))
     (is_something (response (exchange_acts (device_acts log)))
     || (not (is_held o) && not (has_ended (exchange_acts (device_acts log)))))
@@ -85,7 +86,7 @@ same_start config history log is_log held = record {
   held = held;
   codes = refl;
   none = λ d able. (none_late config history log d is_log).1
-      (subst (λ (T : Type 0). T) (sym (able_is _ _ log refl refl held d)) able);
+      (subst (λ (T : Type 0). T) (sym (can_resume_unfolds _ _ log refl refl held d)) able);
 }
 
 module _ (config : Config) (acts : List ExchangeAct) (links : List LinkAct) (errors : List Code) (nothing : due acts ≡ NothingDue) (c : ℕ)
@@ -112,20 +113,22 @@ module _ (config : Config) (acts : List ExchangeAct) (links : List LinkAct) (err
       linked = s.linked;
       held = s.held;
       codes = s.codes;
-      none = λ e able. s.none e (left_able (holder links) (not (has_ended acts)) (can_read acts) d e (wait_acts (device_acts log)) able);
+      none = λ e able. s.none e
+          (able_after_leaving_was_able (holder links) (not (has_ended acts)) (can_read acts) d e (wait_acts (device_acts log)) able);
     }
     timed_out error d None log s = record {
       exchange = s.exchange;
       linked = s.linked;
       held = s.held;
       codes = s.codes;
-      none = λ e able. s.none e (left_able (holder links) (not (has_ended acts)) (can_read acts) d e (wait_acts (device_acts log)) able);
+      none = λ e able. s.none e
+          (able_after_leaving_was_able (holder links) (not (has_ended acts)) (can_read acts) d e (wait_acts (device_acts log)) able);
     }
 
     pub step_same : (log new : List Act) → Same acts links errors log → IsNext config log new → Same acts links errors new
     step_same log new s (inl fires) = fired log new s fires
     step_same log new s (inr (none, inl (d, wait, polled, oldest, for, said, is))) = absurd (s.none d
-        (subst (λ (T : Type 0). T) (able_is acts links log s.exchange s.linked s.held d) oldest.0))
+        (subst (λ (T : Type 0). T) (can_resume_unfolds acts links log s.exchange s.linked s.held d) oldest.0))
     step_same log new s (inr (none, inr (still, inl (adds, step, is)))) =
         absurd (nothing_due (instrument_acts (device_acts log)) (adds ++ instrument_acts (device_acts log)) (sym s.held)
         (sym nothing ∙ ap due (sym s.exchange)) step)
@@ -185,7 +188,7 @@ module _ (config : Config) (acts : List ExchangeAct) (links : List LinkAct) (err
         → AllByRecursion (IsQuiet c) events → IsLogOf config (events ++ past) log → Same acts links errors log
     quiet_same past [] was log is_was s quiet is_log = subst (Same acts links errors) (one_log config past was log is_was is_log) s
     quiet_same past (event ∷ events) was log is_was s quiet (before, polled, channel_log, is_event, is_before, hears, free, said, settles) =
-        each_settled config (Same acts links errors) step_same settles.0 (own_acts config polled event before ++ before) log
+        settling_keeps config (Same acts links errors) step_same settles.0 (own_acts config polled event before ++ before) log
         (event_same polled event before quiet.0 (quiet_same past events was before is_was s quiet.1 is_before)) settles.1
 
 -- If a history has a log, then each earlier part of the history has a log too.
@@ -210,11 +213,11 @@ none_waits config history log is_log unended can = λ d. (
     able_read : (d : ℕ) → waits d (wait_acts (device_acts log)) ≡ Some ForResponse → CanResume (device_acts log) d
     able_read d e = rw e can
 
-pub at_rest_now : (config : Config) (history : List PlainEvent) (log : List Act) (polled : ℕ) → IsLogOf config history log
+pub resting_if_answerable : (config : Config) (history : List PlainEvent) (log : List Act) (polled : ℕ) → IsLogOf config history log
     → has_ended (exchange_acts (device_acts log)) ≡ false → is_answerable (instrument_acts (device_acts log)) ≡ true
     → IsPolled polled (device_acts log) → Resting config log
-at_rest_now config history log polled is_log unended can said = record {
-  rests = rested config log (log_settled config history log is_log);
+resting_if_answerable config history log polled is_log unended can said = record {
+  rests = settled_is_rested config log (log_settled config history log is_log);
   none = none_waits config history log is_log unended can;
   polled = polled;
   said = said;

@@ -25,36 +25,37 @@ use Rattle.sv_instrument.specs.QueryResponse.{readings_text}
 use Rattle.sv_instrument.specs.CommandEffect.{done, after_answering, unless, after_configure, after_query, question_fault, Replies, after_action, Performs}
 use Rattle.sv_instrument.specs.Step.{after_release, Does, StepOf, IsStep}
 use Rattle.sv_instrument.proofs.Dues.{unit_is_next}
-use Rattle.sv_laws.proofs.Cuts.LongerText.{none_longer, onto_many, messages_some, size_at}
+use Rattle.sv_laws.proofs.Cuts.LongerText.{none_longer, onto_keeps_count, messages_are_nonempty, part_length}
 
 -- ---- more text
 
-no_fewer : (old new : List Symbol) → length (messages old) ≤ length (messages (old ++ new))
-no_fewer [] new = let some = messages_some new in omega (arith, some)
-no_fewer (End ∷ old) new = let least = no_fewer old new in omega (arith, least)
-no_fewer (Byte b ∷ old) new = at (b == 10) (no_fewer old new)
+no_fewer_messages : (old new : List Symbol) → length (messages old) ≤ length (messages (old ++ new))
+no_fewer_messages [] new = let some = messages_are_nonempty new in omega (arith, some)
+no_fewer_messages (End ∷ old) new = let least = no_fewer_messages old new in omega (arith, least)
+no_fewer_messages (Byte b ∷ old) new = at (b == 10) (no_fewer_messages old new)
   where
     at : (t : Bool) → length (messages old) ≤ length (messages (old ++ new))
         → length (cond t ([] ∷ messages old) (onto b (messages old)))
         ≤ length (cond t ([] ∷ messages (old ++ new)) (onto b (messages (old ++ new))))
     at true least = omega (arith, least)
     at false least =
-        let one = onto_many b (messages old) (messages_some old) in
-        let other = onto_many b (messages (old ++ new)) (messages_some (old ++ new)) in omega (arith, least, one, other)
+        let one = onto_keeps_count b (messages old) (messages_are_nonempty old) in
+        let other = onto_keeps_count b (messages (old ++ new)) (messages_are_nonempty (old ++ new)) in omega (arith, least, one, other)
 
-still_ended : (bytes : List ℕ) (ended : Bool) (acts : List ExchangeAct) → has_ended acts ≡ true
+text_keeps_ended : (bytes : List ℕ) (ended : Bool) (acts : List ExchangeAct) → has_ended acts ≡ true
     → has_ended (Accepted bytes ended ∷ acts) ≡ true
-still_ended bytes ended acts e =
+text_keeps_ended bytes ended acts e =
     let was = ltb-true (messages_finished acts + 1) (length (messages (text acts))) e in
-    let least = no_fewer (text acts) (map Byte bytes ++ end_mark ended) in
+    let least = no_fewer_messages (text acts) (map Byte bytes ++ end_mark ended) in
     lt-ltb (messages_finished acts + 1) (length (messages (text acts ++ (map Byte bytes ++ end_mark ended)))) (omega (arith, was, least))
 
-still_long : (bytes : List ℕ) (ended : Bool) (acts : List ExchangeAct) → is_long acts ≡ true → is_long (Accepted bytes ended ∷ acts) ≡ true
-still_long bytes ended acts e =
-    let was : max_message < size_at (messages (text acts)) (messages_finished acts) =
-    ltb-true max_message (size_at (messages (text acts)) (messages_finished acts)) e in
+text_keeps_long : (bytes : List ℕ) (ended : Bool) (acts : List ExchangeAct) → is_long acts ≡ true
+    → is_long (Accepted bytes ended ∷ acts) ≡ true
+text_keeps_long bytes ended acts e =
+    let was : max_message < part_length (messages (text acts)) (messages_finished acts) =
+    ltb-true max_message (part_length (messages (text acts)) (messages_finished acts)) e in
     let least = none_longer (text acts) (map Byte bytes ++ end_mark ended) (messages_finished acts) in
-    lt-ltb max_message (size_at (messages (text acts ++ (map Byte bytes ++ end_mark ended))) (messages_finished acts))
+    lt-ltb max_message (part_length (messages (text acts ++ (map Byte bytes ++ end_mark ended))) (messages_finished acts))
     (omega (arith, was, least))
 
 -- ---- the invariant
@@ -63,8 +64,8 @@ abbrev pub IsEnded : List InstrumentAct → Type 0
 IsEnded acts = has_ended (exchange_acts acts) ≡ true
 
 -- No unit of the current message was executed, and the message has no answers.
-abbrev pub Fresh : List ExchangeAct → Type 0
-Fresh acts = (units_done acts ≡ 0) × (has_dropped acts ≡ false) × (all_answers acts ≡ [])
+abbrev pub NothingExecuted : List ExchangeAct → Type 0
+NothingExecuted acts = (units_done acts ≡ 0) × (has_dropped acts ≡ false) × (all_answers acts ≡ [])
 
 -- If the current message was reported as too long, it is too long.
 abbrev pub IsLong : List InstrumentAct → Type 0
@@ -72,14 +73,14 @@ IsLong acts = has_overrun (current (exchange_acts acts)) ≡ true → is_long (e
 
 -- The invariant: the current message has ended; or no unit of it was executed, and no unit is held.
 abbrev pub Sound : List InstrumentAct → Type 0
-Sound acts = (IsEnded acts ⊎ ((held_unit acts ≡ None) × Fresh (current (exchange_acts acts)))) × IsLong acts
+Sound acts = (IsEnded acts ⊎ ((held_unit acts ≡ None) × NothingExecuted (current (exchange_acts acts)))) × IsLong acts
 
 -- The current message has ended.
 abbrev Going : List InstrumentAct → Type 0
 Going acts = IsEnded acts × IsLong acts
 
-sound_going : (acts : List InstrumentAct) → Going acts → Sound acts
-sound_going acts g = (inl g.0, g.1)
+going_is_sound : (acts : List InstrumentAct) → Going acts → Sound acts
+going_is_sound acts g = (inl g.0, g.1)
 
 -- An act that a call or an event can add. It doesn't execute or hold a unit, add or drop answers,
 -- finish a message, or report a message as too long.
@@ -94,9 +95,9 @@ IsTame _ = ⊤
 
 pub sound_tame : (act : InstrumentAct) (acts : List InstrumentAct) → IsTame act → Sound acts → Sound (act ∷ acts)
 sound_tame (Exchanged (Accepted bytes ended)) acts tame (inl e, long) =
-    (inl (still_ended bytes ended (exchange_acts acts) e), λ h. still_long bytes ended (exchange_acts acts) (long h))
+    (inl (text_keeps_ended bytes ended (exchange_acts acts) e), λ h. text_keeps_long bytes ended (exchange_acts acts) (long h))
 sound_tame (Exchanged (Accepted bytes ended)) acts tame (inr fresh, long) =
-    (inr fresh, λ h. still_long bytes ended (exchange_acts acts) (long h))
+    (inr fresh, λ h. text_keeps_long bytes ended (exchange_acts acts) (long h))
 sound_tame (Exchanged TextDropped) acts tame s = (inr (refl, (refl, refl, refl)), λ h. absurd cc)
 sound_tame (Exchanged Interrupted) acts tame s = s
 sound_tame (Exchanged (ResponseRead count)) acts tame s = s
@@ -165,39 +166,39 @@ release_going awaited.Nothing log g = g
 release_going awaited.One log g = answering_going (codes "1") (done log) g
 release_going awaited.Readings log g = answering_going (readings_text (readings (effective_acts log))) (done log) g
 
-not_over : (next : Option (List ℕ)) (interrupts ended : Bool) → due_unit next interrupts ended ≡ OverrunDue → ⊥
-not_over (Some unit) true ended e = absurd cc
-not_over (Some unit) false ended e = absurd cc
-not_over None interrupts true e = absurd cc
-not_over None interrupts false e = absurd cc
+due_unit_is_no_overrun : (next : Option (List ℕ)) (interrupts ended : Bool) → due_unit next interrupts ended ≡ OverrunDue → ⊥
+due_unit_is_no_overrun (Some unit) true ended e = absurd cc
+due_unit_is_no_overrun (Some unit) false ended e = absurd cc
+due_unit_is_no_overrun None interrupts true e = absurd cc
+due_unit_is_no_overrun None interrupts false e = absurd cc
 
-over_long : (long told : Bool) (next : Option (List ℕ)) (interrupts ended : Bool)
+overrun_due_is_long : (long told : Bool) (next : Option (List ℕ)) (interrupts ended : Bool)
     → cond (long && not told) OverrunDue (due_unit next interrupts ended) ≡ OverrunDue → long ≡ true
-over_long true told next interrupts ended e = refl
-over_long false told next interrupts ended e = absurd (not_over next interrupts ended e)
+overrun_due_is_long true told next interrupts ended e = refl
+overrun_due_is_long false told next interrupts ended e = absurd (due_unit_is_no_overrun next interrupts ended e)
 
 next_ended : (ended rest : Bool) (found : Option (List ℕ)) (unit : List ℕ) → cond (ended && rest) found None ≡ Some unit → ended ≡ true
 next_ended true rest found unit e = refl
 next_ended false rest found unit e = absurd cc
 
-has_next : (acts : List ExchangeAct) (unit : List ℕ) → next_unit acts ≡ Some unit → has_ended acts ≡ true
-has_next acts unit e = next_ended (has_ended acts) _ _ unit e
+next_unit_means_ended : (acts : List ExchangeAct) (unit : List ℕ) → next_unit acts ≡ Some unit → has_ended acts ≡ true
+next_unit_means_ended acts unit e = next_ended (has_ended acts) _ _ unit e
 
 step_by : (held : Option Awaited) (next : Due) (log new : List InstrumentAct) → held_unit log ≡ held → due (exchange_acts log) ≡ next
     → StepOf held next log new → Sound log → Sound new
 step_by (Some what) next log new held is (idle, so) (inl e, long) =
-    subst Sound (sym so) (sound_going (after_release what log) (release_going what log (e, long)))
+    subst Sound (sym so) (going_is_sound (after_release what log) (release_going what log (e, long)))
 step_by (Some what) next log new held is (idle, so) (inr (none, fresh), long) =
     absurd (let z : None ≡ Some what = sym none ∙ held in cc)
 step_by None NothingDue log new held is step s = absurd step
 step_by None OverrunDue log new held is so s =
-    let long = over_long (is_long (exchange_acts log)) (has_overrun (current (exchange_acts log))) _ _ _ is in
+    let long = overrun_due_is_long (is_long (exchange_acts log)) (has_overrun (current (exchange_acts log))) _ _ _ is in
     subst Sound (sym so) (s.0, λ h. long)
 step_by None InterruptDue log new held is (unit, next, (path, behind, outcome, root, read, does)) s =
-    sound_going new (does_going outcome _ new (has_next (exchange_acts log) unit next, s.1) does)
+    going_is_sound new (does_going outcome _ new (next_unit_means_ended (exchange_acts log) unit next, s.1) does)
 step_by None (UnitDue unit) log new held is (path, behind, outcome, root, read, does) s =
     let next = unit_is_next (exchange_acts log) unit (sym is) in
-    sound_going new (does_going outcome log new (has_next (exchange_acts log) unit next, s.1) does)
+    going_is_sound new (does_going outcome log new (next_unit_means_ended (exchange_acts log) unit next, s.1) does)
 step_by None FinishDue log new held is so s = subst Sound (sym so) (inr (held, (refl, refl, refl)), λ h. absurd cc)
 
 pub step_sound : (log new : List InstrumentAct) → IsStep log new → Sound log → Sound new

@@ -6,41 +6,41 @@ use Rattle.std.proofs.lemmas.List.{length-drop}
 use Rattle.sv_exchange.specs.Exchange.{ExchangeAct, Accepted, UnitDone, Answered, Finished, Byte, End, text, messages, messages_finished, current, units_done, has_overrun, has_dropped, all_answers, answers, message, has_ended, is_long, is_something, units, response, due, due_unit, NothingDue, UnitDue, FinishDue, fits_response}
 use Rattle.sv_exchange.specs.Limits.{max_message, max_response}
 use Rattle.std.specs.List.{onto_first as onto}
-use Rattle.sv_exchange.proofs.Cuts.{messages_some, messages_append}
+use Rattle.sv_exchange.proofs.Cuts.{messages_some, more_text_continues_last}
 use Rattle.sv_exchange.proofs.Responses.{response_finished}
 
 -- ---- parts of a list
 
-drop_first : (k : ℕ) (parts : List (List ℕ)) (part : List ℕ) (more : List (List ℕ)) → drop k parts ≡ part ∷ more
+first_of_drop : (k : ℕ) (parts : List (List ℕ)) (part : List ℕ) (more : List (List ℕ)) → drop k parts ≡ part ∷ more
     → slice_index_or parts k [] ≡ part
-drop_first zero [] part more e = absurd cc
-drop_first zero (first ∷ parts) part more e = cc
-drop_first (suc k) [] part more e = absurd cc
-drop_first (suc k) (first ∷ parts) part more e = drop_first k parts part more e
+first_of_drop zero [] part more e = absurd cc
+first_of_drop zero (first ∷ parts) part more e = cc
+first_of_drop (suc k) [] part more e = absurd cc
+first_of_drop (suc k) (first ∷ parts) part more e = first_of_drop k parts part more e
 
-drop_next : (k : ℕ) (parts : List (List ℕ)) (part : List ℕ) (more : List (List ℕ)) → drop k parts ≡ part ∷ more
+rest_of_drop : (k : ℕ) (parts : List (List ℕ)) (part : List ℕ) (more : List (List ℕ)) → drop k parts ≡ part ∷ more
     → drop (suc k) parts ≡ more
-drop_next zero [] part more e = absurd cc
-drop_next zero (first ∷ parts) part more e = cc
-drop_next (suc k) [] part more e = absurd cc
-drop_next (suc k) (first ∷ parts) part more e = drop_next k parts part more e
+rest_of_drop zero [] part more e = absurd cc
+rest_of_drop zero (first ∷ parts) part more e = cc
+rest_of_drop (suc k) [] part more e = absurd cc
+rest_of_drop (suc k) (first ∷ parts) part more e = rest_of_drop k parts part more e
 
-some_left : (k : ℕ) (parts : List (List ℕ)) (part other : List ℕ) (more : List (List ℕ)) → drop k parts ≡ part ∷ other ∷ more
+within_if_two_left : (k : ℕ) (parts : List (List ℕ)) (part other : List ℕ) (more : List (List ℕ)) → drop k parts ≡ part ∷ other ∷ more
     → nat_lt (k + 1) (length parts) ≡ true
-some_left k parts part other more e =
+within_if_two_left k parts part other more e =
     let size : length parts - k ≡ suc (suc (length more)) = sym (length-drop k parts) ∙ ap (λ (l : List (List ℕ)). length l) e in
     lt-ltb (k + 1) (length parts) (omega (arith, size))
 
-none_more : (k : ℕ) (parts : List (List ℕ)) (part : List ℕ) → drop k parts ≡ part ∷ [] → nat_lt (k + 1) (length parts) ≡ false
-none_more k parts part e =
+last_if_one_left : (k : ℕ) (parts : List (List ℕ)) (part : List ℕ) → drop k parts ≡ part ∷ [] → nat_lt (k + 1) (length parts) ≡ false
+last_if_one_left k parts part e =
     let size : length parts - k ≡ 1 = sym (length-drop k parts) ∙ ap (λ (l : List (List ℕ)). length l) e in
     le-ltb (k + 1) (length parts) (omega (arith, size))
 
 -- ---- the first message of a write
 
-onto_is : (b : ℕ) (parts : List (List ℕ)) (first : List ℕ) (others : List (List ℕ)) (part : List ℕ) (more : List (List ℕ))
+onto_extends_first : (b : ℕ) (parts : List (List ℕ)) (first : List ℕ) (others : List (List ℕ)) (part : List ℕ) (more : List (List ℕ))
     → parts ≡ first ∷ others → onto b parts ≡ part ∷ more → b ∷ first ≡ part
-onto_is b parts first others part more is e = let same : (b ∷ first) ∷ others ≡ part ∷ more = ap (onto b) (sym is) ∙ e in cc
+onto_extends_first b parts first others part more is e = let same : (b ∷ first) ∷ others ≡ part ∷ more = ap (onto b) (sym is) ∙ e in cc
 
 pub first_short : (sent part : List ℕ) (more : List (List ℕ)) → messages (map Byte sent ++ End ∷ []) ≡ part ∷ more
     → length part ≤ length sent
@@ -53,7 +53,7 @@ first_short (b ∷ sent) part more e = at (b == 10) e (first_short sent)
     at true e short = let none : [] ≡ part = cc in rw (← none) (omega arith)
     at false e short =
         let some = messages_some (map Byte sent ++ End ∷ []) in
-        let is = onto_is b (messages (map Byte sent ++ End ∷ [])) some.0 some.1 part more some.2 e in
+        let is = onto_extends_first b (messages (map Byte sent ++ End ∷ [])) some.0 some.1 part more some.2 e in
         let least = short some.0 some.1 some.2 in
         let size : suc (length some.0) ≡ length part = ap (λ (l : List ℕ). length l) is in
         omega (arith, size, least)
@@ -69,38 +69,38 @@ pub record Left (parts : List (List ℕ)) (acts : List ExchangeAct) : Type 0 whe
   pub dropped : has_dropped (current acts) ≡ false
   pub given : all_answers (current acts) ≡ []
 
-message_is : (part : List ℕ) (more : List (List ℕ)) (acts : List ExchangeAct) → Left (part ∷ more) acts → message acts ≡ part
-message_is part more acts l = drop_first (messages_finished acts) (messages (text acts)) part more l.left
+current_message_is_first : (part : List ℕ) (more : List (List ℕ)) (acts : List ExchangeAct) → Left (part ∷ more) acts → message acts ≡ part
+current_message_is_first part more acts l = first_of_drop (messages_finished acts) (messages (text acts)) part more l.left
 
-pub ended_is : (part other : List ℕ) (more : List (List ℕ)) (acts : List ExchangeAct) → Left (part ∷ other ∷ more) acts
+pub ended_if_two_left : (part other : List ℕ) (more : List (List ℕ)) (acts : List ExchangeAct) → Left (part ∷ other ∷ more) acts
     → has_ended acts ≡ true
-ended_is part other more acts l = some_left (messages_finished acts) (messages (text acts)) part other more l.left
+ended_if_two_left part other more acts l = within_if_two_left (messages_finished acts) (messages (text acts)) part other more l.left
 
-pub unended_is : (part : List ℕ) (acts : List ExchangeAct) → Left (part ∷ []) acts → has_ended acts ≡ false
-unended_is part acts l = none_more (messages_finished acts) (messages (text acts)) part l.left
+pub unended_if_one_left : (part : List ℕ) (acts : List ExchangeAct) → Left (part ∷ []) acts → has_ended acts ≡ false
+unended_if_one_left part acts l = last_if_one_left (messages_finished acts) (messages (text acts)) part l.left
 
 short_is : (part : List ℕ) (more : List (List ℕ)) (acts : List ExchangeAct) → Left (part ∷ more) acts → length part ≤ max_message
     → is_long acts ≡ false
 short_is part more acts l short =
-    rw (message_is part more acts l) (le-ltb max_message (length part) short)
+    rw (current_message_is_first part more acts l) (le-ltb max_message (length part) short)
 
 -- ---- at rest
 
 pub rest_unended : (acts : List ExchangeAct) → drop (messages_finished acts) (messages (text acts)) ≡ [] ∷ [] → has_ended acts ≡ false
-rest_unended acts left = none_more (messages_finished acts) (messages (text acts)) [] left
+rest_unended acts left = last_if_one_left (messages_finished acts) (messages (text acts)) [] left
 
 pub rest_short : (acts : List ExchangeAct) → drop (messages_finished acts) (messages (text acts)) ≡ [] ∷ [] → is_long acts ≡ false
-rest_short acts left = rw (drop_first (messages_finished acts) (messages (text acts)) [] [] left) refl
+rest_short acts left = rw (first_of_drop (messages_finished acts) (messages (text acts)) [] [] left) refl
 
 pub nothing_due : (acts : List ExchangeAct) → Left ([] ∷ []) acts → due acts ≡ NothingDue
-nothing_due acts l = rw (short_is [] [] acts l (omega arith), unended_is [] acts l) refl
+nothing_due acts l = rw (short_is [] [] acts l (omega arith), unended_if_one_left [] acts l) refl
 
 -- ---- a write with END
 
-pub text_comes : (bytes : List ℕ) (parts : List (List ℕ)) (part : List ℕ) (acts : List ExchangeAct) → Left ([] ∷ []) acts
+pub write_with_end_is_left : (bytes : List ℕ) (parts : List (List ℕ)) (part : List ℕ) (acts : List ExchangeAct) → Left ([] ∷ []) acts
     → messages (map Byte bytes ++ End ∷ []) ≡ part ∷ parts → Left (part ∷ parts) (Accepted bytes true ∷ acts)
-text_comes bytes parts part acts l cut = record {
-  left = messages_append (text acts) (map Byte bytes ++ End ∷ []) (messages_finished acts) [] part parts l.left cut;
+write_with_end_is_left bytes parts part acts l cut = record {
+  left = more_text_continues_last (text acts) (map Byte bytes ++ End ∷ []) (messages_finished acts) [] part parts l.left cut;
   done = l.done;
   overrun = l.overrun;
   dropped = l.dropped;
@@ -108,25 +108,25 @@ text_comes bytes parts part acts l cut = record {
 }
 
 -- The step that is due for a message that has ended and isn't too long, if no answers were dropped.
-due_is : (part other : List ℕ) (more : List (List ℕ)) (acts : List ExchangeAct)
+due_of_ended_message : (part other : List ℕ) (more : List (List ℕ)) (acts : List ExchangeAct)
     → drop (messages_finished acts) (messages (text acts)) ≡ part ∷ other ∷ more → length part ≤ max_message
     → has_dropped (current acts) ≡ false
     → due acts
     ≡ due_unit (slice_get (units part) (units_done (current acts))) ((units_done (current acts) == 0) && is_something (response acts)) true
-due_is part other more acts left short kept =
-    let is : message acts ≡ part = drop_first (messages_finished acts) (messages (text acts)) part (other ∷ more) left in
-    let ended : has_ended acts ≡ true = some_left (messages_finished acts) (messages (text acts)) part other more left in
+due_of_ended_message part other more acts left short kept =
+    let is : message acts ≡ part = first_of_drop (messages_finished acts) (messages (text acts)) part (other ∷ more) left in
+    let ended : has_ended acts ≡ true = within_if_two_left (messages_finished acts) (messages (text acts)) part other more left in
     let fits : is_long acts ≡ false = rw is (le-ltb max_message (length part) short) in
     rw (fits, ended, kept, is) refl
 
 pub unit_due : (part other unit : List ℕ) (more : List (List ℕ)) (acts : List ExchangeAct) → Left (part ∷ other ∷ more) acts
     → length part ≤ max_message → units part ≡ unit ∷ [] → response acts ≡ [] → due acts ≡ UnitDue unit
 unit_due part other unit more acts l short one none =
-    due_is part other more acts l.left short l.dropped ∙ rw (l.done, one, none) refl
+    due_of_ended_message part other more acts l.left short l.dropped ∙ rw (l.done, one, none) refl
 
-pub fits_alone : (answer : List ℕ) (parts : List (List ℕ)) (acts : List ExchangeAct) → Left parts acts → length answer < max_response
+pub short_answer_fits : (answer : List ℕ) (parts : List (List ℕ)) (acts : List ExchangeAct) → Left parts acts → length answer < max_response
     → fits_response (answers (UnitDone ∷ acts)) answer ≡ true
-fits_alone answer parts acts l fits = rw (l.dropped, l.given) (lt-ltb (length answer) max_response fits)
+short_answer_fits answer parts acts l fits = rw (l.dropped, l.given) (lt-ltb (length answer) max_response fits)
 
 -- ---- after the unit
 
@@ -136,7 +136,7 @@ answered answer acts = Answered answer ∷ UnitDone ∷ acts
 pub finish_due : (part other unit answer : List ℕ) (more : List (List ℕ)) (acts : List ExchangeAct) → Left (part ∷ other ∷ more) acts
     → length part ≤ max_message → units part ≡ unit ∷ [] → due (answered answer acts) ≡ FinishDue
 finish_due part other unit answer more acts l short one =
-    due_is part other more (answered answer acts) l.left short l.dropped ∙ rw (l.done, one) refl
+    due_of_ended_message part other more (answered answer acts) l.left short l.dropped ∙ rw (l.done, one) refl
 
 -- ---- once the message is finished
 
@@ -147,10 +147,10 @@ pub record Over (lines : ℕ) (bytes : List ℕ) (acts : List ExchangeAct) : Typ
   pub fresh : current acts ≡ []
   pub shows : response acts ≡ bytes
 
-pub finished_one : (lines : ℕ) (part answer : List ℕ) (acts : List ExchangeAct) → Left (part ∷ [] ∷ replicate lines []) acts
+pub finishing_shows_response : (lines : ℕ) (part answer : List ℕ) (acts : List ExchangeAct) → Left (part ∷ [] ∷ replicate lines []) acts
     → Over lines (answer ++ 10 ∷ []) (Finished ∷ answered answer acts)
-finished_one lines part answer acts l = record {
-  left = drop_next (messages_finished acts) (messages (text acts)) part ([] ∷ replicate lines []) l.left;
+finishing_shows_response lines part answer acts l = record {
+  left = rest_of_drop (messages_finished acts) (messages (text acts)) part ([] ∷ replicate lines []) l.left;
   fresh = refl;
   shows = response_finished (answered answer acts) ∙ rw (l.dropped, l.given) refl;
 }
@@ -165,7 +165,7 @@ over_left lines bytes acts o = record {
 }
 
 pub left_due : (lines : ℕ) (acts : List ExchangeAct) → Left ([] ∷ [] ∷ replicate lines []) acts → due acts ≡ FinishDue
-left_due lines acts l = due_is [] [] (replicate lines []) acts l.left (omega arith) l.dropped
+left_due lines acts l = due_of_ended_message [] [] (replicate lines []) acts l.left (omega arith) l.dropped
 
 pub empty_due : (lines : ℕ) (bytes : List ℕ) (acts : List ExchangeAct) → Over (suc lines) bytes acts → due acts ≡ FinishDue
 empty_due lines bytes acts o = left_due lines acts (over_left (suc lines) bytes acts o)
@@ -173,13 +173,13 @@ empty_due lines bytes acts o = left_due lines acts (over_left (suc lines) bytes 
 pub finished_empty : (lines : ℕ) (bytes : List ℕ) (acts : List ExchangeAct) → Over (suc lines) bytes acts
     → Over lines bytes (Finished ∷ acts)
 finished_empty lines bytes acts o = record {
-  left = drop_next (messages_finished acts) (messages (text acts)) [] ([] ∷ replicate lines []) o.left;
+  left = rest_of_drop (messages_finished acts) (messages (text acts)) [] ([] ∷ replicate lines []) o.left;
   fresh = refl;
   shows = response_finished acts ∙ (rw o.fresh o.shows);
 }
 
-pub over_rests : (bytes : List ℕ) (acts : List ExchangeAct) → Over 0 bytes acts → Left ([] ∷ []) acts
-over_rests bytes acts o = over_left 0 bytes acts o
+pub over_zero_is_at_rest : (bytes : List ℕ) (acts : List ExchangeAct) → Over 0 bytes acts → Left ([] ∷ []) acts
+over_zero_is_at_rest bytes acts o = over_left 0 bytes acts o
 
 -- ---- once the response was read
 
@@ -189,28 +189,28 @@ over_parts lines bytes acts o = over_left lines bytes acts o
 pub left_finished : (lines : ℕ) (acts : List ExchangeAct) → Left ([] ∷ [] ∷ replicate lines []) acts
     → Left ([] ∷ replicate lines []) (Finished ∷ acts)
 left_finished lines acts l = record {
-  left = drop_next (messages_finished acts) (messages (text acts)) [] ([] ∷ replicate lines []) l.left;
+  left = rest_of_drop (messages_finished acts) (messages (text acts)) [] ([] ∷ replicate lines []) l.left;
   done = refl;
   overrun = refl;
   dropped = refl;
   given = refl;
 }
 
-pub none_finished : (parts : List (List ℕ)) (acts : List ExchangeAct) → Left parts acts → response acts ≡ []
+pub finishing_shows_none : (parts : List (List ℕ)) (acts : List ExchangeAct) → Left parts acts → response acts ≡ []
     → response (Finished ∷ acts) ≡ []
-none_finished parts acts l none = response_finished acts ∙ rw (l.dropped, l.given) none
+finishing_shows_none parts acts l none = response_finished acts ∙ rw (l.dropped, l.given) none
 
 -- ---- after a unit without an answer
 
 pub done_due : (part other unit : List ℕ) (more : List (List ℕ)) (acts : List ExchangeAct) → Left (part ∷ other ∷ more) acts
     → length part ≤ max_message → units part ≡ unit ∷ [] → due (UnitDone ∷ acts) ≡ FinishDue
 done_due part other unit more acts l short one =
-    due_is part other more (UnitDone ∷ acts) l.left short l.dropped ∙ rw (l.done, one) refl
+    due_of_ended_message part other more (UnitDone ∷ acts) l.left short l.dropped ∙ rw (l.done, one) refl
 
 pub done_left : (lines : ℕ) (part : List ℕ) (acts : List ExchangeAct) → Left (part ∷ [] ∷ replicate lines []) acts
     → Left ([] ∷ replicate lines []) (Finished ∷ UnitDone ∷ acts)
 done_left lines part acts l = record {
-  left = drop_next (messages_finished acts) (messages (text acts)) part ([] ∷ replicate lines []) l.left;
+  left = rest_of_drop (messages_finished acts) (messages (text acts)) part ([] ∷ replicate lines []) l.left;
   done = refl;
   overrun = refl;
   dropped = refl;

@@ -25,7 +25,7 @@ use Rattle.sv_history.specs.CoreChannel.{term_of, reads, device_read}
 use Rattle.sv_history.specs.Admission.{stop_of, admission}
 use Rattle.sv_history.specs.History.{turn_acts, own_acts}
 use Rattle.sv_laws.specs.QueryAlone.{NextIs, EndsAt, OneRead}
-use Rattle.sv_laws.proofs.Cuts.Written.{wrote}
+use Rattle.sv_laws.proofs.Cuts.Written.{log_with_write}
 use Rattle.sv_laws.proofs.Cuts.WriteOutcome.{accepts_write}
 
 -- Connection `c` owns the link, and no other link holds the lock.
@@ -33,43 +33,45 @@ pub record IsFree (c lid : ℕ) (acts : List DeviceAct) : Type 0 where
   pub owns : owner lid (link_acts acts) ≡ Some c
   pub unlocked : is_locked_out (holder (link_acts acts)) (Some lid) ≡ false
 
-pub is_own : (c lid : ℕ) (acts : List DeviceAct) → IsFree c lid acts → is_of c (owner lid (link_acts acts)) ≡ true
-is_own c lid acts f = ap (is_of c) f.owns ∙ eq-eqb c c refl
+pub free_link_is_own : (c lid : ℕ) (acts : List DeviceAct) → IsFree c lid acts → is_of c (owner lid (link_acts acts)) ≡ true
+free_link_is_own c lid acts f = ap (is_of c) f.owns ∙ eq-eqb c c refl
 
 -- ---- the next call
 
-abbrev pub after : ℕ → List ℕ → ℕ → CallOutcome → List Act → List Act
-after c bytes xid outcome log = (acts_of c (call_effect xid outcome) ++ On c (CallTaken bytes) ∷ []) ++ log
+abbrev pub log_after_call : ℕ → List ℕ → ℕ → CallOutcome → List Act → List Act
+log_after_call c bytes xid outcome log = (acts_of c (call_effect xid outcome) ++ On c (CallTaken bytes) ∷ []) ++ log
 
-pub turn_of : (config : Config) (polled c lid : ℕ) (call : LinkCall) (outcome : CallOutcome) (log : List Act)
+pub turn_adds_outcome : (config : Config) (polled c lid : ℕ) (call : LinkCall) (outcome : CallOutcome) (log : List Act)
     (n : NextIs lid call (of c log))
     → admission config polled c (OnLink (pos lid) call) (stop_of c (OnLink (pos lid) call) (device_acts log)) (device_acts log) ≡ outcome
-    → own_acts config polled (Turn c) log ++ log ≡ after c n.bytes n.xid outcome log
-turn_of config polled c lid call outcome log n is =
+    → own_acts config polled (Turn c) log ++ log ≡ log_after_call c n.bytes n.xid outcome log
+turn_adds_outcome config polled c lid call outcome log n is =
     let request = CoreRequest (record { xid = n.xid; arguments = OnLink (pos lid) call }) in
     ap (λ (o : Option (List ℕ)). turn_acts config polled c o (next_request (of c log)) log ++ log) n.next
     ∙ ap (λ (r : Option Request). turn_acts config polled c (Some n.bytes) r log ++ log) n.asks
-    ∙ ap (λ (o : CallOutcome). after c n.bytes n.xid o log) is
+    ∙ ap (λ (o : CallOutcome). log_after_call c n.bytes n.xid o log) is
 
 -- ---- the write
 
-accepts_all : (config : Config) (polled c lid io_timeout lock_timeout flags : ℕ) (sent : List ℕ) (acts : List DeviceAct) → IsFree c lid acts
+write_is_accepted : (config : Config) (polled c lid io_timeout lock_timeout flags : ℕ) (sent : List ℕ) (acts : List DeviceAct)
+    → IsFree c lid acts
     → length sent ≤ max_message → has_ended (exchange_acts acts) ≡ false
     → admission config polled c (OnLink (pos lid) (DeviceWrite io_timeout lock_timeout flags sent))
     (stop_of c (OnLink (pos lid) (DeviceWrite io_timeout lock_timeout flags sent)) acts) acts
     ≡ answer_with (Applied (Exchanged (Accepted sent (bit_at flags 3 == 1))) ∷ []) (Size NoError (length sent))
-accepts_all config polled c lid io_timeout lock_timeout flags sent acts f short unended =
+write_is_accepted config polled c lid io_timeout lock_timeout flags sent acts f short unended =
     let small = le-ltb max_message (length sent) short in
-    rw (is_own c lid acts f, small, f.unlocked, unended) (accepts_write flags sent acts small unended)
+    rw (free_link_is_own c lid acts f, small, f.unlocked, unended) (accepts_write flags sent acts small unended)
 
 pub turn_writes : (config : Config) (polled c lid io_timeout lock_timeout flags : ℕ) (sent : List ℕ) (log : List Act)
     (n : NextIs lid (DeviceWrite io_timeout lock_timeout flags sent) (of c log)) → IsFree c lid (device_acts log)
     → length sent ≤ max_message → has_ended (exchange_acts (device_acts log)) ≡ false → bit_at flags 3 ≡ 1
-    → own_acts config polled (Turn c) log ++ log ≡ wrote c n.bytes (result_reply n.xid (Size NoError (length sent))) sent true log
+    → own_acts config polled (Turn c) log ++ log ≡ log_with_write c n.bytes (result_reply n.xid (Size NoError (length sent))) sent true log
 turn_writes config polled c lid io_timeout lock_timeout flags sent log n f short unended ends =
-    turn_of config polled c lid (DeviceWrite io_timeout lock_timeout flags sent) _ log n
-    (accepts_all config polled c lid io_timeout lock_timeout flags sent (device_acts log) f short unended)
-    ∙ ap (λ (b : Bool). wrote c n.bytes (result_reply n.xid (Size NoError (length sent))) sent b log) (eq-eqb (bit_at flags 3) 1 ends)
+    turn_adds_outcome config polled c lid (DeviceWrite io_timeout lock_timeout flags sent) _ log n
+    (write_is_accepted config polled c lid io_timeout lock_timeout flags sent (device_acts log) f short unended)
+    ∙ ap (λ (b : Bool). log_with_write c n.bytes (result_reply n.xid (Size NoError (length sent))) sent b log)
+        (eq-eqb (bit_at flags 3) 1 ends)
 
 -- ---- the read
 
@@ -81,36 +83,39 @@ whole most term answer = Read NoError (record {
   end = true;
 }) (answer ++ 10 ∷ [])
 
-abbrev pub is_read : ℕ → List ℕ → List ℕ → ℕ → List Act → List Act
-is_read c call reply count log =
+abbrev pub log_after_read : ℕ → List ℕ → List ℕ → ℕ → List Act → List Act
+log_after_read c call reply count log =
     On c (Replied reply) ∷ OnDevice (Applied (Exchanged (ResponseRead count))) ∷ On c (CallTaken call) ∷ log
 
 -- If the answer has no new line, the first new line of the response is the one after the answer.
-first_line : (answer : List ℕ) → AllByRecursion (λ b. b ≢ 10) answer → position_or_len (λ b. b == 10) (answer ++ 10 ∷ []) ≡ length answer
-first_line [] none = refl
-first_line (b ∷ answer) none = rw (ne_eqb b 10 none.0) (ap (λ (n : ℕ). 1 + n) (first_line answer none.1) ∙ omega arith)
+first_new_line_ends_answer : (answer : List ℕ) → AllByRecursion (λ b. b ≢ 10) answer
+    → position_or_len (λ b. b == 10) (answer ++ 10 ∷ []) ≡ length answer
+first_new_line_ends_answer [] none = refl
+first_new_line_ends_answer (b ∷ answer) none = rw (ne_eqb b 10 none.0)
+    (ap (λ (n : ℕ). 1 + n) (first_new_line_ends_answer answer none.1) ∙ omega arith)
 
-last_line : (answer : List ℕ) → slice_get (answer ++ 10 ∷ []) (length answer) ≡ Some 10
-last_line [] = refl
-last_line (b ∷ answer) = last_line answer
+answer_ends_with_new_line : (answer : List ℕ) → slice_get (answer ++ 10 ∷ []) (length answer) ≡ Some 10
+answer_ends_with_new_line [] = refl
+answer_ends_with_new_line (b ∷ answer) = answer_ends_with_new_line answer
 
-term_all : (term : Option ℕ) (answer : List ℕ) → EndsAt term answer → term_end term (answer ++ 10 ∷ []) ≡ length (answer ++ 10 ∷ [])
-term_all None answer ends = refl
-term_all (Some term) answer ends =
+term_ends_at_whole : (term : Option ℕ) (answer : List ℕ) → EndsAt term answer
+    → term_end term (answer ++ 10 ∷ []) ≡ length (answer ++ 10 ∷ [])
+term_ends_at_whole None answer ends = refl
+term_ends_at_whole (Some term) answer ends =
     let size = length-append answer (10 ∷ []) in
-    let place = first_line answer ends.1 in
+    let place = first_new_line_ends_answer answer ends.1 in
     let same : term_end (Some 10) (answer ++ 10 ∷ []) ≡ length (answer ++ 10 ∷ []) = grind (arith, size, place) in
     ap (λ (t : ℕ). term_end (Some t) (answer ++ 10 ∷ [])) ends.0 ∙ same
 
-ends_there : (term : Option ℕ) (answer : List ℕ) → EndsAt term answer
+term_char_is_reason : (term : Option ℕ) (answer : List ℕ) → EndsAt term answer
     → ends_at_term (answer ++ 10 ∷ []) (length (answer ++ 10 ∷ [])) term ≡ is_some term
-ends_there None answer ends = refl
-ends_there (Some term) answer ends =
+term_char_is_reason None answer ends = refl
+term_char_is_reason (Some term) answer ends =
     let size = length-append answer (10 ∷ []) in
     let some : nat_lt 0 (length (answer ++ 10 ∷ [])) ≡ true = lt-ltb 0 (length (answer ++ 10 ∷ [])) (omega (arith, size)) in
     let before : length (answer ++ 10 ∷ []) - 1 ≡ length answer = omega (arith, size) in
     let last : slice_get (answer ++ 10 ∷ []) (length (answer ++ 10 ∷ []) - 1) ≡ Some 10 =
-    ap (λ (n : ℕ). slice_get (answer ++ 10 ∷ []) n) before ∙ last_line answer in
+    ap (λ (n : ℕ). slice_get (answer ++ 10 ∷ []) n) before ∙ answer_ends_with_new_line answer in
     ap (λ (t : ℕ). ends_at_term (answer ++ 10 ∷ []) (length (answer ++ 10 ∷ [])) (Some t)) ends.0 ∙ rw (some, last) refl
 
 counts_all : (bytes : List ℕ) (most : ℕ) (term : Option ℕ) → term_end term bytes ≡ length bytes → length bytes ≤ most
@@ -128,21 +133,22 @@ by_count : (answer : List ℕ) (most count : ℕ) (term : Option ℕ) → count 
     }) (take count (answer ++ 10 ∷ []))) ≡ whole_read most term answer
 by_count answer most count term e ends =
     let bytes = answer ++ 10 ∷ [] in
-    rw (e, ends_there term answer ends, eq-eqb (length bytes) (length bytes) refl, take_all (length bytes) bytes (omega arith))
+    rw (e, term_char_is_reason term answer ends, eq-eqb (length bytes) (length bytes) refl, take_all (length bytes) bytes (omega arith))
     (ap (λ (n : ℕ). answer_with (Applied (Exchanged (ResponseRead (length bytes))) ∷ [])
     (Read NoError (record { request_count = n == most; character = is_some term; end = true }) bytes)) (length-append answer (10 ∷ [])))
 
-chosen : (bytes got : List ℕ) (most : ℕ) (term : Option ℕ) (other : CallOutcome) → got ≡ bytes → is_something bytes ≡ true
+nonempty_response_is_read : (bytes got : List ℕ) (most : ℕ) (term : Option ℕ) (other : CallOutcome) → got ≡ bytes
+    → is_something bytes ≡ true
     → cond (is_something got) (reads got most term) other ≡ reads bytes most term
-chosen bytes got most term other is some = rw (is, some) refl
+nonempty_response_is_read bytes got most term other is some = rw (is, some) refl
 
-pub some_line : (answer : List ℕ) → is_something (answer ++ 10 ∷ []) ≡ true
-some_line [] = refl
-some_line (b ∷ answer) = refl
+pub line_is_nonempty : (answer : List ℕ) → is_something (answer ++ 10 ∷ []) ≡ true
+line_is_nonempty [] = refl
+line_is_nonempty (b ∷ answer) = refl
 
-pub line_fits : (term : Option ℕ) (most : ℕ) (answer : List ℕ) → OneRead term most answer
+pub one_read_holds_line : (term : Option ℕ) (most : ℕ) (answer : List ℕ) → OneRead term most answer
     → (length (answer ++ 10 ∷ []) ≤ most) × (length (answer ++ 10 ∷ []) ≤ max_read)
-line_fits term most answer fits =
+one_read_holds_line term most answer fits =
     let size = length-append answer (10 ∷ []) in
     let one = fits.0 in
     let other = fits.1 in (omega (arith, size, one), omega (arith, size, other))
@@ -151,14 +157,14 @@ pub reads_whole : (answer : List ℕ) (most : ℕ) (term : Option ℕ) (acts : L
     → OneRead term most answer → device_read most term acts ≡ whole_read most term answer
 reads_whole answer most term acts is fits =
     let bytes = answer ++ 10 ∷ [] in
-    let room = line_fits term most answer fits in
-    chosen bytes (response (exchange_acts acts)) most term _ is (some_line answer)
+    let room = one_read_holds_line term most answer fits in
+    nonempty_response_is_read bytes (response (exchange_acts acts)) most term _ is (line_is_nonempty answer)
     ∙ by_count answer most (read_count bytes most term) term
-    (counts_all bytes most term (term_all term answer fits.2) room.0 room.1) fits.2
+    (counts_all bytes most term (term_ends_at_whole term answer fits.2) room.0 room.1) fits.2
 
-pub answers_read : (bytes : List ℕ) (acts : List DeviceAct) → response (exchange_acts acts) ≡ bytes → is_something bytes ≡ true
+pub response_makes_answerable : (bytes : List ℕ) (acts : List DeviceAct) → response (exchange_acts acts) ≡ bytes → is_something bytes ≡ true
     → is_answerable (instrument_acts acts) ≡ true
-answers_read bytes acts is some = rw (is, some) refl
+response_makes_answerable bytes acts is some = rw (is, some) refl
 
 read_admitted : (config : Config) (polled c lid most io_timeout lock_timeout flags term_char : ℕ) (answer : List ℕ) (acts : List DeviceAct)
     → IsFree c lid acts → response (exchange_acts acts) ≡ answer ++ 10 ∷ [] → OneRead (term_of flags term_char) most answer
@@ -166,14 +172,15 @@ read_admitted : (config : Config) (polled c lid most io_timeout lock_timeout fla
     (stop_of c (OnLink (pos lid) (DeviceRead most io_timeout lock_timeout flags term_char)) acts) acts
     ≡ whole_read most (term_of flags term_char) answer
 read_admitted config polled c lid most io_timeout lock_timeout flags term_char answer acts f is fits =
-    let can = answers_read (answer ++ 10 ∷ []) acts is (some_line answer) in
-    rw (is_own c lid acts f, f.unlocked, can) (reads_whole answer most (term_of flags term_char) acts is fits)
+    let can = response_makes_answerable (answer ++ 10 ∷ []) acts is (line_is_nonempty answer) in
+    rw (free_link_is_own c lid acts f, f.unlocked, can) (reads_whole answer most (term_of flags term_char) acts is fits)
 
 pub turn_reads : (config : Config) (polled c lid most io_timeout lock_timeout flags term_char : ℕ) (answer : List ℕ) (log : List Act)
     (n : NextIs lid (DeviceRead most io_timeout lock_timeout flags term_char) (of c log)) → IsFree c lid (device_acts log)
     → response (exchange_acts (device_acts log)) ≡ answer ++ 10 ∷ [] → OneRead (term_of flags term_char) most answer
     → own_acts config polled (Turn c) log ++ log
-    ≡ is_read c n.bytes (result_reply n.xid (whole most (term_of flags term_char) answer)) (length (answer ++ 10 ∷ [])) log
+    ≡ log_after_read c n.bytes (result_reply n.xid (whole most (term_of flags term_char) answer)) (length (answer ++ 10 ∷ [])) log
 turn_reads config polled c lid most io_timeout lock_timeout flags term_char answer log n f is fits =
-    turn_of config polled c lid (DeviceRead most io_timeout lock_timeout flags term_char) (whole_read most (term_of flags term_char) answer)
+    turn_adds_outcome config polled c lid (DeviceRead most io_timeout lock_timeout flags term_char)
+        (whole_read most (term_of flags term_char) answer)
     log n (read_admitted config polled c lid most io_timeout lock_timeout flags term_char answer (device_acts log) f is fits)

@@ -39,13 +39,13 @@ use Rattle.sv_history.specs.Execution.{request_effect, aborts}
 use Rattle.sv_history.specs.Resuming.{leaving, resume_outcome, next_wait, effect_of, failure_effect, late}
 use Rattle.sv_history.specs.Settling.{IsNext}
 use Rattle.sv_history.specs.History.{abort_acts, turn_acts, own_acts, IsLogOf}
-use Rattle.sv_history.proofs.Projections.{device_shared, device_effect, instrument_acts_happened, instrument_acts_links}
-use Rattle.sv_laws.proofs.Facts.{all_join}
-use Rattle.sv_laws.proofs.EveryLog.EachEvent.{each_log, turn_parts, refuse_keeps, close_adds, device_closed}
+use Rattle.sv_history.proofs.Projections.{device_acts_append, device_effect, instrument_acts_applied, instrument_acts_links}
+use Rattle.sv_laws.proofs.Facts.{all_append}
+use Rattle.sv_laws.proofs.EveryLog.EachEvent.{induction_over_history, turn_acts_in_order, refuse_keeps, close_acts, device_acts_of_close}
 use Rattle.sv_instrument.specs.HeldUnit.{held_unit}
 use Rattle.sv_layers.specs.Act.{exchange_acts as exchanged}
 use Rattle.sv_laws.proofs.Alone.Texts.{Left as Nothing, rest_unended, rest_short}
-use Rattle.sv_laws.proofs.Alone.Sound.{IsTame, Fresh, Sound, sound_tame, step_sound}
+use Rattle.sv_laws.proofs.Alone.Sound.{IsTame, NothingExecuted, Sound, sound_tame, step_sound}
 
 -- ---- acts of the device
 
@@ -53,16 +53,17 @@ abbrev Tame : DeviceAct → Type 0
 Tame (Applied act) = IsTame act
 Tame _ = ⊤
 
-abbrev IsSo : List Act → Type 0
-IsSo log = Sound (instrument_acts (device_acts log))
+abbrev IsSoundLog : List Act → Type 0
+IsSoundLog log = Sound (instrument_acts (device_acts log))
 
 tame_more : (adds acts : List DeviceAct) → AllByRecursion Tame adds → Sound (instrument_acts acts) → Sound (instrument_acts (adds ++ acts))
 tame_more [] acts tame s = s
 tame_more (Applied act ∷ adds) acts tame s = sound_tame act (instrument_acts (adds ++ acts)) tame.0 (tame_more adds acts tame.1 s)
 tame_more (_ ∷ adds) acts tame s = tame_more adds acts tame.1 s
 
-effect_so : (c : ℕ) (effect : Effect) (log : List Act) → AllByRecursion Tame effect.adds → IsSo log → IsSo (acts_of c effect ++ log)
-effect_so c effect log tame s = subst (λ (l : List DeviceAct). Sound (instrument_acts l)) (sym (device_effect c effect log))
+effect_keeps_sound : (c : ℕ) (effect : Effect) (log : List Act) → AllByRecursion Tame effect.adds → IsSoundLog log
+    → IsSoundLog (acts_of c effect ++ log)
+effect_keeps_sound c effect log tame s = subst (λ (l : List DeviceAct). Sound (instrument_acts l)) (sym (device_effect c effect log))
     (tame_more effect.adds (device_acts log) tame s)
 
 -- ---- calls
@@ -117,7 +118,7 @@ all_tame config polled c DestroyIntrChan acts =
 all_tame config polled c _ acts = tt
 
 tame_leaving : (c : ℕ) (outcome : CallOutcome) → AllByRecursion Tame outcome.adds → AllByRecursion Tame (leaving c outcome).adds
-tame_leaving c outcome tame = all_join Tame outcome.adds (Waited (Left c) ∷ []) tame (tt, tt)
+tame_leaving c outcome tame = all_append Tame outcome.adds (Waited (Left c) ∷ []) tame (tt, tt)
 
 tame_resumed : (config : Config) (polled c : ℕ) (arguments : Arguments) (next : Option (Wait × ℕ)) (acts : List DeviceAct)
     → AllByRecursion Tame (resume_outcome config polled c arguments next acts).adds
@@ -135,9 +136,9 @@ tame_effect : (c : ℕ) (does : Arguments → CallOutcome) (call : Option CoreCa
 tame_effect c does (Some call) tame = tame call.arguments
 tame_effect c does None tame = (tt, tt)
 
-failed_so : (error : ErrorCode) (c : ℕ) (call : Option CoreCall) (log : List Act) → IsSo log
-    → IsSo (acts_of c (failure_effect error c call) ++ log)
-failed_so error c call log = effect_so c (failure_effect error c call) log
+failing_call_keeps_sound : (error : ErrorCode) (c : ℕ) (call : Option CoreCall) (log : List Act) → IsSoundLog log
+    → IsSoundLog (acts_of c (failure_effect error c call) ++ log)
+failing_call_keeps_sound error c call log = effect_keeps_sound c (failure_effect error c call) log
     (tame_effect c (λ arguments. leaving c (only (failure arguments error))) call
     (λ arguments. tame_leaving c (only (failure arguments error)) tt))
 
@@ -153,106 +154,110 @@ tame_request config polled c (CoreRequest call) acts =
     tame_admitted config polled c call.arguments (stop_of c call.arguments acts) acts
 tame_request config polled c _ acts = tt
 
-aborted_so : (found : Option ℕ) (log : List Act) → IsSo log → IsSo (abort_acts found log ++ log)
-aborted_so (Some d) log s = failed_so Abort d (core_call_in (pending_call (of d log))) log s
+aborted_so : (found : Option ℕ) (log : List Act) → IsSoundLog log → IsSoundLog (abort_acts found log ++ log)
+aborted_so (Some d) log s = failing_call_keeps_sound Abort d (core_call_in (pending_call (of d log))) log s
 aborted_so None log s = s
 
-turn_so : (config : Config) (polled c : ℕ) (found : Option (List ℕ)) (asked : Option Request) (log : List Act) → IsSo log
-    → IsSo (turn_acts config polled c found asked log ++ log)
-turn_so config polled c (Some bytes) (Some request) log s =
+turn_keeps_sound : (config : Config) (polled c : ℕ) (found : Option (List ℕ)) (asked : Option Request) (log : List Act) → IsSoundLog log
+    → IsSoundLog (turn_acts config polled c found asked log ++ log)
+turn_keeps_sound config polled c (Some bytes) (Some request) log s =
     let effect = request_effect config polled c request (device_acts log) in
     let taken = acts_of c effect ++ On c (CallTaken bytes) ∷ log in
-    subst IsSo (sym (turn_parts c bytes effect (aborts request (device_acts log)) log)) (aborted_so (aborts request (device_acts log)) taken
-    (effect_so c effect (On c (CallTaken bytes) ∷ log) (tame_request config polled c request (device_acts log)) s))
-turn_so config polled c _ _ log s = s
+    subst IsSoundLog (sym (turn_acts_in_order c bytes effect (aborts request (device_acts log)) log))
+        (aborted_so (aborts request (device_acts log)) taken
+    (effect_keeps_sound c effect (On c (CallTaken bytes) ∷ log) (tame_request config polled c request (device_acts log)) s))
+turn_keeps_sound config polled c _ _ log s = s
 
 -- ---- steps and events
 
 happened_so : (adds : List InstrumentAct) (log : List Act) → Sound (adds ++ instrument_acts (device_acts log))
-    → IsSo (map OnDevice (map Applied adds) ++ log)
-happened_so adds log s = subst Sound (sym (ap instrument_acts (device_shared (map Applied adds) log)
-    ∙ instrument_acts_happened adds (device_acts log))) s
+    → IsSoundLog (map OnDevice (map Applied adds) ++ log)
+happened_so adds log s = subst Sound (sym (ap instrument_acts (device_acts_append (map Applied adds) log)
+    ∙ instrument_acts_applied adds (device_acts log))) s
 
-next_so : (config : Config) (log new : List Act) → IsSo log → IsNext config log new → IsSo new
-next_so config log new s (inl (adds, such, is)) = subst IsSo (sym is) (happened_so adds log (subst Sound (sym such.1)
+step_keeps_sound : (config : Config) (log new : List Act) → IsSoundLog log → IsNext config log new → IsSoundLog new
+step_keeps_sound config log new s (inl (adds, such, is)) = subst IsSoundLog (sym is) (happened_so adds log (subst Sound (sym such.1)
     (sound_tame (Scanned (ScanTrigger Immediate)) (instrument_acts (device_acts log)) tt s)))
-next_so config log new s (inr (none, inl (c, wait, polled, oldest, for, said, is))) =
+step_keeps_sound config log new s (inr (none, inl (c, wait, polled, oldest, for, said, is))) =
     let call = core_call_in (pending_call (of c log)) in
     let does = λ (arguments : Arguments). resume_outcome config polled c arguments (next_wait wait arguments (device_acts log))
     (device_acts log) in
-    subst IsSo (sym is) (effect_so c (effect_of c does call) log (tame_effect c does call (λ arguments.
+    subst IsSoundLog (sym is) (effect_keeps_sound c (effect_of c does call) log (tame_effect c does call (λ arguments.
     tame_resumed config polled c arguments (next_wait wait arguments (device_acts log)) (device_acts log))) s)
-next_so config log new s (inr (none, inr (still, inl (adds, step, is)))) =
-    subst IsSo (sym is) (happened_so adds log (step_sound (instrument_acts (device_acts log)) (adds ++ instrument_acts (device_acts log))
+step_keeps_sound config log new s (inr (none, inr (still, inl (adds, step, is)))) =
+    subst IsSoundLog (sym is)
+        (happened_so adds log (step_sound (instrument_acts (device_acts log)) (adds ++ instrument_acts (device_acts log))
     step s))
-next_so config log new s (inr (none, inr (still, inr (idle, (c, wait, oldest, for, is))))) =
-    subst IsSo (sym is) (failed_so (late wait) c (core_call_in (pending_call (of c log))) log s)
+step_keeps_sound config log new s (inr (none, inr (still, inr (idle, (c, wait, oldest, for, is))))) =
+    subst IsSoundLog (sym is) (failing_call_keeps_sound (late wait) c (core_call_in (pending_call (of c log))) log s)
 
-ticked_so : (now : State) (log : List Act) → IsSo log
-    → IsSo ((map OnDevice (map Applied (where_scanning now)) ++ OnDevice Ticked ∷ []) ++ log)
+ticked_so : (now : State) (log : List Act) → IsSoundLog log
+    → IsSoundLog ((map OnDevice (map Applied (where_scanning now)) ++ OnDevice Ticked ∷ []) ++ log)
 ticked_so Scanning log s = s
 ticked_so _ log s = s
 
-triggered_so : (fault : Option Code) (log : List Act) → IsSo log → IsSo (map OnDevice (map Applied (or_nothing fault)) ++ log)
+triggered_so : (fault : Option Code) (log : List Act) → IsSoundLog log → IsSoundLog (map OnDevice (map Applied (or_nothing fault)) ++ log)
 triggered_so None log s = s
 triggered_so (Some code) log s = s
 
-closed_so : (c : ℕ) (log : List Act) → IsSo log → IsSo (map OnDevice (close_adds c (device_acts log)) ++ On c PortClosed ∷ log)
+closed_so : (c : ℕ) (log : List Act) → IsSoundLog log → IsSoundLog (map OnDevice (close_acts c (device_acts log)) ++ On c PortClosed ∷ log)
 closed_so c log s =
-    subst Sound (sym (ap instrument_acts (device_closed c log)
+    subst Sound (sym (ap instrument_acts (device_acts_of_close c log)
     ∙ instrument_acts_links (closing c (link_acts (device_acts log))) (Waited (Left c) ∷ device_acts log))) s
 
-event_so : (config : Config) (polled : ℕ) (event : PlainEvent) (log : List Act) → IsSo log → IsSo (own_acts config polled event log ++ log)
-event_so config polled (Open d role) log s = s
-event_so config polled (Bytes d piece) log s = s
-event_so config polled (Turn d) log s = turn_so config polled d (next_call (of d log)) (next_request (of d log)) log s
-event_so config polled (Refuse d) log s =
-    refuse_keeps IsSo d (next_call (of d log)) (refusable (of d log)) log s (λ bytes call e f. s)
-event_so config polled (Took (Conn d) count) log s = s
-event_so config polled (Took (Intr d) count) log s = s
-event_so config polled (Close (Conn d)) log s =
-    subst IsSo (sym (append_assoc (map OnDevice (close_adds d (device_acts log))) (On d PortClosed ∷ []) log)) (closed_so d log s)
-event_so config polled (Close (Intr d)) log s = s
-event_so config polled (Dialed d ok) log s =
+event_keeps_sound : (config : Config) (polled : ℕ) (event : PlainEvent) (log : List Act) → IsSoundLog log
+    → IsSoundLog (own_acts config polled event log ++ log)
+event_keeps_sound config polled (Open d role) log s = s
+event_keeps_sound config polled (Bytes d piece) log s = s
+event_keeps_sound config polled (Turn d) log s = turn_keeps_sound config polled d (next_call (of d log)) (next_request (of d log)) log s
+event_keeps_sound config polled (Refuse d) log s =
+    refuse_keeps IsSoundLog d (next_call (of d log)) (refusable (of d log)) log s (λ bytes call e f. s)
+event_keeps_sound config polled (Took (Conn d) count) log s = s
+event_keeps_sound config polled (Took (Intr d) count) log s = s
+event_keeps_sound config polled (Close (Conn d)) log s =
+    subst IsSoundLog (sym (append_assoc (map OnDevice (close_acts d (device_acts log))) (On d PortClosed ∷ []) log)) (closed_so d log s)
+event_keeps_sound config polled (Close (Intr d)) log s = s
+event_keeps_sound config polled (Dialed d ok) log s =
     let call = core_call_in (pending_call (of d log)) in
     let does = λ (arguments : Arguments). leaving d (connect_outcome d ok arguments) in
-    effect_so d (effect_of d does call) log (tame_effect d does call
+    effect_keeps_sound d (effect_of d does call) log (tame_effect d does call
     (λ arguments. tame_leaving d (connect_outcome d ok arguments) (tame_connected d ok arguments))) s
-event_so config polled (Input channel microvolts) log s = s
-event_so config polled External log s = triggered_so _ log s
-event_so config polled Tick log s = ticked_so _ log s
+event_keeps_sound config polled (Input channel microvolts) log s = s
+event_keeps_sound config polled External log s = triggered_so _ log s
+event_keeps_sound config polled Tick log s = ticked_so _ log s
 
 sound_log : (config : Config) (history : List PlainEvent) (log : List Act) → IsLogOf config history log
     → Sound (instrument_acts (device_acts log))
-sound_log config = each_log config IsSo (inr (refl, (refl, refl, refl)), λ h. absurd cc)
-    (λ event polled channel_log log is_event free s. event_so config polled event log s) (next_so config)
+sound_log config = induction_over_history config IsSoundLog (inr (refl, (refl, refl, refl)), λ h. absurd cc)
+    (λ event polled channel_log log is_event free s. event_keeps_sound config polled event log s) (step_keeps_sound config)
 
 -- ---- at rest
 
-still_fresh : (acts : List InstrumentAct) → Sound acts → has_ended (exchanged acts) ≡ false
-    → (held_unit acts ≡ None) × Fresh (current (exchanged acts))
-still_fresh acts (inl e, long) unended = absurd (let z : true ≡ false = sym e ∙ unended in cc)
-still_fresh acts (inr fresh, long) unended = fresh
+unended_is_fresh : (acts : List InstrumentAct) → Sound acts → has_ended (exchanged acts) ≡ false
+    → (held_unit acts ≡ None) × NothingExecuted (current (exchanged acts))
+unended_is_fresh acts (inl e, long) unended = absurd (let z : true ≡ false = sym e ∙ unended in cc)
+unended_is_fresh acts (inr fresh, long) unended = fresh
 
 -- A message that isn't too long wasn't reported as too long.
-none_told : (acts : List InstrumentAct) → Sound acts → is_long (exchanged acts) ≡ false → has_overrun (current (exchanged acts)) ≡ false
-none_told acts s short = elim (cases_Bool (has_overrun (current (exchanged acts)))) [
+short_message_not_overrun : (acts : List InstrumentAct) → Sound acts → is_long (exchanged acts) ≡ false
+    → has_overrun (current (exchanged acts)) ≡ false
+short_message_not_overrun acts s short = elim (cases_Bool (has_overrun (current (exchanged acts)))) [
   | inl e ↦ absurd (let z : true ≡ false = sym (s.1 e) ∙ short in cc)
   | inr e ↦ e
 ]
 
 -- If all text was executed, no unit of the current message was executed, and no unit is held.
-pub rests : (config : Config) (history : List PlainEvent) (log : List Act) → IsLogOf config history log
+pub all_executed_is_at_rest : (config : Config) (history : List PlainEvent) (log : List Act) → IsLogOf config history log
     → drop (messages_finished (exchange_acts (device_acts log))) (messages (text (exchange_acts (device_acts log)))) ≡ [] ∷ []
     → Nothing ([] ∷ []) (exchange_acts (device_acts log)) × (held_unit (instrument_acts (device_acts log)) ≡ None)
-rests config history log is_log left =
+all_executed_is_at_rest config history log is_log left =
     let acts = instrument_acts (device_acts log) in
     let sound = sound_log config history log is_log in
-    let fresh = still_fresh acts sound (rest_unended (exchanged acts) left) in (
+    let fresh = unended_is_fresh acts sound (rest_unended (exchanged acts) left) in (
       record {
         left = left;
         done = fresh.1.0;
-        overrun = none_told acts sound (rest_short (exchanged acts) left);
+        overrun = short_message_not_overrun acts sound (rest_short (exchanged acts) left);
         dropped = fresh.1.1;
         given = fresh.1.2;
       },

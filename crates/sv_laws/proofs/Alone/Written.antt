@@ -10,7 +10,7 @@ use Rattle.sv_layers.specs.declared.change.RegisterChange.TheVariants.{ReadEvent
 use Rattle.sv_layers.specs.declared.change.StatusChange.TheVariants.{Register}
 use Rattle.sv_layers.specs.Act.{Act as InstrumentAct, Exchanged, EntryTaken, exchange_acts, scan_acts, queue_acts, StatusChanged}
 use Rattle.sv_layers.specs.Standard.{Stands}
-use Rattle.sv_logs.proofs.Since.{then_same}
+use Rattle.sv_logs.proofs.Since.{iff_transitive}
 use Rattle.sv_instrument.specs.declared.command.order.Order.TheVariants as order
 use Rattle.sv_instrument.specs.HeldUnit.{held_unit}
 use Rattle.sv_instrument.specs.Path.{Leaves, units_begun, one_if_held, IsPath}
@@ -21,47 +21,47 @@ use Rattle.sv_instrument.proofs.NextStep.{step_of}
 use Rattle.sv_history.specs.declared.event.Config.{Config}
 use Rattle.sv_history.specs.Act.{Act, Applied, of}
 use Rattle.sv_history.specs.Settling.{SettlesIn}
-use Rattle.sv_history.proofs.Projections.{of_shared}
+use Rattle.sv_history.proofs.Projections.{of_device_acts}
 use Rattle.sv_laws.specs.QueryAlone.{IsQuery, reported}
-use Rattle.sv_laws.proofs.Cuts.SameStatus.{status_same, status_accepted, status_back}
-use Rattle.sv_laws.proofs.Cuts.SameInstrument.{says_same, question_fault_same, taken_acts, taken_is}
+use Rattle.sv_laws.proofs.Cuts.SameStatus.{same_status_refl, text_keeps_same_status, same_status_sym}
+use Rattle.sv_laws.proofs.Cuts.SameInstrument.{says_same, question_fault_same, taken_acts, after_query_adds_taken}
 use Rattle.sv_laws.proofs.Cuts.FirstPart.{Resting}
-use Rattle.sv_laws.proofs.Alone.Texts.{Left, Over, answered, text_comes, unit_due, fits_alone, finish_due, finished_one, first_short}
-use Rattle.sv_laws.proofs.Alone.Steps.{stands_over, Stage, happened, stage_next, step_next, finish_step, finish_all}
+use Rattle.sv_laws.proofs.Alone.Texts.{Left, Over, answered, write_with_end_is_left, unit_due, short_answer_fits, finish_due, finishing_shows_response, first_short}
+use Rattle.sv_laws.proofs.Alone.Steps.{plain_act_keeps_standard, Stage, happened, stage_after_acts, step_next, finish_step, finishes_all_messages}
 
 -- ---- what a query removes or clears
 
-taken_exchange : (asked : Question) (log : List InstrumentAct) → exchange_acts (taken_acts asked ++ log) ≡ exchange_acts log
-taken_exchange question.StandardEvents log = refl
-taken_exchange question.Error log = refl
-taken_exchange (question.Events name) log = refl
-taken_exchange _ log = refl
+query_keeps_exchange : (asked : Question) (log : List InstrumentAct) → exchange_acts (taken_acts asked ++ log) ≡ exchange_acts log
+query_keeps_exchange question.StandardEvents log = refl
+query_keeps_exchange question.Error log = refl
+query_keeps_exchange (question.Events name) log = refl
+query_keeps_exchange _ log = refl
 
-taken_scan : (asked : Question) (log : List InstrumentAct) → scan_acts (taken_acts asked ++ log) ≡ scan_acts log
-taken_scan question.StandardEvents log = refl
-taken_scan question.Error log = refl
-taken_scan (question.Events name) log = refl
-taken_scan _ log = refl
+query_keeps_scan : (asked : Question) (log : List InstrumentAct) → scan_acts (taken_acts asked ++ log) ≡ scan_acts log
+query_keeps_scan question.StandardEvents log = refl
+query_keeps_scan question.Error log = refl
+query_keeps_scan (question.Events name) log = refl
+query_keeps_scan _ log = refl
 
-taken_queue : (asked : Question) (log : List InstrumentAct) → asked ≢ question.Error
+query_keeps_queue : (asked : Question) (log : List InstrumentAct) → asked ≢ question.Error
     → queue_acts (taken_acts asked ++ log) ≡ queue_acts log
-taken_queue question.StandardEvents log other = refl
-taken_queue question.Error log other = absurd (other refl)
-taken_queue (question.Events name) log other = refl
-taken_queue _ log other = refl
+query_keeps_queue question.StandardEvents log other = refl
+query_keeps_queue question.Error log other = absurd (other refl)
+query_keeps_queue (question.Events name) log other = refl
+query_keeps_queue _ log other = refl
 
-taken_codes : (asked : Question) (log : List InstrumentAct) → reported (taken_acts asked ++ log) ≡ reported log
-taken_codes question.StandardEvents log = refl
-taken_codes question.Error log = refl
-taken_codes (question.Events name) log = refl
-taken_codes _ log = refl
+query_keeps_reported : (asked : Question) (log : List InstrumentAct) → reported (taken_acts asked ++ log) ≡ reported log
+query_keeps_reported question.StandardEvents log = refl
+query_keeps_reported question.Error log = refl
+query_keeps_reported (question.Events name) log = refl
+query_keeps_reported _ log = refl
 
-taken_stands : (asked : Question) (log : List InstrumentAct) → asked ≢ question.StandardEvents → (k : ℕ)
+query_keeps_standard : (asked : Question) (log : List InstrumentAct) → asked ≢ question.StandardEvents → (k : ℕ)
     → Stands k (taken_acts asked ++ log) ↔ Stands k log
-taken_stands question.StandardEvents log other k = absurd (other refl)
-taken_stands question.Error log other k = stands_over k EntryTaken log tt
-taken_stands (question.Events name) log other k = stands_over k (StatusChanged (Register name ReadEvents)) log tt
-taken_stands _ log other k = ((λ h. h), (λ h. h))
+query_keeps_standard question.StandardEvents log other k = absurd (other refl)
+query_keeps_standard question.Error log other k = plain_act_keeps_standard k EntryTaken log tt
+query_keeps_standard (question.Events name) log other k = plain_act_keeps_standard k (StatusChanged (Register name ReadEvents)) log tt
+query_keeps_standard _ log other k = ((λ h. h), (λ h. h))
 
 -- ---- the unit
 
@@ -83,27 +83,30 @@ pub record Ready (asked : Question) (sent answer : List ℕ) (acts : List Instru
   pub short : length sent ≤ max_message
   pub fits : length answer < max_response
 
-pub at_root : (acts : List InstrumentAct) → units_done (current (exchange_acts acts)) ≡ 0 → held_unit acts ≡ None → IsPath acts []
-at_root acts none held =
+pub first_unit_is_at_root : (acts : List InstrumentAct) → units_done (current (exchange_acts acts)) ≡ 0 → held_unit acts ≡ None
+    → IsPath acts []
+first_unit_is_at_root acts none held =
     let now : one_if_held (held_unit acts) ≡ 0 = ap one_if_held held in
     let begun : units_begun acts ≡ 0 = omega (arith, none, now) in
     subst (λ (n : ℕ). Leaves (reverse (take n (units (message (exchange_acts acts))))) []) (sym begun) refl
 
-replies_to : (asked : Question) (answer : List ℕ) (acts : List InstrumentAct) (fault : Option Code) → fault ≡ None → Says asked acts answer
+query_adds_answer : (asked : Question) (answer : List ℕ) (acts : List InstrumentAct) (fault : Option Code) → fault ≡ None
+    → Says asked acts answer
     → fits_response (answers (UnitDone ∷ exchange_acts acts)) answer ≡ true
     → Replies fault asked acts (answer_acts asked answer ++ acts)
-replies_to asked answer acts fault none says fits =
+query_adds_answer asked answer acts fault none says fits =
     let left : after_answering answer (done (after_query asked acts)) ≡ after_answering answer (done (taken_acts asked ++ acts)) =
-    ap (λ (l : List InstrumentAct). after_answering answer (done l)) (taken_is asked acts) in
+    ap (λ (l : List InstrumentAct). after_answering answer (done l)) (after_query_adds_taken asked acts) in
     let room : fits_response (answers (UnitDone ∷ exchange_acts (taken_acts asked ++ acts))) answer ≡ true =
-    ap (λ (l : List ExchangeAct). fits_response (answers (UnitDone ∷ l)) answer) (taken_exchange asked acts) ∙ fits in
+    ap (λ (l : List ExchangeAct). fits_response (answers (UnitDone ∷ l)) answer) (query_keeps_exchange asked acts) ∙ fits in
     let is : answer_acts asked answer ++ acts ≡ after_answering answer (done (taken_acts asked ++ acts)) = rw room refl in
     subst (λ (f : Option Code). Replies f asked acts (answer_acts asked answer ++ acts)) (sym none) (answer, says, is ∙ sym left)
 
 -- After the write, the message of the query is the first one that isn't finished.
-text_left : (asked : Question) (sent answer : List ℕ) (acts : List InstrumentAct) (r : Ready asked sent answer acts)
+write_leaves_query : (asked : Question) (sent answer : List ℕ) (acts : List InstrumentAct) (r : Ready asked sent answer acts)
     → Left (r.query.message ∷ [] ∷ replicate r.query.lines []) (exchange_acts (accepted sent acts))
-text_left asked sent answer acts r = text_comes sent ([] ∷ replicate r.query.lines []) r.query.message (exchange_acts acts) r.left
+write_leaves_query asked sent answer acts r = write_with_end_is_left sent ([] ∷ replicate r.query.lines []) r.query.message
+    (exchange_acts acts) r.left
     r.query.cut
 
 message_short : (asked : Question) (sent answer : List ℕ) (acts : List InstrumentAct) (r : Ready asked sent answer acts)
@@ -116,8 +119,8 @@ unit_step : (asked : Question) (sent answer : List ℕ) (acts : List InstrumentA
     → IsStep (accepted sent acts) (answer_acts asked answer ++ accepted sent acts)
 unit_step asked sent answer acts r =
     let now = accepted sent acts in
-    let same = status_back now acts (status_accepted sent true acts acts (status_same acts)) in
-    let left = text_left asked sent answer acts r in
+    let same = same_status_sym now acts (text_keeps_same_status sent true acts acts (same_status_refl acts)) in
+    let left = write_leaves_query asked sent answer acts r in
     let fault : question_fault asked now ≡ None = sym (question_fault_same asked acts now same) ∙ r.can in
     step_of now (answer_acts asked answer ++ now) None (UnitDue r.query.unit) (sym r.held)
     (sym (unit_due r.query.message [] r.query.unit (replicate r.query.lines []) (exchange_acts now) left
@@ -125,10 +128,10 @@ unit_step asked sent answer acts r =
       [],
       r.query.path,
       Ok (order.Ask asked),
-      at_root now left.done r.held,
+      first_unit_is_at_root now left.done r.held,
       r.query.reads,
-      replies_to asked answer now (question_fault asked now) fault (says_same asked acts now same answer r.says)
-          (fits_alone answer (r.query.message ∷ [] ∷ replicate r.query.lines []) (exchange_acts now) left r.fits),
+      query_adds_answer asked answer now (question_fault asked now) fault (says_same asked acts now same answer r.says)
+          (short_answer_fits answer (r.query.message ∷ [] ∷ replicate r.query.lines []) (exchange_acts now) left r.fits),
     )
 
 -- ---- all steps
@@ -155,18 +158,19 @@ responds c config asked sent answer base log acts rest r s =
     let now = accepted sent acts in
     let adds = answer_acts asked answer in
     let over : List InstrumentAct = Exchanged Finished ∷ [] in
-    let left = text_left asked sent answer acts r in
+    let left = write_leaves_query asked sent answer acts r in
     let same : exchange_acts (adds ++ now) ≡ answered answer (exchange_acts now) =
-    ap (λ (l : List ExchangeAct). answered answer l) (taken_exchange asked now) in
+    ap (λ (l : List ExchangeAct). answered answer l) (query_keeps_exchange asked now) in
     let finish : due (exchange_acts (adds ++ now)) ≡ FinishDue =
     ap due same ∙ finish_due r.query.message [] r.query.unit answer (replicate r.query.lines []) (exchange_acts now) left
     (message_short asked sent answer acts r) r.query.one in
-    let first = stage_next base log adds now s (taken_scan asked now) in
-    let second = stage_next base (happened adds log) over (adds ++ now) first refl in
+    let first = stage_after_acts base log adds now s (query_keeps_scan asked now) in
+    let second = stage_after_acts base (happened adds log) over (adds ++ now) first refl in
     let done_now : Over r.query.lines (answer ++ 10 ∷ []) (exchange_acts (over ++ (adds ++ now))) =
     subst (λ (l : List ExchangeAct). Over r.query.lines (answer ++ 10 ∷ []) (Finished ∷ l)) (sym same)
-    (finished_one r.query.lines r.query.message answer (exchange_acts now) left) in
-    let more = finish_all c r.query.lines config base (happened over (happened adds log)) (over ++ (adds ++ now)) (answer ++ 10 ∷ []) rest
+    (finishing_shows_response r.query.lines r.query.message answer (exchange_acts now) left) in
+    let more = finishes_all_messages c r.query.lines config base (happened over (happened adds log)) (over ++ (adds ++ now))
+        (answer ++ 10 ∷ []) rest
     second done_now refl in
     record {
       end = more.end;
@@ -184,11 +188,12 @@ responds c config asked sent answer base log acts rest r s =
       stage = more.stage;
       over = more.over;
       held = more.held;
-      mine = more.mine ∙ of_shared c (map Applied adds) log;
-      codes = more.codes ∙ taken_codes asked now;
-      queue = λ other. more.queue ∙ taken_queue asked now other;
-      stands = λ other k. then_same (more.stands k) (then_same (stands_over k (Exchanged Finished) (adds ++ now) tt)
-          (then_same (stands_over k (Exchanged (Answered answer)) (Exchanged UnitDone ∷ taken_acts asked ++ now) tt)
-          (then_same (stands_over k (Exchanged UnitDone) (taken_acts asked ++ now) tt)
-          (then_same (taken_stands asked now other k) (stands_over k (Exchanged (Accepted sent true)) acts tt)))));
+      mine = more.mine ∙ of_device_acts c (map Applied adds) log;
+      codes = more.codes ∙ query_keeps_reported asked now;
+      queue = λ other. more.queue ∙ query_keeps_queue asked now other;
+      stands = λ other k. iff_transitive (more.stands k) (iff_transitive (plain_act_keeps_standard k (Exchanged Finished) (adds ++ now) tt)
+          (iff_transitive (plain_act_keeps_standard k (Exchanged (Answered answer)) (Exchanged UnitDone ∷ taken_acts asked ++ now) tt)
+          (iff_transitive (plain_act_keeps_standard k (Exchanged UnitDone) (taken_acts asked ++ now) tt)
+          (iff_transitive (query_keeps_standard asked now other k)
+              (plain_act_keeps_standard k (Exchanged (Accepted sent true)) acts tt)))));
     }

@@ -15,9 +15,9 @@ use Rattle.sv_history.specs.History.{taken_acts, turn_acts, own_acts, IsLogOf}
 use Rattle.sv_laws.specs.Cuts.{IsFeeding, without_pieces}
 use Rattle.sv_laws.proofs.OneLog.{one_log}
 use Rattle.sv_history.proofs.StillSettled.{still_settled}
-use Rattle.sv_laws.proofs.EveryLog.Steps.{log_settled, stays}
-use Rattle.sv_laws.proofs.Cuts.NoCallTaken.{adds_then, settles_none, taking_none, bare_append, Follows, follows, taken_once}
-use Rattle.sv_laws.proofs.Cuts.BytesBehind.{CameBehind, behind_none, behind_piece, behind_then, behind_bare}
+use Rattle.sv_laws.proofs.EveryLog.Steps.{log_settled, settled_log_stays}
+use Rattle.sv_laws.proofs.Cuts.NoCallTaken.{adds_then, steps_take_no_call, taken_acts_take_no_other, without_pieces_append, FollowsCall, follows_call, taken_once}
+use Rattle.sv_laws.proofs.Cuts.BytesBehind.{AddsOnlyPieces, no_pieces_added, one_piece_added, pieces_then_pieces, pieces_leave_other_acts}
 
 -- ---- one event
 
@@ -33,7 +33,7 @@ pub record Taking (c : ℕ) (config : Config) (call : List ℕ) (base log : List
       (taken_acts c call (request_effect config polled c request (device_acts base)) (aborts request (device_acts base)) base ++ base) log
 
 abbrev Turned : ℕ → Config → List Act → List Act → Type 0
-Turned c config base log = CameBehind c base log ⊎ ((call : List ℕ) × Taking c config call base log)
+Turned c config base log = AddsOnlyPieces c base log ⊎ ((call : List ℕ) × Taking c config call base log)
 
 turned : (c : ℕ) (config : Config) (polled steps : ℕ) (call : Option (List ℕ)) (request : Option Request) (base log : List Act)
     → IsSettled config base → IsPolled polled (device_acts base) → next_call (of c base) ≡ call → next_request (of c base) ≡ request
@@ -43,15 +43,15 @@ turned c config polled steps (Some call) (Some request) base log settled said ne
   record { request = request; polled = polled; steps = steps; next = next; asks = asks; said = said; settles = settles },
 )
 turned c config polled steps _ _ base log settled said next asks settles =
-    inl (behind_none c base log (stays steps config base log settled settles))
+    inl (no_pieces_added c base log (settled_log_stays steps config base log settled settles))
 
 fed_event : (c : ℕ) (config : Config) (event : PlainEvent) (past : List PlainEvent) (log : List Act) → IsFeeding c event
     → (is_log : IsLogOf config (event ∷ past) log) → Turned c config is_log.0 log
 fed_event c config (Bytes d piece) past log same (base, polled, channel_log, is_event, was, hears, free, said, settles) =
     let settled = log_settled config past base was in
     let is : log ≡ On d (Piece piece) ∷ base =
-    stays settles.0 config (On d (Piece piece) ∷ base) log (still_settled d (Piece piece) config base settled) settles.1 in
-    inl (behind_piece c piece base base log (is ∙ ap (λ (e : ℕ). On e (Piece piece) ∷ base) same) (behind_none c base base refl))
+    settled_log_stays settles.0 config (On d (Piece piece) ∷ base) log (still_settled d (Piece piece) config base settled) settles.1 in
+    inl (one_piece_added c piece base base log (is ∙ ap (λ (e : ℕ). On e (Piece piece) ∷ base) same) (no_pieces_added c base base refl))
 fed_event c config (Turn d) past log same (base, polled, channel_log, is_event, was, hears, free, said, settles) =
     turned c config polled settles.0 (next_call (of c base)) (next_request (of c base)) base log (log_settled config past base was) said
     refl refl
@@ -60,13 +60,15 @@ fed_event c config _ past log same is_log = absurd same
 
 -- The connection's acts are those before the call, the taking of the call, and then acts that take
 -- no call.
-pub shows : (c : ℕ) (config : Config) (call : List ℕ) (base log : List Act) → Taking c config call base log → Follows c call base log
-shows c config call base log taking = follows c call base log (adds_then (On c (CallTaken call) ∷ base) _ log
-    (taking_none config taking.polled c call taking.request _ base) (settles_none taking.steps config _ log taking.settles))
+pub call_shows_in_acts : (c : ℕ) (config : Config) (call : List ℕ) (base log : List Act) → Taking c config call base log
+    → FollowsCall c call base log
+call_shows_in_acts c config call base log taking = follows_call c call base log (adds_then (On c (CallTaken call) ∷ base) _ log
+    (taken_acts_take_no_other config taking.polled c call taking.request _ base)
+        (steps_take_no_call taking.steps config _ log taking.settles))
 
-pub shown_bare : (c : ℕ) (call : List ℕ) (base log : List Act) (shown : Follows c call base log)
+pub shown_bare : (c : ℕ) (call : List ℕ) (base log : List Act) (shown : FollowsCall c call base log)
     → without_pieces (of c log) ≡ without_pieces shown.0 ++ CallTaken call ∷ without_pieces (of c base)
-shown_bare c call base log shown = ap without_pieces shown.2 ∙ bare_append shown.0 (CallTaken call ∷ of c base)
+shown_bare c call base log shown = ap without_pieces shown.2 ∙ without_pieces_append shown.0 (CallTaken call ∷ of c base)
 
 -- ---- events without a call
 
@@ -74,8 +76,8 @@ shown_bare c call base log shown = ap without_pieces shown.2 ∙ bare_append sho
 abbrev count : ℕ → List Act → ℕ
 count c log = length (without_pieces (of c log))
 
-counted : (c : ℕ) (call : List ℕ) (base log : List Act) → Follows c call base log → count c base + 1 ≤ count c log
-counted c call base log shown =
+call_adds_to_count : (c : ℕ) (call : List ℕ) (base log : List Act) → FollowsCall c call base log → count c base + 1 ≤ count c log
+call_adds_to_count c call base log shown =
     let size : count c log ≡ length (without_pieces shown.0 ++ CallTaken call ∷ without_pieces (of c base)) =
     ap (λ (l : List ConnAct). length l) (shown_bare c call base log shown) in
     omega (arith, size, length-append (without_pieces shown.0) (CallTaken call ∷ without_pieces (of c base)))
@@ -88,24 +90,26 @@ no_fewer c config past (event ∷ events) before log feeding was is_log =
     let least = no_fewer c config past events before is_log.0 feeding.1 was is_log.4 in
     elim (fed_event c config event (events ++ past) log feeding.0 is_log) [
       | inl came ↦
-          let same : count c log ≡ count c is_log.0 = ap (λ (l : List ConnAct). length l) (behind_bare c is_log.0 log came) in
+          let same : count c log ≡ count c is_log.0 = ap (λ (l : List ConnAct). length l) (pieces_leave_other_acts c is_log.0 log came) in
           omega (arith, least, same)
       | inr taken ↦
-          let more = counted c taken.0 is_log.0 log (shows c config taken.0 is_log.0 log taken.1) in omega (arith, least, more)
+          let more = call_adds_to_count c taken.0 is_log.0 log (call_shows_in_acts c config taken.0 is_log.0 log taken.1) in
+              omega (arith, least, more)
     ]
 
 -- If the events added only pieces to the connection's acts, they added only these pieces to the
 -- log.
 pub only_bytes : (c : ℕ) (config : Config) (past events : List PlainEvent) (before log : List Act) → AllByRecursion (IsFeeding c) events
     → IsLogOf config past before → IsLogOf config (events ++ past) log → without_pieces (of c log) ≡ without_pieces (of c before)
-    → CameBehind c before log
-only_bytes c config past [] before log feeding was is_log same = behind_none c before log (one_log config past log before is_log was)
+    → AddsOnlyPieces c before log
+only_bytes c config past [] before log feeding was is_log same = no_pieces_added c before log (one_log config past log before is_log was)
 only_bytes c config past (event ∷ events) before log feeding was is_log same =
     elim (fed_event c config event (events ++ past) log feeding.0 is_log) [
-      | inl came ↦ behind_then c before is_log.0 log
-          (only_bytes c config past events before is_log.0 feeding.1 was is_log.4 (sym (behind_bare c is_log.0 log came) ∙ same)) came
+      | inl came ↦ pieces_then_pieces c before is_log.0 log
+          (only_bytes c config past events before is_log.0 feeding.1 was is_log.4
+              (sym (pieces_leave_other_acts c is_log.0 log came) ∙ same)) came
       | inr taken ↦
-          let more = counted c taken.0 is_log.0 log (shows c config taken.0 is_log.0 log taken.1) in
+          let more = call_adds_to_count c taken.0 is_log.0 log (call_shows_in_acts c config taken.0 is_log.0 log taken.1) in
           let least = no_fewer c config past events before is_log.0 feeding.1 was is_log.4 in
           let size : count c log ≡ count c before = ap (λ (l : List ConnAct). length l) same in
           absurd (omega (arith, more, least, size))
@@ -125,10 +129,10 @@ pub record Fed (c : ℕ) (config : Config) (past : List PlainEvent) (log : List 
   pub taking : Taking c config call base last
   pub acts : without_pieces (of c last) ≡ Replied reply ∷ CallTaken call ∷ without_pieces (of c base)
   pub same : without_pieces (of c base) ≡ rest
-  pub came : CameBehind c last log
+  pub came : AddsOnlyPieces c last log
 
 fed_more : (c : ℕ) (config : Config) (past : List PlainEvent) (mid log : List Act) (reply call : List ℕ) (rest : List ConnAct)
-    → CameBehind c mid log → Fed c config past mid reply call rest → Fed c config past log reply call rest
+    → AddsOnlyPieces c mid log → Fed c config past mid reply call rest → Fed c config past log reply call rest
 fed_more c config past mid log reply call rest came fed = record {
   earlier = fed.earlier;
   base = fed.base;
@@ -138,7 +142,7 @@ fed_more c config past mid log reply call rest came fed = record {
   taking = fed.taking;
   acts = fed.acts;
   same = fed.same;
-  came = behind_then c fed.last mid log fed.came came;
+  came = pieces_then_pieces c fed.last mid log fed.came came;
 }
 
 -- The case that the newest event takes the call.
@@ -147,7 +151,7 @@ fed_last : (c : ℕ) (config : Config) (past earlier : List PlainEvent) (base lo
     → without_pieces (of c log) ≡ Replied reply ∷ CallTaken call ∷ rest → Taking c config bytes base log
     → Fed c config past log reply call rest
 fed_last c config past earlier base log reply call bytes rest feeding was same taking =
-    let shown = shows c config bytes base log taking in
+    let shown = call_shows_in_acts c config bytes base log taking in
     let once = taken_once (without_pieces shown.0) bytes reply call (without_pieces (of c base)) rest shown.1
     (sym (shown_bare c bytes base log shown) ∙ same) in
     record {
@@ -159,7 +163,7 @@ fed_last c config past earlier base log reply call bytes rest feeding was same t
       taking = subst (λ (l : List ℕ). Taking c config l base log) once.1 taking;
       acts = same ∙ ap (λ (l : List ConnAct). Replied reply ∷ CallTaken call ∷ l) (sym once.2);
       same = once.2;
-      came = behind_none c log log refl;
+      came = no_pieces_added c log log refl;
     }
 
 pub fed : (c : ℕ) (config : Config) (past events : List PlainEvent) (before log : List Act) (reply call : List ℕ) (rest : List ConnAct)
@@ -174,6 +178,6 @@ fed c config past (event ∷ events) before log reply call rest feeding was is_l
     elim (fed_event c config event (events ++ past) log feeding.0 is_log) [
       | inl came ↦ fed_more c config past is_log.0 log reply call rest came
           (fed c config past events before is_log.0 reply call rest feeding.1 was is_log.4 most
-          (sym (behind_bare c is_log.0 log came) ∙ same))
+          (sym (pieces_leave_other_acts c is_log.0 log came) ∙ same))
       | inr taken ↦ fed_last c config past events is_log.0 log reply call taken.0 rest feeding.1 is_log.4 same taken.1
     ]

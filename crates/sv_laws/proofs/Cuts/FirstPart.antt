@@ -28,10 +28,10 @@ use Rattle.sv_history.specs.Act.{Act, DeviceAct, Applied, OnDevice, device_acts,
 use Rattle.sv_history.specs.PolledStatus.{IsPolled}
 use Rattle.sv_history.specs.Settling.{InstrumentDoes, Resumes, TimesOut, IsNext, SettlesIn}
 use Rattle.sv_laws.specs.Cuts.{NoneWaits}
-use Rattle.sv_history.proofs.OneStep.{went_on, gave_up}
-use Rattle.sv_laws.proofs.Cuts.LongerText.{ends_none, long_too}
+use Rattle.sv_history.proofs.OneStep.{log_after_resume, log_after_timeout}
+use Rattle.sv_laws.proofs.Cuts.LongerText.{no_line_ends_no_message, long_part_makes_whole_long}
 use Rattle.sv_laws.proofs.EveryLog.Steps.{Rested}
-use Rattle.sv_laws.proofs.Cuts.Written.{wrote}
+use Rattle.sv_laws.proofs.Cuts.Written.{log_with_write}
 use Rattle.sv_logs.proofs.Since.{both_true}
 
 -- ---- logs that differ only in message exchange, the error queue and the status
@@ -50,11 +50,11 @@ pub record Resting (config : Config) (log : List Act) : Type 0 where
   pub polled : ℕ
   pub said : IsPolled polled (device_acts log)
 
-pub there_same : (holds named : Option ℕ) (wait : Option Wait) (writes reads also likewise : Bool) → wait ≢ Some ForInput
+pub is_there_same_unless_device : (holds named : Option ℕ) (wait : Option Wait) (writes reads also likewise : Bool) → wait ≢ Some ForInput
     → wait ≢ Some ForResponse → is_there holds writes reads named wait ≡ is_there holds also likewise named wait
-there_same holds named (Some ForInput) writes reads also likewise input response = absurd (input refl)
-there_same holds named (Some ForResponse) writes reads also likewise input response = absurd (response refl)
-there_same holds named _ writes reads also likewise input response = refl
+is_there_same_unless_device holds named (Some ForInput) writes reads also likewise input response = absurd (input refl)
+is_there_same_unless_device holds named (Some ForResponse) writes reads also likewise input response = absurd (response refl)
+is_there_same_unless_device holds named _ writes reads also likewise input response = refl
 
 abbrev may_resume : List DeviceAct → ℕ → Bool
 may_resume acts c = is_there (holder (link_acts acts)) (not (has_ended (exchange_acts acts))) (is_answerable (instrument_acts acts))
@@ -62,25 +62,25 @@ may_resume acts c = is_there (holder (link_acts acts)) (not (has_ended (exchange
 
 able_same : (acts base : List DeviceAct) (c : ℕ) → NoneWaits (wait_acts base) → Calm acts base → may_resume acts c ≡ may_resume base c
 able_same acts base c rest v =
-    rw (v.links, v.calls) (there_same (holder (link_acts base)) (link c (wait_acts base)) (waits c (wait_acts base))
+    rw (v.links, v.calls) (is_there_same_unless_device (holder (link_acts base)) (link c (wait_acts base)) (waits c (wait_acts base))
     (not (has_ended (exchange_acts acts))) (is_answerable (instrument_acts acts)) (not (has_ended (exchange_acts base)))
     (is_answerable (instrument_acts base)) (rest c).0 (rest c).1)
 
-no_fire : (config : Config) (log base new : List Act) → Rested config base → Calm (device_acts log) (device_acts base)
+calm_fires_nothing : (config : Config) (log base new : List Act) → Rested config base → Calm (device_acts log) (device_acts base)
     → InstrumentDoes IsFired log new → ⊥
-no_fire config log base new rest v (adds, fired, is) =
+calm_fires_nothing config log base new rest v (adds, fired, is) =
     rest.fires (map OnDevice (map Applied (Scanned (Trigger Immediate) ∷ [])) ++ base) (
       Scanned (Trigger Immediate) ∷ [],
       (ap (λ (l : List ScanAct). trigger_fault (effective l) Immediate) (sym v.scans) ∙ fired.0, refl),
       refl,
     )
 
-no_resume : (config : Config) (log base new : List Act) → Resting config base → Calm (device_acts log) (device_acts base)
+calm_resumes_nothing : (config : Config) (log base new : List Act) → Resting config base → Calm (device_acts log) (device_acts base)
     → Resumes config log new → ⊥
-no_resume config log base new rest v (c, wait, polled, oldest, for, said, is) =
+calm_resumes_nothing config log base new rest v (c, wait, polled, oldest, for, said, is) =
     let acts = device_acts log in
     let was = device_acts base in
-    rest.rests.resumes (went_on config base rest.polled c wait) (
+    rest.rests.resumes (log_after_resume config base rest.polled c wait) (
       c,
       wait,
       rest.polled,
@@ -93,9 +93,9 @@ no_resume config log base new rest v (c, wait, polled, oldest, for, said, is) =
       refl,
     )
 
-no_time : (config : Config) (log base new : List Act) → Rested config base → Calm (device_acts log) (device_acts base)
+calm_times_nothing_out : (config : Config) (log base new : List Act) → Rested config base → Calm (device_acts log) (device_acts base)
     → TimesOut config log new → ⊥
-no_time config log base new rest v (c, wait, oldest, for, is) = rest.times (gave_up base c wait) (
+calm_times_nothing_out config log base new rest v (c, wait, oldest, for, is) = rest.times (log_after_timeout base c wait) (
   c,
   wait,
   subst (λ (n : ℕ). IsOldest (wait_acts (device_acts base)) (IsExpired (config.clock + n) (wait_acts (device_acts base))) (Some c)) v.clock
@@ -105,19 +105,22 @@ no_time config log base new rest v (c, wait, oldest, for, is) = rest.times (gave
 )
 
 -- If a step is due, it is a step of message exchange.
-pub calm_step : (config : Config) (log base new : List Act) → Resting config base → Calm (device_acts log) (device_acts base)
+pub calm_step_is_of_instrument : (config : Config) (log base new : List Act) → Resting config base
+    → Calm (device_acts log) (device_acts base)
     → IsNext config log new → InstrumentDoes IsStep log new
-calm_step config log base new rest v (inl fires) = absurd (no_fire config log base new rest.rests v fires)
-calm_step config log base new rest v (inr (none, inl resumes)) = absurd (no_resume config log base new rest v resumes)
-calm_step config log base new rest v (inr (none, inr (still, inl step))) = step
-calm_step config log base new rest v (inr (none, inr (still, inr (idle, times)))) = absurd (no_time config log base new rest.rests v times)
+calm_step_is_of_instrument config log base new rest v (inl fires) = absurd (calm_fires_nothing config log base new rest.rests v fires)
+calm_step_is_of_instrument config log base new rest v (inr (none, inl resumes)) =
+    absurd (calm_resumes_nothing config log base new rest v resumes)
+calm_step_is_of_instrument config log base new rest v (inr (none, inr (still, inl step))) = step
+calm_step_is_of_instrument config log base new rest v (inr (none, inr (still, inr (idle, times)))) =
+    absurd (calm_times_nothing_out config log base new rest.rests v times)
 
-pub calm_next : (config : Config) (log base new : List Act) → Resting config base → Calm (device_acts log) (device_acts base)
+pub instrument_step_is_next : (config : Config) (log base new : List Act) → Resting config base → Calm (device_acts log) (device_acts base)
     → InstrumentDoes IsStep log new → IsNext config log new
-calm_next config log base new rest v step =
+instrument_step_is_next config log base new rest v step =
     inr (
-      (λ one fires. no_fire config log base one rest.rests v fires),
-      inr ((λ one resumes. no_resume config log base one rest v resumes), inl step),
+      (λ one fires. calm_fires_nothing config log base one rest.rests v fires),
+      inr ((λ one resumes. calm_resumes_nothing config log base one rest v resumes), inl step),
     )
 
 -- ---- a unit that is held
@@ -138,10 +141,10 @@ released_adds awaited.One log = answered_more (Exchanged UnitDone) _ log
 released_adds awaited.Readings log = answered_more (Exchanged UnitDone) _ log
 
 -- If no step is due while a unit is held, a measurement is under way.
-pub held_waits : (config : Config) (base : List Act) (what : Awaited) → Rested config base
+pub held_unit_means_measuring : (config : Config) (base : List Act) (what : Awaited) → Rested config base
     → held_unit (instrument_acts (device_acts base)) ≡ Some what
     → is_idle (instrument_acts (device_acts base)) ≡ true → ⊥
-held_waits config base what rest holds idle =
+held_unit_means_measuring config base what rest holds idle =
     let log = instrument_acts (device_acts base) in
     let so = released_adds what log in
     rest.steps (map OnDevice (map Applied so.0) ++ base) (
@@ -156,11 +159,11 @@ held_waits config base what rest holds idle =
 abbrev pub is_overlong : List ExchangeAct → Bool
 is_overlong acts = is_long acts && not (has_overrun (current acts))
 
-due_none : (acts : List ExchangeAct) → has_ended acts ≡ false → is_overlong acts ≡ false → due acts ≡ NothingDue
-due_none acts unended short = rw (short, unended) refl
+nothing_due_if_unended : (acts : List ExchangeAct) → has_ended acts ≡ false → is_overlong acts ≡ false → due acts ≡ NothingDue
+nothing_due_if_unended acts unended short = rw (short, unended) refl
 
-due_long : (acts : List ExchangeAct) → is_overlong acts ≡ true → due acts ≡ OverrunDue
-due_long acts long = rw long refl
+overrun_due_if_long : (acts : List ExchangeAct) → is_overlong acts ≡ true → due acts ≡ OverrunDue
+overrun_due_if_long acts long = rw long refl
 
 step_long : (log new : List InstrumentAct) → has_ended (exchanged log) ≡ false → held_unit log ≡ None → IsStep log new
     → (is_overlong (exchanged log) ≡ true) × (new ≡ Reported InputBufferOverrun ∷ Exchanged Overran ∷ log)
@@ -168,8 +171,8 @@ step_long log new unended none step =
     let free : StepOf None (due (exchanged log)) log new =
     subst (λ (o : Option Awaited). StepOf o (due (exchanged log)) log new) none step in
     elim (cases_Bool (is_overlong (exchanged log))) [
-      | inl long ↦ (long, subst (λ (d : Due). StepOf None d log new) (due_long (exchanged log) long) free)
-      | inr short ↦ absurd (subst (λ (d : Due). StepOf None d log new) (due_none (exchanged log) unended short) free)
+      | inl long ↦ (long, subst (λ (d : Due). StepOf None d log new) (overrun_due_if_long (exchanged log) long) free)
+      | inr short ↦ absurd (subst (λ (d : Due). StepOf None d log new) (nothing_due_if_unended (exchanged log) unended short) free)
     ]
 
 -- ---- after a write
@@ -182,41 +185,44 @@ reported log = OnDevice (Applied (Reported InputBufferOverrun)) ∷ OnDevice (Ap
 abbrev pub BecomesLong : List ℕ → List DeviceAct → Type 0
 BecomesLong bytes acts = (held_unit (instrument_acts acts) ≡ None) × (is_overlong (Accepted bytes false ∷ exchange_acts acts) ≡ true)
 
-never_both : (b : Bool) → (b && false) ≡ true → ⊥
-never_both true e = cc
-never_both false e = cc
+and_false_is_never : (b : Bool) → (b && false) ≡ true → ⊥
+and_false_is_never true e = cc
+and_false_is_never false e = cc
 
 -- The report is made only once: after it no step is due.
 reported_once : (config : Config) (c : ℕ) (call reply bytes : List ℕ) (base log : List Act) (steps : ℕ) → Resting config base
     → AllByRecursion (λ b. b ≢ 10) bytes → has_ended (exchange_acts (device_acts base)) ≡ false
     → held_unit (instrument_acts (device_acts base)) ≡ None
-    → SettlesIn steps config (reported (wrote c call reply bytes false base)) log → log ≡ reported (wrote c call reply bytes false base)
+    → SettlesIn steps config (reported (log_with_write c call reply bytes false base)) log
+    → log ≡ reported (log_with_write c call reply bytes false base)
 reported_once config c call reply bytes base log zero rest line unended none settles = settles.1
 reported_once config c call reply bytes base log (suc steps) rest line unended none (mid, next, more) =
-    let now = reported (wrote c call reply bytes false base) in
-    let step = calm_step config now base mid rest (record { links = refl; calls = refl; clock = refl; scans = refl }) next in
+    let now = reported (log_with_write c call reply bytes false base) in
+    let step = calm_step_is_of_instrument config now base mid rest (record { links = refl; calls = refl; clock = refl; scans = refl }) next
+        in
     let acts = instrument_acts (device_acts now) in
-    let long = step_long acts (step.0 ++ acts) (ends_none bytes (exchange_acts (device_acts base)) line ∙ unended) none step.1 in
-    absurd (never_both (is_long (exchanged acts)) long.0)
+    let long = step_long acts (step.0 ++ acts) (no_line_ends_no_message bytes (exchange_acts (device_acts base)) line ∙ unended) none step.1
+        in
+    absurd (and_false_is_never (is_long (exchanged acts)) long.0)
 
 -- The log after the first part of a write: nothing was due; or the part made the message too long,
 -- and this was reported.
 abbrev pub FirstPart : ℕ → List ℕ → List ℕ → List ℕ → List Act → List Act → Type 0
-FirstPart c call reply bytes base log = (log ≡ wrote c call reply bytes false base)
-    ⊎ ((log ≡ reported (wrote c call reply bytes false base)) × BecomesLong bytes (device_acts base))
+FirstPart c call reply bytes base log = (log ≡ log_with_write c call reply bytes false base)
+    ⊎ ((log ≡ reported (log_with_write c call reply bytes false base)) × BecomesLong bytes (device_acts base))
 
 first_step : (config : Config) (c : ℕ) (call reply bytes : List ℕ) (base mid log : List Act) (steps : ℕ) (holds : Option Awaited)
     → Resting config base → AllByRecursion (λ b. b ≢ 10) bytes → has_ended (exchange_acts (device_acts base)) ≡ false
-    → held_unit (instrument_acts (device_acts base)) ≡ holds → InstrumentDoes IsStep (wrote c call reply bytes false base) mid
+    → held_unit (instrument_acts (device_acts base)) ≡ holds → InstrumentDoes IsStep (log_with_write c call reply bytes false base) mid
     → SettlesIn steps config mid log → FirstPart c call reply bytes base log
 first_step config c call reply bytes base mid log steps (Some what) rest line unended holds (adds, step, is) more =
-    let acts = instrument_acts (device_acts (wrote c call reply bytes false base)) in
+    let acts = instrument_acts (device_acts (log_with_write c call reply bytes false base)) in
     let release = subst (λ (o : Option Awaited). StepOf o (due (exchanged acts)) acts (adds ++ acts)) holds step in
-    absurd (held_waits config base what rest.rests holds release.0)
+    absurd (held_unit_means_measuring config base what rest.rests holds release.0)
 first_step config c call reply bytes base mid log steps None rest line unended holds (adds, step, is) more =
-    let now = wrote c call reply bytes false base in
+    let now = log_with_write c call reply bytes false base in
     let acts = instrument_acts (device_acts now) in
-    let long = step_long acts (adds ++ acts) (ends_none bytes (exchange_acts (device_acts base)) line ∙ unended) holds step in
+    let long = step_long acts (adds ++ acts) (no_line_ends_no_message bytes (exchange_acts (device_acts base)) line ∙ unended) holds step in
     let same : adds ≡ Reported InputBufferOverrun ∷ Exchanged Overran ∷ [] =
     append_cancel_right adds (Reported InputBufferOverrun ∷ Exchanged Overran ∷ []) acts long.1 in
     let there : mid ≡ reported now = is ∙ ap (λ (l : List InstrumentAct). map OnDevice (map Applied l) ++ now) same in
@@ -228,11 +234,11 @@ first_step config c call reply bytes base mid log steps None rest line unended h
 
 pub first_part : (config : Config) (c : ℕ) (call reply bytes : List ℕ) (base log : List Act) (steps : ℕ) → Resting config base
     → AllByRecursion (λ b. b ≢ 10) bytes → has_ended (exchange_acts (device_acts base)) ≡ false
-    → SettlesIn steps config (wrote c call reply bytes false base) log → FirstPart c call reply bytes base log
+    → SettlesIn steps config (log_with_write c call reply bytes false base) log → FirstPart c call reply bytes base log
 first_part config c call reply bytes base log zero rest line unended settles = inl settles.1
 first_part config c call reply bytes base log (suc steps) rest line unended (mid, next, more) =
     first_step config c call reply bytes base mid log steps (held_unit (instrument_acts (device_acts base))) rest line unended refl
-    (calm_step config (wrote c call reply bytes false base) base mid rest
+    (calm_step_is_of_instrument config (log_with_write c call reply bytes false base) base mid rest
     (record { links = refl; calls = refl; clock = refl; scans = refl }) next) more
 
 -- ---- the first part and the whole write
@@ -241,20 +247,20 @@ long_both : (x y : List ℕ) (ended : Bool) (acts : List ExchangeAct) → is_ove
     → is_overlong (Accepted (x ++ y) ended ∷ acts) ≡ true
 long_both x y ended acts long =
     let parts = (both_true (is_long (Accepted x false ∷ acts)) (not (has_overrun (current acts)))).0 long in
-    rw (long_too x y ended acts parts.0) parts.1
+    rw (long_part_makes_whole_long x y ended acts parts.0) parts.1
 
 -- If the first part makes the message too long, the first step after the whole write reports it.
-pub whole_long : (config : Config) (c : ℕ) (call reply x y : List ℕ) (ended : Bool) (base : List Act) → Resting config base
+pub whole_write_reports_overrun : (config : Config) (c : ℕ) (call reply x y : List ℕ) (ended : Bool) (base : List Act) → Resting config base
     → BecomesLong x (device_acts base)
-    → IsNext config (wrote c call reply (x ++ y) ended base) (reported (wrote c call reply (x ++ y) ended base))
-whole_long config c call reply x y ended base rest (none, long) =
-    let now = wrote c call reply (x ++ y) ended base in
+    → IsNext config (log_with_write c call reply (x ++ y) ended base) (reported (log_with_write c call reply (x ++ y) ended base))
+whole_write_reports_overrun config c call reply x y ended base rest (none, long) =
+    let now = log_with_write c call reply (x ++ y) ended base in
     let acts = instrument_acts (device_acts now) in
     let new = Reported InputBufferOverrun ∷ Exchanged Overran ∷ acts in
-    calm_next config now base (reported now) rest (record { links = refl; calls = refl; clock = refl; scans = refl }) (
+    instrument_step_is_next config now base (reported now) rest (record { links = refl; calls = refl; clock = refl; scans = refl }) (
       Reported InputBufferOverrun ∷ Exchanged Overran ∷ [],
       subst (λ (o : Option Awaited). StepOf o (due (exchanged acts)) acts new) (sym none)
           (subst (λ (d : Due). StepOf None d acts new)
-          (sym (due_long (exchanged acts) (long_both x y ended (exchange_acts (device_acts base)) long))) refl),
+          (sym (overrun_due_if_long (exchanged acts) (long_both x y ended (exchange_acts (device_acts base)) long))) refl),
       refl,
     )

@@ -31,14 +31,14 @@ data_any n m payload last size rest same less also = elim (cases_lt max_record (
   ])
 ]
 
-read_any : (n m : ℕ) → SameRead n m
+read_limit_does_not_matter : (n m : ℕ) → SameRead n m
 unfolding read
-read_any zero m payload bytes less also = absurd (omega (arith, less))
-read_any (suc n) zero payload bytes less also = absurd (omega (arith, also))
-read_any (suc n) (suc m) payload bytes less also = elim (cases_lt (length bytes) 4) [
+read_limit_does_not_matter zero m payload bytes less also = absurd (omega (arith, less))
+read_limit_does_not_matter (suc n) zero payload bytes less also = absurd (omega (arith, also))
+read_limit_does_not_matter (suc n) (suc m) payload bytes less also = elim (cases_lt (length bytes) 4) [
   | inl short ↦ rw (lt-ltb (length bytes) 4 short) refl
   | inr four ↦ rw (le-ltb (length bytes) 4 four) (data_any n m payload (leb (2 ^ 31) (from_be_bytes w32 bytes))
-      (from_be_bytes w32 bytes % 2 ^ 31) (drop 4 bytes) (read_any n m) (omega (arith, length-drop 4 bytes))
+      (from_be_bytes w32 bytes % 2 ^ 31) (drop 4 bytes) (read_limit_does_not_matter n m) (omega (arith, length-drop 4 bytes))
       (omega (arith, length-drop 4 bytes)))
 ]
 
@@ -93,7 +93,7 @@ part_more n payload last size rest more less part = elim (cases_lt (length more)
         append_assoc payload rest (take (size - length rest) more),
       )
       (on_any n (length more + 1) (payload ++ (rest ++ take (size - length rest) more)) last (drop (size - length rest) more)
-      (read_any n (length more + 1)) (omega (arith, length-drop (size - length rest) more, length-append rest more))
+      (read_limit_does_not_matter n (length more + 1)) (omega (arith, length-drop (size - length rest) more, length-append rest more))
       (omega (arith, length-drop (size - length rest) more)))
 ]
 
@@ -117,41 +117,42 @@ short_more : (n : ℕ) (payload bytes more : List ℕ) → length bytes < 4 → 
     → read (suc n) payload (bytes ++ more) ≡ resumed (read (suc n) payload bytes) more
 unfolding read
 short_more n payload bytes more short less = rw (lt-ltb (length bytes) 4 short)
-    (read_any (suc n) (length (bytes ++ more) + 1) payload (bytes ++ more) less (omega arith))
+    (read_limit_does_not_matter (suc n) (length (bytes ++ more) + 1) payload (bytes ++ more) less (omega arith))
 
-read_more : (n : ℕ) (more : List ℕ) → Resumes n more
+read_append : (n : ℕ) (more : List ℕ) → Resumes n more
 unfolding read
-read_more zero more payload bytes less = absurd (omega (arith, less))
-read_more (suc n) more payload [] less = short_more n payload [] more (omega arith) less
-read_more (suc n) more payload (a ∷ []) less = short_more n payload (a ∷ []) more (omega arith) less
-read_more (suc n) more payload (a ∷ b ∷ []) less = short_more n payload (a ∷ b ∷ []) more (omega arith) less
-read_more (suc n) more payload (a ∷ b ∷ c ∷ []) less = short_more n payload (a ∷ b ∷ c ∷ []) more (omega arith) less
-read_more (suc n) more payload (a ∷ b ∷ c ∷ d ∷ rest) less =
+read_append zero more payload bytes less = absurd (omega (arith, less))
+read_append (suc n) more payload [] less = short_more n payload [] more (omega arith) less
+read_append (suc n) more payload (a ∷ []) less = short_more n payload (a ∷ []) more (omega arith) less
+read_append (suc n) more payload (a ∷ b ∷ []) less = short_more n payload (a ∷ b ∷ []) more (omega arith) less
+read_append (suc n) more payload (a ∷ b ∷ c ∷ []) less = short_more n payload (a ∷ b ∷ c ∷ []) more (omega arith) less
+read_append (suc n) more payload (a ∷ b ∷ c ∷ d ∷ rest) less =
     let word = from_be_bytes w32 (a ∷ b ∷ c ∷ d ∷ rest) in
     rw (le-ltb (length (a ∷ b ∷ c ∷ d ∷ rest)) 4 (omega arith), le-ltb (length (a ∷ b ∷ c ∷ d ∷ (rest ++ more))) 4 (omega arith))
-    (data_more n payload (leb (2 ^ 31) word) (word % 2 ^ 31) rest more (read_more n more) (omega (arith, less)))
+    (data_more n payload (leb (2 ^ 31) word) (word % 2 ^ 31) rest more (read_append n more) (omega (arith, less)))
 
-reading_more : (stream more : List ℕ) → reading (stream ++ more) ≡ resumed (reading stream) more
-reading_more stream more =
+reading_append : (stream more : List ℕ) → reading (stream ++ more) ≡ resumed (reading stream) more
+reading_append stream more =
     let size = length (stream ++ more) + 1 in
-    read_more size more [] stream (omega arith)
+    read_append size more [] stream (omega arith)
     ∙ ap (λ (r : Reading). resumed r more)
-    (read_any size (length stream + 1) [] stream (omega (arith, length-append stream more)) (omega arith))
+    (read_limit_does_not_matter size (length stream + 1) [] stream (omega (arith, length-append stream more)) (omega arith))
 
-pub records_more : (stream more : List ℕ) → records_of (stream ++ more) ≡ records_of stream ++ (resumed_at (tail_of stream) more).0
-records_more stream more = ap (λ (r : Reading). r.0) (reading_more stream more)
+pub records_of_append : (stream more : List ℕ) → records_of (stream ++ more) ≡ records_of stream ++ (resumed_at (tail_of stream) more).0
+records_of_append stream more = ap (λ (r : Reading). r.0) (reading_append stream more)
 
 -- If the same is read of two streams, the same is read of both after the same bytes are appended.
-pub read_alike : (one two more : List ℕ) → reading one ≡ reading two → reading (one ++ more) ≡ reading (two ++ more)
-read_alike one two more same = reading_more one more ∙ ap (λ (r : Reading). resumed r more) same ∙ sym (reading_more two more)
+pub same_reading_append : (one two more : List ℕ) → reading one ≡ reading two → reading (one ++ more) ≡ reading (two ++ more)
+same_reading_append one two more same = reading_append one more ∙ ap (λ (r : Reading). resumed r more) same ∙ sym (reading_append two more)
 
 -- If two streams have the same tail, the same further records are read of both after the same bytes
 -- are appended.
-pub same_behind : (one two : List ℕ) (n m : ℕ) → length (records_of one) ≡ n → length (records_of two) ≡ m → tail_of one ≡ tail_of two
+pub same_tail_same_records : (one two : List ℕ) (n m : ℕ) → length (records_of one) ≡ n → length (records_of two) ≡ m
+    → tail_of one ≡ tail_of two
     → (more : List ℕ) → drop n (records_of (one ++ more)) ≡ drop m (records_of (two ++ more))
-same_behind one two n m first second same more =
-    ap (λ (l : List (List ℕ)). drop n l) (records_more one more)
+same_tail_same_records one two n m first second same more =
+    ap (λ (l : List (List ℕ)). drop n l) (records_of_append one more)
     ∙ drop_at (records_of one) (resumed_at (tail_of one) more).0 n first
     ∙ ap (λ (t : Tail). (resumed_at t more).0) same
     ∙ sym (drop_at (records_of two) (resumed_at (tail_of two) more).0 m second)
-    ∙ sym (ap (λ (l : List (List ℕ)). drop m l) (records_more two more))
+    ∙ sym (ap (λ (l : List (List ℕ)). drop m l) (records_of_append two more))

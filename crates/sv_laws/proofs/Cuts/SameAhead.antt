@@ -28,50 +28,50 @@ pub record SameAhead (first second : List ℕ) (acts others : List ConnAct) : Ty
   pub ahead : Ahead acts others
   pub sends : Sends first second (all_replies acts) (all_replies others)
 
-one_more : (n : ℕ) (a : List (List ℕ)) → drop 1 (drop n a) ≡ drop (suc n) a
-one_more n a = drop-drop 1 n a ∙ ap (λ (k : ℕ). drop k a) (let next : n + 1 ≡ suc n = omega arith in next)
+drop_one_more : (n : ℕ) (a : List (List ℕ)) → drop 1 (drop n a) ≡ drop (suc n) a
+drop_one_more n a = drop-drop 1 n a ∙ ap (λ (k : ℕ). drop k a) (let next : n + 1 ≡ suc n = omega arith in next)
 
 -- One more record is finished.
-one_fewer : (acts others : List ConnAct) → Ahead acts others → Ahead (Faulted ∷ acts) (Faulted ∷ others)
-one_fewer acts others same more = sym (one_more (records_ended acts) (records_of (stream acts ++ more)))
-    ∙ ap (λ (l : List (List ℕ)). drop 1 l) (same more) ∙ one_more (records_ended others) (records_of (stream others ++ more))
+finishing_keeps_ahead : (acts others : List ConnAct) → Ahead acts others → Ahead (Faulted ∷ acts) (Faulted ∷ others)
+finishing_keeps_ahead acts others same more = sym (drop_one_more (records_ended acts) (records_of (stream acts ++ more)))
+    ∙ ap (λ (l : List (List ℕ)). drop 1 l) (same more) ∙ drop_one_more (records_ended others) (records_of (stream others ++ more))
 
-pub ahead_act : (first second : List ℕ) (act : ConnAct) (acts others : List ConnAct) → SameAhead first second acts others
+pub act_keeps_same_ahead : (first second : List ℕ) (act : ConnAct) (acts others : List ConnAct) → SameAhead first second acts others
     → SameAhead first second (act ∷ acts) (act ∷ others)
-ahead_act first second (Piece bytes) acts others v = assumption (λ (more : List ℕ).
+act_keeps_same_ahead first second (Piece bytes) acts others v = assumption (λ (more : List ℕ).
     ap (λ (l : List ℕ). drop (records_ended acts) (records_of l)) (append_assoc (stream acts) bytes more)
     ∙ v.ahead (bytes ++ more)
     ∙ ap (λ (l : List ℕ). drop (records_ended others) (records_of l)) (sym (append_assoc (stream others) bytes more)))
-ahead_act first second Faulted acts others v = assumption (one_fewer acts others v.ahead)
-ahead_act first second (Replied bytes) acts others v =
+act_keeps_same_ahead first second Faulted acts others v = assumption (finishing_keeps_ahead acts others v.ahead)
+act_keeps_same_ahead first second (Replied bytes) acts others v =
     let sends : Sends first second (all_replies acts ++ bytes) (all_replies others ++ bytes) = (
       v.sends.0 ++ bytes,
       ap (λ (l : List ℕ). l ++ bytes) v.sends.1 ∙ append_assoc first v.sends.0 bytes,
       ap (λ (l : List ℕ). l ++ bytes) v.sends.2 ∙ append_assoc second v.sends.0 bytes,
     ) in
-    assumption (one_fewer acts others v.ahead, sends)
-ahead_act first second _ acts others v = assumption
+    assumption (finishing_keeps_ahead acts others v.ahead, sends)
+act_keeps_same_ahead first second _ acts others v = assumption
 
 -- ---- the next call
 
-at_front : (n : ℕ) (records : List (List ℕ)) → slice_get records n ≡ slice_get (drop n records) 0
-at_front zero [] = refl
-at_front zero (record_is ∷ records) = refl
-at_front (suc n) [] = refl
-at_front (suc n) (record_is ∷ records) = at_front n records
+get_is_first_of_drop : (n : ℕ) (records : List (List ℕ)) → slice_get records n ≡ slice_get (drop n records) 0
+get_is_first_of_drop zero [] = refl
+get_is_first_of_drop zero (record_is ∷ records) = refl
+get_is_first_of_drop (suc n) [] = refl
+get_is_first_of_drop (suc n) (record_is ∷ records) = get_is_first_of_drop n records
 
-front_same : (first second : List ℕ) (acts others : List ConnAct) → SameAhead first second acts others
+next_record_same : (first second : List ℕ) (acts others : List ConnAct) → SameAhead first second acts others
     → slice_get (records_of (stream acts)) (records_ended acts) ≡ slice_get (records_of (stream others)) (records_ended others)
-front_same first second acts others v =
-    at_front (records_ended acts) (records_of (stream acts))
+next_record_same first second acts others v =
+    get_is_first_of_drop (records_ended acts) (records_of (stream acts))
     ∙ ap (λ (l : List ℕ). slice_get (drop (records_ended acts) (records_of l)) 0) (sym (append-nil (stream acts)))
     ∙ ap (λ (l : List (List ℕ)). slice_get l 0) (v.ahead [])
     ∙ ap (λ (l : List ℕ). slice_get (drop (records_ended others) (records_of l)) 0) (append-nil (stream others))
-    ∙ sym (at_front (records_ended others) (records_of (stream others)))
+    ∙ sym (get_is_first_of_drop (records_ended others) (records_of (stream others)))
 
 pub next_call_ahead : (first second : List ℕ) (acts others : List ConnAct) → SameAhead first second acts others
     → next_call acts ≡ next_call others
-next_call_ahead first second acts others v = rw (v.no_call, v.call, front_same first second acts others v) refl
+next_call_ahead first second acts others v = rw (v.no_call, v.call, next_record_same first second acts others v) refl
 
 pub next_request_ahead : (first second : List ℕ) (acts others : List ConnAct) → SameAhead first second acts others
     → next_request acts ≡ next_request others
@@ -79,13 +79,13 @@ next_request_ahead first second acts others v = rw (next_call_ahead first second
 
 -- ---- the same acts added to both logs
 
-pub ahead_more : (first second : List ℕ) (d : ℕ) (adds log other : List Act) → SameAhead first second (of d log) (of d other)
+pub acts_keep_same_ahead : (first second : List ℕ) (d : ℕ) (adds log other : List Act) → SameAhead first second (of d log) (of d other)
     → SameAhead first second (of d (adds ++ log)) (of d (adds ++ other))
-ahead_more first second d [] log other v = v
-ahead_more first second d (OnDevice act ∷ adds) log other v = ahead_more first second d adds log other v
-ahead_more first second d (On c act ∷ adds) log other v =
-    let so = ahead_more first second d adds log other v in
+acts_keep_same_ahead first second d [] log other v = v
+acts_keep_same_ahead first second d (OnDevice act ∷ adds) log other v = acts_keep_same_ahead first second d adds log other v
+acts_keep_same_ahead first second d (On c act ∷ adds) log other v =
+    let so = acts_keep_same_ahead first second d adds log other v in
     elim (cases_Bool (c == d)) [
-      | inl e ↦ rw e (ahead_act first second act (of d (adds ++ log)) (of d (adds ++ other)) so)
+      | inl e ↦ rw e (act_keeps_same_ahead first second act (of d (adds ++ log)) (of d (adds ++ other)) so)
       | inr e ↦ rw e so
     ]

@@ -12,11 +12,11 @@ use Rattle.sv_instrument.specs.Step.{is_answerable}
 use Rattle.sv_history.specs.Act.{DeviceAct, Linked, Waited, Channel, Applied, Ticked, link_acts, wait_acts, channel_acts, instrument_acts, ticks}
 use Rattle.sv_history.specs.PolledStatus.{IsPolled}
 use Rattle.sv_history.specs.Requests.{HearsOf, request_told}
-use Rattle.sv_history.proofs.Telling.{peer_more}
+use Rattle.sv_history.proofs.Telling.{peer_after_act}
 use Rattle.sv_laws.proofs.SameOutcomes.{SameGround}
 use Rattle.sv_laws.proofs.Cuts.SameExchange.{ended_same, response_same}
-use Rattle.sv_laws.proofs.Cuts.SameStatus.{SameStatus, raised_same, never_raised, polled_same}
-use Rattle.sv_laws.proofs.Cuts.SameInstrument.{SameInstrument, instrument_same, instrument_act, instrument_back}
+use Rattle.sv_laws.proofs.Cuts.SameStatus.{SameStatus, same_act_raises_same, text_raises_no_request, polled_same}
+use Rattle.sv_laws.proofs.Cuts.SameInstrument.{SameInstrument, same_instrument_refl, act_keeps_same_instrument, same_instrument_sym}
 
 pub record SameDevice (acts other : List DeviceAct) : Type 0 where
   pub links : link_acts acts ≡ link_acts other
@@ -25,31 +25,32 @@ pub record SameDevice (acts other : List DeviceAct) : Type 0 where
   pub instrument : SameInstrument (instrument_acts acts) (instrument_acts other)
   pub clock : ticks acts ≡ ticks other
 
-pub device_same : (acts : List DeviceAct) → SameDevice acts acts
-device_same acts = record {
+pub same_device_refl : (acts : List DeviceAct) → SameDevice acts acts
+same_device_refl acts = record {
   links = refl;
   waits = refl;
   channels = λ c. refl;
-  instrument = instrument_same (instrument_acts acts);
+  instrument = same_instrument_refl (instrument_acts acts);
   clock = refl;
 }
 
-pub device_act : (act : DeviceAct) (acts other : List DeviceAct) → SameDevice acts other → SameDevice (act ∷ acts) (act ∷ other)
-device_act (Linked act) acts other v = assumption (ap (λ (l : List LinkAct). act ∷ l) v.links)
-device_act (Waited act) acts other v = assumption (ap (λ (l : List WaitAct). act ∷ l) v.waits)
-device_act (Channel act) acts other v = record {
+pub act_keeps_same_device : (act : DeviceAct) (acts other : List DeviceAct) → SameDevice acts other → SameDevice (act ∷ acts) (act ∷ other)
+act_keeps_same_device (Linked act) acts other v = assumption (ap (λ (l : List LinkAct). act ∷ l) v.links)
+act_keeps_same_device (Waited act) acts other v = assumption (ap (λ (l : List WaitAct). act ∷ l) v.waits)
+act_keeps_same_device (Channel act) acts other v = record {
   links = v.links;
   waits = v.waits;
-  channels = λ c. peer_more c act (channel_acts acts) (channel_acts other) (v.channels c);
+  channels = λ c. peer_after_act c act (channel_acts acts) (channel_acts other) (v.channels c);
   instrument = v.instrument;
   clock = v.clock;
 }
-device_act (Applied act) acts other v = assumption (instrument_act act (instrument_acts acts) (instrument_acts other) v.instrument)
-device_act Ticked acts other v = assumption (ap (λ (n : ℕ). n + 1) v.clock)
+act_keeps_same_device (Applied act) acts other v =
+    assumption (act_keeps_same_instrument act (instrument_acts acts) (instrument_acts other) v.instrument)
+act_keeps_same_device Ticked acts other v = assumption (ap (λ (n : ℕ). n + 1) v.clock)
 
 pub device_more : (adds acts other : List DeviceAct) → SameDevice acts other → SameDevice (adds ++ acts) (adds ++ other)
 device_more [] acts other v = v
-device_more (act ∷ adds) acts other v = device_act act (adds ++ acts) (adds ++ other) (device_more adds acts other v)
+device_more (act ∷ adds) acts other v = act_keeps_same_device act (adds ++ acts) (adds ++ other) (device_more adds acts other v)
 
 -- ---- the log of the interrupt channels
 
@@ -60,7 +61,7 @@ Tells acts other = (channel_log : List ChannelAct) → HearsOf acts channel_log 
 pub tells_happened : (act : InstrumentAct) (acts other : List DeviceAct) → SameStatus (instrument_acts acts) (instrument_acts other)
     → Tells acts other → Tells (Applied act ∷ acts) (Applied act ∷ other)
 tells_happened act acts other v tells channel_log (before, raised, hears, so, is) =
-    let same = raised_same act (instrument_acts acts) (instrument_acts other) v in
+    let same = same_act_raises_same act (instrument_acts acts) (instrument_acts other) v in
     (before, raised, tells before hears, ((λ e. same.0 (so.0 e)), (λ r. so.1 (same.1 r))), is)
 
 pub tells_act : (act : DeviceAct) (acts other : List DeviceAct) → SameDevice acts other → Tells acts other
@@ -83,7 +84,7 @@ raised_not false P none so = refl
 pub tells_accepted : (bytes : List ℕ) (ended : Bool) (acts : List DeviceAct) → Tells (accepts bytes ended ∷ acts) acts
 tells_accepted bytes ended acts channel_log (before, raised, hears, so, is) =
     let quiet = raised_not raised (IsRaised (Exchanged (Accepted bytes ended) ∷ instrument_acts acts))
-    (never_raised bytes ended (instrument_acts acts)) so in
+    (text_raises_no_request bytes ended (instrument_acts acts)) so in
     subst (λ (l : List ChannelAct). HearsOf acts l) (sym (is ∙ ap (λ (b : Bool). request_told b before) quiet)) hears
 
 pub tells_also : (bytes : List ℕ) (ended : Bool) (acts : List DeviceAct) → Tells acts (accepts bytes ended ∷ acts)
@@ -91,15 +92,15 @@ tells_also bytes ended acts channel_log hears = (
   channel_log,
   false,
   hears,
-  ((λ e. absurd (let z : false ≡ true = e in cc)), (λ r. absurd (never_raised bytes ended (instrument_acts acts) r))),
+  ((λ e. absurd (let z : false ≡ true = e in cc)), (λ r. absurd (text_raises_no_request bytes ended (instrument_acts acts) r))),
   refl,
 )
 
 -- ---- calls
 
-pub ended_alike : (acts other : List DeviceAct) → SameDevice acts other
+pub has_ended_same : (acts other : List DeviceAct) → SameDevice acts other
     → has_ended (exchange_acts (instrument_acts acts)) ≡ has_ended (exchange_acts (instrument_acts other))
-ended_alike acts other v = ended_same (exchange_acts (instrument_acts acts)) (exchange_acts (instrument_acts other))
+has_ended_same acts other v = ended_same (exchange_acts (instrument_acts acts)) (exchange_acts (instrument_acts other))
     v.instrument.status.exchange v.instrument.texts
 
 response_alike : (acts other : List DeviceAct) → SameDevice acts other
@@ -109,17 +110,17 @@ response_alike acts other v = response_same (exchange_acts (instrument_acts acts
 
 pub answerable_alike : (acts other : List DeviceAct) → SameDevice acts other
     → is_answerable (instrument_acts acts) ≡ is_answerable (instrument_acts other)
-answerable_alike acts other v = rw (response_alike acts other v, v.instrument.holds, ended_alike acts other v) refl
+answerable_alike acts other v = rw (response_alike acts other v, v.instrument.holds, has_ended_same acts other v) refl
 
-pub polled_alike : (polled : ℕ) (acts other : List DeviceAct) → SameDevice acts other → IsPolled polled acts → IsPolled polled other
-polled_alike polled acts other v said = λ k.
+pub is_polled_same : (polled : ℕ) (acts other : List DeviceAct) → SameDevice acts other → IsPolled polled acts → IsPolled polled other
+is_polled_same polled acts other v said = λ k.
     let same = polled_same k (instrument_acts acts) (instrument_acts other) v.instrument.status in
     ((λ b. same.0 ((said k).0 b)), (λ p. (said k).1 (same.1 p)))
 
 -- All that determines the effect of a call of connection `c` is the same.
-pub alike_ground : (c : ℕ) (acts other : List DeviceAct) → SameDevice acts other → SameGround c acts other
-alike_ground c acts other v = record {
-  ended = ended_alike acts other v;
+pub same_device_same_ground : (c : ℕ) (acts other : List DeviceAct) → SameDevice acts other → SameGround c acts other
+same_device_same_ground c acts other v = record {
+  ended = has_ended_same acts other v;
   answerable = answerable_alike acts other v;
   responds = response_alike acts other v;
   scanned = v.instrument.status.scanned;
@@ -129,11 +130,11 @@ alike_ground c acts other v = record {
   clock = v.clock;
 }
 
-pub device_back : (acts other : List DeviceAct) → SameDevice acts other → SameDevice other acts
-device_back acts other v = record {
+pub same_device_sym : (acts other : List DeviceAct) → SameDevice acts other → SameDevice other acts
+same_device_sym acts other v = record {
   links = sym v.links;
   waits = sym v.waits;
   channels = λ c. sym (v.channels c);
-  instrument = instrument_back (instrument_acts acts) (instrument_acts other) v.instrument;
+  instrument = same_instrument_sym (instrument_acts acts) (instrument_acts other) v.instrument;
   clock = sym v.clock;
 }

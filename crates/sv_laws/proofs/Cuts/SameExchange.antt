@@ -22,13 +22,13 @@ pub record SameExchange (acts other : List ExchangeAct) : Type 0 where
   pub whole : whole_response acts ≡ whole_response other
   pub read : read_since acts ≡ read_since other
 
-pub exchange_same : (acts : List ExchangeAct) → SameExchange acts acts
-exchange_same acts = assumption
+pub same_exchange_refl : (acts : List ExchangeAct) → SameExchange acts acts
+same_exchange_refl acts = assumption
 
 -- Accepting program text in one of the lists keeps this.
-pub exchange_accepted : (bytes : List ℕ) (ended : Bool) (acts other : List ExchangeAct) → SameExchange acts other
+pub text_keeps_same_exchange : (bytes : List ℕ) (ended : Bool) (acts other : List ExchangeAct) → SameExchange acts other
     → SameExchange (Accepted bytes ended ∷ acts) other
-exchange_accepted bytes ended acts other v = assumption
+text_keeps_same_exchange bytes ended acts other v = assumption
 
 pub answers_same : (acts other : List ExchangeAct) → SameExchange acts other → answers acts ≡ answers other
 answers_same acts other v = rw (v.dropped, v.given) refl
@@ -48,12 +48,13 @@ exchange_finished acts other v = assumption (
   read_finished acts ∙ rw (answers_same acts other v, v.read) refl ∙ sym (read_finished other),
 )
 
-pub exchange_act : (act : ExchangeAct) (acts other : List ExchangeAct) → SameExchange acts other → SameExchange (act ∷ acts) (act ∷ other)
-exchange_act UnitDone acts other v = assumption (ap (λ (n : ℕ). suc n) v.done)
-exchange_act (Answered answer) acts other v = assumption (ap (λ (l : List (List ℕ)). l ++ answer ∷ []) v.given)
-exchange_act Finished acts other v = exchange_finished acts other v
-exchange_act (ResponseRead count) acts other v = assumption (ap (λ (n : ℕ). n + count) v.read)
-exchange_act _ acts other v = assumption
+pub act_keeps_same_exchange : (act : ExchangeAct) (acts other : List ExchangeAct) → SameExchange acts other
+    → SameExchange (act ∷ acts) (act ∷ other)
+act_keeps_same_exchange UnitDone acts other v = assumption (ap (λ (n : ℕ). suc n) v.done)
+act_keeps_same_exchange (Answered answer) acts other v = assumption (ap (λ (l : List (List ℕ)). l ++ answer ∷ []) v.given)
+act_keeps_same_exchange Finished acts other v = exchange_finished acts other v
+act_keeps_same_exchange (ResponseRead count) acts other v = assumption (ap (λ (n : ℕ). n + count) v.read)
+act_keeps_same_exchange _ acts other v = assumption
 
 pub response_same : (acts other : List ExchangeAct) → SameExchange acts other → response acts ≡ response other
 response_same acts other v = rw (v.read, v.whole) refl
@@ -61,10 +62,11 @@ response_same acts other v = rw (v.read, v.whole) refl
 -- ---- the text
 
 -- The text stays the same after the same act in both lists.
-pub text_act : (act : ExchangeAct) (acts other : List ExchangeAct) → text acts ≡ text other → text (act ∷ acts) ≡ text (act ∷ other)
-text_act (Accepted bytes ended) acts other same = ap (λ (l : List Symbol). l ++ (map Byte bytes ++ end_mark ended)) same
-text_act TextDropped acts other same = refl
-text_act _ acts other same = same
+pub act_keeps_same_text : (act : ExchangeAct) (acts other : List ExchangeAct) → text acts ≡ text other
+    → text (act ∷ acts) ≡ text (act ∷ other)
+act_keeps_same_text (Accepted bytes ended) acts other same = ap (λ (l : List Symbol). l ++ (map Byte bytes ++ end_mark ended)) same
+act_keeps_same_text TextDropped acts other same = refl
+act_keeps_same_text _ acts other same = same
 
 -- The text of a write that is accepted in two parts is the text of the whole write.
 cut_symbols : (t : List Symbol) (x y : List ℕ) (e : List Symbol)
@@ -74,9 +76,9 @@ cut_symbols t x y e = ap (λ (l : List Symbol). (t ++ l) ++ (map Byte y ++ e)) (
     ∙ ap (λ (l : List Symbol). t ++ l) (sym (append_assoc (map Byte x) (map Byte y) e))
     ∙ ap (λ (l : List Symbol). t ++ (l ++ e)) (sym (map-append Byte x y))
 
-pub text_cut : (x y : List ℕ) (ended : Bool) (acts : List ExchangeAct)
+pub cut_write_has_same_text : (x y : List ℕ) (ended : Bool) (acts : List ExchangeAct)
     → text (Accepted y ended ∷ Accepted x false ∷ acts) ≡ text (Accepted (x ++ y) ended ∷ acts)
-text_cut x y ended acts = cut_symbols (text acts) x y (end_mark ended)
+cut_write_has_same_text x y ended acts = cut_symbols (text acts) x y (end_mark ended)
 
 pub message_same : (acts other : List ExchangeAct) → SameExchange acts other → text acts ≡ text other → message acts ≡ message other
 message_same acts other v same = rw (same, v.count) refl
@@ -100,5 +102,5 @@ due_same acts other v same = rw (
   ended_same acts other v same,
 ) refl
 
-pub exchange_back : (acts other : List ExchangeAct) → SameExchange acts other → SameExchange other acts
-exchange_back acts other v = search sym
+pub same_exchange_sym : (acts other : List ExchangeAct) → SameExchange acts other → SameExchange other acts
+same_exchange_sym acts other v = search sym

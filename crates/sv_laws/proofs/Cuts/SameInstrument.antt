@@ -32,8 +32,8 @@ use Rattle.sv_instrument.specs.Path.{IsPath}
 use Rattle.sv_instrument.specs.QueryResponse.{IsWord, readings_text, oldest_text, value_text, Says}
 use Rattle.sv_instrument.specs.CommandEffect.{after_answering, unless, after_configure, after_query, question_fault, Replies, after_action, Performs}
 use Rattle.sv_instrument.specs.Step.{after_release, Does, Starts, StepOf, IsStep}
-use Rattle.sv_laws.proofs.Cuts.SameExchange.{text_act, answers_same, message_same, next_unit_same, due_same}
-use Rattle.sv_laws.proofs.Cuts.SameStatus.{SameStatus, status_same, status_act, status_back, status_condition, idle_same, master_same}
+use Rattle.sv_laws.proofs.Cuts.SameExchange.{act_keeps_same_text, answers_same, message_same, next_unit_same, due_same}
+use Rattle.sv_laws.proofs.Cuts.SameStatus.{SameStatus, same_status_refl, act_keeps_same_status, same_status_sym, status_condition, idle_same, master_same}
 
 -- ---- two logs
 
@@ -44,7 +44,7 @@ pub record SameInstrument (log other : List Act) : Type 0 where
 
 texts_act : (act : Act) (log other : List Act) → text (exchange_acts log) ≡ text (exchange_acts other)
     → text (exchange_acts (act ∷ log)) ≡ text (exchange_acts (act ∷ other))
-texts_act (Exchanged act) log other same = text_act act (exchange_acts log) (exchange_acts other) same
+texts_act (Exchanged act) log other same = act_keeps_same_text act (exchange_acts log) (exchange_acts other) same
 texts_act Purged log other same = refl
 texts_act _ log other same = same
 
@@ -55,19 +55,20 @@ holds_act (Exchanged TextDropped) log other same = refl
 holds_act Purged log other same = refl
 holds_act _ log other same = same
 
-pub instrument_same : (log : List Act) → SameInstrument log log
-instrument_same log = record { status = status_same log; texts = refl; holds = refl }
+pub same_instrument_refl : (log : List Act) → SameInstrument log log
+same_instrument_refl log = record { status = same_status_refl log; texts = refl; holds = refl }
 
-pub instrument_act : (act : Act) (log other : List Act) → SameInstrument log other → SameInstrument (act ∷ log) (act ∷ other)
-instrument_act act log other v = record {
-  status = status_act act log other v.status;
+pub act_keeps_same_instrument : (act : Act) (log other : List Act) → SameInstrument log other → SameInstrument (act ∷ log) (act ∷ other)
+act_keeps_same_instrument act log other v = record {
+  status = act_keeps_same_status act log other v.status;
   texts = texts_act act log other v.texts;
   holds = holds_act act log other v.holds;
 }
 
-pub instrument_more : (adds log other : List Act) → SameInstrument log other → SameInstrument (adds ++ log) (adds ++ other)
-instrument_more [] log other v = v
-instrument_more (act ∷ adds) log other v = instrument_act act (adds ++ log) (adds ++ other) (instrument_more adds log other v)
+pub acts_keep_same_instrument : (adds log other : List Act) → SameInstrument log other → SameInstrument (adds ++ log) (adds ++ other)
+acts_keep_same_instrument [] log other v = v
+acts_keep_same_instrument (act ∷ adds) log other v = act_keeps_same_instrument act (adds ++ log) (adds ++ other)
+    (acts_keep_same_instrument adds log other v)
 
 -- The acts that lead from `log` to `new` can be added to `other` too, and `IsSuch` holds of the
 -- result.
@@ -150,21 +151,21 @@ taken_acts question.Error = EntryTaken ∷ []
 taken_acts (question.Events name) = StatusChanged (Register name ReadEvents) ∷ []
 taken_acts asked = []
 
-pub taken_is : (asked : Question) (log : List Act) → after_query asked log ≡ taken_acts asked ++ log
-taken_is question.StandardEvents log = refl
-taken_is question.Error log = refl
-taken_is (question.Events name) log = refl
-taken_is asked log = refl
+pub after_query_adds_taken : (asked : Question) (log : List Act) → after_query asked log ≡ taken_acts asked ++ log
+after_query_adds_taken question.StandardEvents log = refl
+after_query_adds_taken question.Error log = refl
+after_query_adds_taken (question.Events name) log = refl
+after_query_adds_taken asked log = refl
 
 replies_alike : (fault : Option Code) (asked : Question) (log other new : List Act) → SameInstrument log other
     → Replies fault asked log new → AddsAlike log other new (Replies fault asked other)
 replies_alike (Some code) asked log other new v is = (Exchanged UnitDone ∷ Reported code ∷ [], is, refl)
 replies_alike None asked log other new v (bytes, says, is) =
     let acts = Exchanged UnitDone ∷ taken_acts asked in
-    let here = ap (λ (l : List Act). after_answering bytes (Exchanged UnitDone ∷ l)) (taken_is asked log) in
-    let there = ap (λ (l : List Act). after_answering bytes (Exchanged UnitDone ∷ l)) (taken_is asked other) in
+    let here = ap (λ (l : List Act). after_answering bytes (Exchanged UnitDone ∷ l)) (after_query_adds_taken asked log) in
+    let there = ap (λ (l : List Act). after_answering bytes (Exchanged UnitDone ∷ l)) (after_query_adds_taken asked other) in
     let so = behind_alike acts log other new (λ l. l ≡ after_answering bytes (acts ++ other))
-    (answered_alike bytes (acts ++ log) (acts ++ other) new (instrument_more acts log other v) (is ∙ here)) in
+    (answered_alike bytes (acts ++ log) (acts ++ other) new (acts_keep_same_instrument acts log other v) (is ∙ here)) in
     (so.0, so.1, (bytes, says_same asked log other v.status bytes says, so.2 ∙ sym there))
 
 -- ---- orders
@@ -177,16 +178,16 @@ abbrev configured_acts : Option (List ℕ) → List Act
 configured_acts None = default_acts
 configured_acts (Some channels) = Scanned (scan.Configure (setting.List channels)) ∷ default_acts
 
-configured_is : (list : Option (List ℕ)) (log : List Act) → after_configure list log ≡ configured_acts list ++ log
-configured_is None log = refl
-configured_is (Some channels) log = refl
+after_configure_adds : (list : Option (List ℕ)) (log : List Act) → after_configure list log ≡ configured_acts list ++ log
+after_configure_adds None log = refl
+after_configure_adds (Some channels) log = refl
 
 configures_alike : (front : List Act) (list : Option (List ℕ)) (log other new : List Act) → new ≡ front ++ after_configure list log
     → AddsAlike log other new (λ there. there ≡ front ++ after_configure list other)
 configures_alike front list log other new is = (
   front ++ configured_acts list,
-  is ∙ ap (λ (l : List Act). front ++ l) (configured_is list log) ∙ sym (append_assoc front (configured_acts list) log),
-  append_assoc front (configured_acts list) other ∙ ap (λ (l : List Act). front ++ l) (sym (configured_is list other)),
+  is ∙ ap (λ (l : List Act). front ++ l) (after_configure_adds list log) ∙ sym (append_assoc front (configured_acts list) log),
+  append_assoc front (configured_acts list) other ∙ ap (λ (l : List Act). front ++ l) (sym (after_configure_adds list other)),
 )
 
 counted_same : (log other : List Act) → SameInstrument log other → effective_acts log ≡ effective_acts other
@@ -251,13 +252,13 @@ released_alike awaited.Nothing log other new v is = (Exchanged UnitDone ∷ [], 
 released_alike awaited.One log other new v is =
     behind_alike (Exchanged UnitDone ∷ []) log other new (λ l. l ≡ after_answering (codes "1") (Exchanged UnitDone ∷ other))
     (answered_alike (codes "1") (Exchanged UnitDone ∷ log) (Exchanged UnitDone ∷ other) new
-    (instrument_act (Exchanged UnitDone) log other v) is)
+    (act_keeps_same_instrument (Exchanged UnitDone) log other v) is)
 released_alike awaited.Readings log other new v is =
     let same = ap (λ (l : List ScanAct). readings_text (readings l)) (counted_same log other v) in
     let so = behind_alike (Exchanged UnitDone ∷ []) log other new
     (λ l. l ≡ after_answering (readings_text (readings (effective_acts log))) (Exchanged UnitDone ∷ other))
     (answered_alike (readings_text (readings (effective_acts log))) (Exchanged UnitDone ∷ log) (Exchanged UnitDone ∷ other) new
-    (instrument_act (Exchanged UnitDone) log other v) is) in
+    (act_keeps_same_instrument (Exchanged UnitDone) log other v) is) in
     (so.0, so.1, so.2 ∙ ap (λ (bytes : List ℕ). after_answering bytes (Exchanged UnitDone ∷ other)) same)
 
 step_of_alike : (holding : Option Awaited) (next : Due) (log other new : List Act) → SameInstrument log other
@@ -270,7 +271,7 @@ step_of_alike None OverrunDue log other new v is = (Reported InputBufferOverrun 
 step_of_alike None InterruptDue log other new v (unit, next, starts) =
     let acts = Reported QueryInterrupted ∷ Exchanged Interrupted ∷ [] in
     let so = behind_alike acts log other new (Starts unit (acts ++ other))
-    (starts_alike unit (acts ++ log) (acts ++ other) new (instrument_more acts log other v) starts) in (
+    (starts_alike unit (acts ++ log) (acts ++ other) new (acts_keep_same_instrument acts log other v) starts) in (
       so.0,
       so.1,
       (unit, sym (next_unit_same (exchange_acts log) (exchange_acts other) v.status.exchange v.texts) ∙ next, so.2),
@@ -278,9 +279,9 @@ step_of_alike None InterruptDue log other new v (unit, next, starts) =
 step_of_alike None (UnitDue unit) log other new v starts = starts_alike unit log other new v starts
 step_of_alike None FinishDue log other new v is = (Exchanged Finished ∷ [], is, refl)
 
-pub instrument_step : (log other new : List Act) → SameInstrument log other → IsStep log new
+pub same_instrument_same_step : (log other new : List Act) → SameInstrument log other → IsStep log new
     → (adds : List Act) × (new ≡ adds ++ log) × IsStep other (adds ++ other)
-instrument_step log other new v step =
+same_instrument_same_step log other new v step =
     let so = step_of_alike (held_unit log) (due (exchange_acts log)) log other new v step in (
       so.0,
       so.1,
@@ -289,6 +290,6 @@ instrument_step log other new v step =
           (due_same (exchange_acts log) (exchange_acts other) v.status.exchange v.texts) so.2),
     )
 
-pub instrument_back : (log other : List Act) → SameInstrument log other → SameInstrument other log
-instrument_back log other v =
-    record { status = status_back log other v.status; texts = sym v.texts; holds = sym v.holds }
+pub same_instrument_sym : (log other : List Act) → SameInstrument log other → SameInstrument other log
+same_instrument_sym log other v =
+    record { status = same_status_sym log other v.status; texts = sym v.texts; holds = sym v.holds }

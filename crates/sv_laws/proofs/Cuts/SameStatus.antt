@@ -8,7 +8,7 @@ use Rattle.sv_errors.specs.declared.error_queue.QueueAct.TheVariants as queue_ac
 use Rattle.sv_errors.specs.ErrorQueue.{entries, is_full}
 use Rattle.std.specs.List.{range_with_len}
 use Rattle.sv_logs.specs.Since.{is_since}
-use Rattle.sv_logs.proofs.Since.{since_empty, since_alike, since_over, then_same}
+use Rattle.sv_logs.proofs.Since.{since_empty, since_agrees, since_skips_act, iff_transitive}
 use Rattle.sv_status.specs.declared.register_name.RegisterName.{RegisterName}
 use Rattle.sv_status.specs.declared.register_name.RegisterName.TheVariants.{Operation, Questionable}
 use Rattle.sv_scan.specs.Counted.{effective}
@@ -25,20 +25,20 @@ use Rattle.sv_layers.proofs.Either.{unchanged, either_same, both_same, equal_sam
 use Rattle.sv_layers.proofs.Transitions.{Passes, NotCleared, changes, no_change}
 use Rattle.sv_layers.proofs.LimitSummary.{some_same}
 use Rattle.sv_layers.proofs.EachRegister.{condition_same}
-use Rattle.sv_laws.proofs.Cuts.SameExchange.{SameExchange, exchange_same, exchange_act, exchange_accepted, exchange_back, response_same}
+use Rattle.sv_laws.proofs.Cuts.SameExchange.{SameExchange, same_exchange_refl, act_keeps_same_exchange, text_keeps_same_exchange, same_exchange_sym, response_same}
 
 -- ---- two logs
 
 -- Whether an event bit is set in a register, if only the condition bits of the scanner count: a
 -- transition passed its filter since the register was last cleared.
-abbrev stood : RegisterName → ℕ → List Act → Bool
-stood name k log = is_since (passes (word name) name k) (leaves name) log
+abbrev set_by_scanner : RegisterName → ℕ → List Act → Bool
+set_by_scanner name k log = is_since (passes (word name) name k) (leaves name) log
 
 -- The two logs agree on everything but the pending request for service.
 pub record SameParts (log other : List Act) : Type 0 where
   pub scanned : scan_acts log ≡ scan_acts other
   pub queued : queue_acts log ≡ queue_acts other
-  pub since : (name : RegisterName) (k : ℕ) → stood name k log ≡ stood name k other
+  pub since : (name : RegisterName) (k : ℕ) → set_by_scanner name k log ≡ set_by_scanner name k other
   pub rises : (name : RegisterName) → rise name log ≡ rise name other
   pub falls : (name : RegisterName) → fall name log ≡ fall name other
   pub enables : (name : RegisterName) → enable name log ≡ enable name other
@@ -56,9 +56,9 @@ pub record SameStatus (log other : List Act) : Type 0 where
   pub request : Request log ↔ Request other
 
 nested_same : (name : RegisterName) (log other : List Act) → enable name log ≡ enable name other
-    → ((k : ℕ) → stood name k log ≡ stood name k other) → summary name log ≡ summary name other
+    → ((k : ℕ) → set_by_scanner name k log ≡ set_by_scanner name k other) → summary name log ≡ summary name other
 nested_same name log other mask same = some_same (range_with_len 0 16) _ _ (λ k.
-    ap (λ (b : Bool). b && has_bit (enable name log) k) (same k) ∙ ap (λ (w : ℕ). stood name k other && has_bit w k) mask)
+    ap (λ (b : Bool). b && has_bit (enable name log) k) (same k) ∙ ap (λ (w : ℕ). set_by_scanner name k other && has_bit w k) mask)
 
 pub status_condition : (name : RegisterName) (log other : List Act) → SameParts log other → condition name log ≡ condition name other
 status_condition name log other v =
@@ -78,27 +78,28 @@ summary_same P Q mask also same events = (
   (λ s. (s.0, (events s.0).1 s.1, rw (← same) at s.2)),
 )
 
-bits_same : (k : ℕ) (log other : List Act) → SameParts log other → SummaryBit k log ↔ SummaryBit k other
-bits_same k log other v = either_same unchanged (both_same (summary_same _ _ _ _ (v.enables Operation) (v.events Operation)))
+summary_bits_same : (k : ℕ) (log other : List Act) → SameParts log other → SummaryBit k log ↔ SummaryBit k other
+summary_bits_same k log other v = either_same unchanged (both_same (summary_same _ _ _ _ (v.enables Operation) (v.events Operation)))
     (either_same unchanged (both_same (summary_same _ _ _ _ v.standards v.stands))
     (either_same unchanged
     (both_same (equal_same _ _ (ap is_something (response_same (exchange_acts log) (exchange_acts other) v.exchange))))
     (either_same unchanged (both_same (summary_same _ _ _ _ (v.enables Questionable) (v.events Questionable)))
     (both_same (equal_same _ _ (ap (λ (l : List QueueAct). is_something (entries l)) v.queued))))))
 
-asks_same : (k : ℕ) (log other : List Act) → SameParts log other → ServiceRequested k log ↔ ServiceRequested k other
-asks_same k log other v =
-    let bits = bits_same k log other v in
+service_requested_same : (k : ℕ) (log other : List Act) → SameParts log other → ServiceRequested k log ↔ ServiceRequested k other
+service_requested_same k log other v =
+    let bits = summary_bits_same k log other v in
     ((λ h. (bits.0 h.0, rw v.serves at h.1)), (λ h. (bits.1 h.0, rw (← v.serves) at h.1)))
 
 masters_same : (log other : List Act) → SameParts log other → Master log ↔ Master other
-masters_same log other v = ((λ m. (m.0, (asks_same m.0 log other v).0 m.1)), (λ m. (m.0, (asks_same m.0 log other v).1 m.1)))
+masters_same log other v =
+    ((λ m. (m.0, (service_requested_same m.0 log other v).0 m.1)), (λ m. (m.0, (service_requested_same m.0 log other v).1 m.1)))
 
 request_act : (act : Act) (log other : List Act) → SameParts (act ∷ log) (act ∷ other) → SameParts log other
     → Request log ↔ Request other → Request (act ∷ log) ↔ Request (act ∷ other)
-request_act act log other now was before = since_alike Reason Lasts act log other (
-  (λ r. (r.0, (asks_same r.0 _ _ now).0 r.1, λ a. r.2 ((asks_same r.0 _ _ was).1 a))),
-  (λ r. (r.0, (asks_same r.0 _ _ now).1 r.1, λ a. r.2 ((asks_same r.0 _ _ was).0 a))),
+request_act act log other now was before = since_agrees Reason Lasts act log other (
+  (λ r. (r.0, (service_requested_same r.0 _ _ now).0 r.1, λ a. r.2 ((service_requested_same r.0 _ _ was).1 a))),
+  (λ r. (r.0, (service_requested_same r.0 _ _ now).1 r.1, λ a. r.2 ((service_requested_same r.0 _ _ was).0 a))),
 ) (lasts act now) before
   where
     lasts : (act : Act) → SameParts (act ∷ log) (act ∷ other) → Lasts (act ∷ log) ↔ Lasts (act ∷ other)
@@ -115,9 +116,9 @@ queue_more _ log other same = same
 
 exchange_more : (act : Act) (log other : List Act) → SameExchange (exchange_acts log) (exchange_acts other)
     → SameExchange (exchange_acts (act ∷ log)) (exchange_acts (act ∷ other))
-exchange_more (Exchanged act) log other v = exchange_act act (exchange_acts log) (exchange_acts other) v
-exchange_more Purged log other v = exchange_act Interrupted (TextDropped ∷ exchange_acts log) (TextDropped ∷ exchange_acts other)
-    (exchange_act TextDropped (exchange_acts log) (exchange_acts other) v)
+exchange_more (Exchanged act) log other v = act_keeps_same_exchange act (exchange_acts log) (exchange_acts other) v
+exchange_more Purged log other v = act_keeps_same_exchange Interrupted (TextDropped ∷ exchange_acts log) (TextDropped ∷ exchange_acts other)
+    (act_keeps_same_exchange TextDropped (exchange_acts log) (exchange_acts other) v)
 exchange_more _ log other v = v
 
 -- ---- events of a status register
@@ -131,7 +132,7 @@ leaves_act name (StatusChanged (Register which ReadEvents)) log other = refl
 leaves_act name act log other = refl
 
 stood_act : (name : RegisterName) (k : ℕ) (act : Act) (log other : List Act) → effective_acts (act ∷ log) ≡ effective_acts (act ∷ other)
-    → SameParts log other → stood name k (act ∷ log) ≡ stood name k (act ∷ other)
+    → SameParts log other → set_by_scanner name k (act ∷ log) ≡ set_by_scanner name k (act ∷ other)
 stood_act name k act log other now v =
     rw (now, ap effective v.scanned, v.rises name, v.falls name, v.since name k, leaves_act name act log other) refl
 
@@ -179,16 +180,16 @@ parts_act act log other v =
       enables = enables;
       standards = rw v.standards refl;
       serves = rw v.serves refl;
-      events = λ name k. since_alike (Passes name k) (NotCleared name) act log other (passes_act name k act log other (now name) v)
+      events = λ name k. since_agrees (Passes name k) (NotCleared name) act log other (passes_act name k act log other (now name) v)
           (rw (leaves_act name act log other) unchanged) (v.events name k);
-      waits = since_alike standard.IsAsked standard.IsPending act log other (asked_act act log other) (rw idle unchanged) v.waits;
-      stands = λ k. since_alike (standard.Occurs k) standard.NotCleared act log other (occurs_act k act log other idle v)
+      waits = since_agrees standard.IsAsked standard.IsPending act log other (asked_act act log other) (rw idle unchanged) v.waits;
+      stands = λ k. since_agrees (standard.Occurs k) standard.NotCleared act log other (occurs_act k act log other idle v)
           (kept_act act log other) (v.stands k);
       exchange = exchange_more act log other v.exchange;
     }
 
-pub status_act : (act : Act) (log other : List Act) → SameStatus log other → SameStatus (act ∷ log) (act ∷ other)
-status_act act log other v =
+pub act_keeps_same_status : (act : Act) (log other : List Act) → SameStatus log other → SameStatus (act ∷ log) (act ∷ other)
+act_keeps_same_status act log other v =
     let parts = parts_act act log other v.parts in
     record { parts = parts; request = request_act act log other parts v.parts v.request }
 
@@ -198,8 +199,8 @@ abbrev accepted : List ℕ → Bool → Act
 accepted bytes ended = Exchanged (Accepted bytes ended)
 
 stood_over : (name : RegisterName) (k : ℕ) (bytes : List ℕ) (ended : Bool) (log : List Act)
-    → stood name k (accepted bytes ended ∷ log) ≡ stood name k log
-stood_over name k bytes ended log = ap (λ (b : Bool). b || stood name k log)
+    → set_by_scanner name k (accepted bytes ended ∷ log) ≡ set_by_scanner name k log
+stood_over name k bytes ended log = ap (λ (b : Bool). b || set_by_scanner name k log)
     (no_change (has_bit (word name log) k) (has_bit (rise name log) k) (has_bit (fall name log) k))
 
 never_passes : (name : RegisterName) (k : ℕ) (bytes : List ℕ) (ended : Bool) (log : List Act)
@@ -230,56 +231,57 @@ parts_accepted : (bytes : List ℕ) (ended : Bool) (log other : List Act) → Sa
     → SameParts (accepted bytes ended ∷ log) other
 parts_accepted bytes ended log other v = assumption (
   (λ (name : RegisterName) (k : ℕ). stood_over name k bytes ended log ∙ v.since name k),
-  (λ (name : RegisterName) (k : ℕ). then_same (since_over (Passes name k) (NotCleared name) (accepted bytes ended) log
+  (λ (name : RegisterName) (k : ℕ). iff_transitive (since_skips_act (Passes name k) (NotCleared name) (accepted bytes ended) log
       (never_passes name k bytes ended log) (λ s. refl)) (v.events name k)),
-  then_same (since_over standard.IsAsked standard.IsPending (accepted bytes ended) log (λ h. h) (pending_over bytes ended log)) v.waits,
-  (λ (k : ℕ). then_same (since_over (standard.Occurs k) standard.NotCleared (accepted bytes ended) log
+  iff_transitive (since_skips_act standard.IsAsked standard.IsPending (accepted bytes ended) log (λ h. h) (pending_over bytes ended log))
+      v.waits,
+  (λ (k : ℕ). iff_transitive (since_skips_act (standard.Occurs k) standard.NotCleared (accepted bytes ended) log
       (λ h. never_completes bytes ended log h.1) (λ s. tt)) (v.stands k)),
-  exchange_accepted bytes ended (exchange_acts log) (exchange_acts other) v.exchange,
+  text_keeps_same_exchange bytes ended (exchange_acts log) (exchange_acts other) v.exchange,
 )
 
 parts_same : (log : List Act) → SameParts log log
-parts_same log = assumption (exchange_same (exchange_acts log))
+parts_same log = assumption (same_exchange_refl (exchange_acts log))
 
 request_over : (bytes : List ℕ) (ended : Bool) (log : List Act) → Request (accepted bytes ended ∷ log) ↔ Request log
 request_over bytes ended log =
     let now = parts_accepted bytes ended log log (parts_same log) in
-    since_over Reason Lasts (accepted bytes ended) log (λ h. h.2 ((asks_same h.0 _ _ now).0 h.1))
+    since_skips_act Reason Lasts (accepted bytes ended) log (λ h. h.2 ((service_requested_same h.0 _ _ now).0 h.1))
     (λ s. (masters_same _ _ now).1 (lasts_master log (s.kept 0 (omega arith))))
 
 -- Accepting text in one of the logs keeps the status the same.
-pub status_accepted : (bytes : List ℕ) (ended : Bool) (log other : List Act) → SameStatus log other
+pub text_keeps_same_status : (bytes : List ℕ) (ended : Bool) (log other : List Act) → SameStatus log other
     → SameStatus (accepted bytes ended ∷ log) other
-status_accepted bytes ended log other v = record {
+text_keeps_same_status bytes ended log other v = record {
   parts = parts_accepted bytes ended log other v.parts;
-  request = then_same (request_over bytes ended log) v.request;
+  request = iff_transitive (request_over bytes ended log) v.request;
 }
 
 -- ---- requests for service that are raised
 
-pub raised_same : (act : Act) (log other : List Act) → SameStatus log other → IsRaised (act ∷ log) ↔ IsRaised (act ∷ other)
-raised_same act log other v =
-    let now = (status_act act log other v).request in
+pub same_act_raises_same : (act : Act) (log other : List Act) → SameStatus log other → IsRaised (act ∷ log) ↔ IsRaised (act ∷ other)
+same_act_raises_same act log other v =
+    let now = (act_keeps_same_status act log other v).request in
     ((λ h. (now.0 h.0, λ b. h.1 (v.request.1 b))), (λ h. (now.1 h.0, λ b. h.1 (v.request.0 b))))
 
 -- Accepting text raises no request for service.
-pub never_raised : (bytes : List ℕ) (ended : Bool) (log : List Act) → IsRaised (Exchanged (Accepted bytes ended) ∷ log) → ⊥
-never_raised bytes ended log h = h.1 ((request_over bytes ended log).0 h.0)
+pub text_raises_no_request : (bytes : List ℕ) (ended : Bool) (log : List Act) → IsRaised (Exchanged (Accepted bytes ended) ∷ log) → ⊥
+text_raises_no_request bytes ended log h = h.1 ((request_over bytes ended log).0 h.0)
 
 pub polled_same : (k : ℕ) (log other : List Act) → SameStatus log other → PolledBit k log ↔ PolledBit k other
-polled_same k log other v = either_same unchanged (bits_same k log other v.parts) (both_same v.request)
+polled_same k log other v = either_same unchanged (summary_bits_same k log other v.parts) (both_same v.request)
 
 pub master_same : (k : ℕ) (log other : List Act) → SameStatus log other → MasterBit k log ↔ MasterBit k other
-master_same k log other v = either_same unchanged (bits_same k log other v.parts) (both_same (masters_same log other v.parts))
+master_same k log other v = either_same unchanged (summary_bits_same k log other v.parts) (both_same (masters_same log other v.parts))
 
-turned : {P Q : Type 0} → P ↔ Q → Q ↔ P
-turned same = (same.1, same.0)
+iff_sym : {P Q : Type 0} → P ↔ Q → Q ↔ P
+iff_sym same = (same.1, same.0)
 
-pub status_back : (log other : List Act) → SameStatus log other → SameStatus other log
-status_back log other v = record {
-  parts = search (sym, turned, exchange_back, v.since, v.rises, v.falls, v.enables, v.events, v.stands);
-  request = turned v.request;
+pub same_status_sym : (log other : List Act) → SameStatus log other → SameStatus other log
+same_status_sym log other v = record {
+  parts = search (sym, iff_sym, same_exchange_sym, v.since, v.rises, v.falls, v.enables, v.events, v.stands);
+  request = iff_sym v.request;
 }
 
-pub status_same : (log : List Act) → SameStatus log log
-status_same log = record { parts = parts_same log; request = unchanged }
+pub same_status_refl : (log : List Act) → SameStatus log log
+same_status_refl log = record { parts = parts_same log; request = unchanged }

@@ -9,8 +9,8 @@ use Rattle.sv_history.specs.Connection.{join_pieces, next_call, open_role, pendi
 use Rattle.sv_history.specs.Request.{next_request}
 use Rattle.sv_history.specs.Effect.{Effect, acts_of}
 use Rattle.sv_laws.specs.Adding.{all_replies}
-use Rattle.sv_laws.proofs.Cuts.ReadsOn.{read_alike}
-use Rattle.sv_history.proofs.Projections.{of_effect, others_effect, device_effect}
+use Rattle.sv_laws.proofs.Cuts.ReadsOn.{same_reading_append}
+use Rattle.sv_history.proofs.Projections.{of_effect, of_others_effect, device_effect}
 
 -- ---- the acts of a connection
 
@@ -32,31 +32,33 @@ pub record SameConnection (acts others : List ConnAct) : Type 0 where
 pub connection_none : SameConnection [] []
 connection_none = assumption
 
-pub connection_back : (acts others : List ConnAct) → SameConnection acts others → SameConnection others acts
-connection_back acts others v = record { shown = search sym; streams = sym v.streams }
+pub same_connection_sym : (acts others : List ConnAct) → SameConnection acts others → SameConnection others acts
+same_connection_sym acts others v = record { shown = search sym; streams = sym v.streams }
 
-pub same_act : (act : ConnAct) (acts others : List ConnAct) → SameConnection acts others → SameConnection (act ∷ acts) (act ∷ others)
-same_act (Piece bytes) acts others v = assumption (read_alike (stream acts) (stream others) bytes v.streams)
-same_act Faulted acts others v = assumption (ap suc v.count)
-same_act (Replied bytes) acts others v = assumption (ap suc v.count, ap (λ (l : List ℕ). l ++ bytes) v.replies)
-same_act _ acts others v = assumption
+pub act_keeps_same_connection : (act : ConnAct) (acts others : List ConnAct) → SameConnection acts others
+    → SameConnection (act ∷ acts) (act ∷ others)
+act_keeps_same_connection (Piece bytes) acts others v = assumption (same_reading_append (stream acts) (stream others) bytes v.streams)
+act_keeps_same_connection Faulted acts others v = assumption (ap suc v.count)
+act_keeps_same_connection (Replied bytes) acts others v = assumption (ap suc v.count, ap (λ (l : List ℕ). l ++ bytes) v.replies)
+act_keeps_same_connection _ acts others v = assumption
 
 -- `acts` shows the same as `base`, and its stream has `bytes` added.
-abbrev pub Came : List ConnAct → List ConnAct → List ℕ → Type 0
-Came acts base bytes = SameShown acts base × (stream acts ≡ stream base ++ bytes)
+abbrev pub ShowsSameWithBytes : List ConnAct → List ConnAct → List ℕ → Type 0
+ShowsSameWithBytes acts base bytes = SameShown acts base × (stream acts ≡ stream base ++ bytes)
 
-pub came : (pieces : List (List ℕ)) (base : List ConnAct) → Came (map Piece pieces ++ base) base (join_pieces pieces)
-came [] base = assumption (sym (append-nil (stream base)))
-came (piece ∷ pieces) base =
-    let so = came pieces base in
+pub pieces_extend_only_stream : (pieces : List (List ℕ)) (base : List ConnAct)
+    → ShowsSameWithBytes (map Piece pieces ++ base) base (join_pieces pieces)
+pieces_extend_only_stream [] base = assumption (sym (append-nil (stream base)))
+pieces_extend_only_stream (piece ∷ pieces) base =
+    let so = pieces_extend_only_stream pieces base in
     assumption (ap (λ (l : List ℕ). l ++ piece) so.1 ∙ append_assoc (stream base) (join_pieces pieces) piece)
 
 same_pieces : (pieces others : List (List ℕ)) (acts also : List ConnAct)
     → reading (stream acts ++ join_pieces pieces) ≡ reading (stream also ++ join_pieces others)
     → SameConnection acts also → SameConnection (map Piece pieces ++ acts) (map Piece others ++ also)
 same_pieces pieces others acts also streams v =
-    let (one, stream_one) = came pieces acts in
-    let (two, stream_two) = came others also in
+    let (one, stream_one) = pieces_extend_only_stream pieces acts in
+    let (two, stream_two) = pieces_extend_only_stream others also in
     record {
       shown = record {
         role = one.role ∙ v.role ∙ sym two.role;
@@ -82,23 +84,23 @@ pub record Alike (log other : List Act) : Type 0 where
   pub device : device_acts log ≡ device_acts other
   pub each : (c : ℕ) → SameConnection (of c log) (of c other)
 
-pub alike_none : Alike [] []
-alike_none = record { device = refl; each = λ c. connection_none }
+pub alike_empty : Alike [] []
+alike_empty = record { device = refl; each = λ c. connection_none }
 
-pub alike_back : (log other : List Act) → Alike log other → Alike other log
-alike_back log other alike =
-    record { device = sym alike.device; each = λ c. connection_back (of c log) (of c other) (alike.each c) }
+pub alike_sym : (log other : List Act) → Alike log other → Alike other log
+alike_sym log other alike =
+    record { device = sym alike.device; each = λ c. same_connection_sym (of c log) (of c other) (alike.each c) }
 
-pub alike_more : (adds log other : List Act) → Alike log other → Alike (adds ++ log) (adds ++ other)
-alike_more [] log other alike = alike
-alike_more (OnDevice act ∷ adds) log other alike =
-    let so = alike_more adds log other alike in assumption (ap (λ (l : List DeviceAct). act ∷ l) so.device)
-alike_more (On c act ∷ adds) log other alike =
-    let so = alike_more adds log other alike in
+pub acts_keep_alike : (adds log other : List Act) → Alike log other → Alike (adds ++ log) (adds ++ other)
+acts_keep_alike [] log other alike = alike
+acts_keep_alike (OnDevice act ∷ adds) log other alike =
+    let so = acts_keep_alike adds log other alike in assumption (ap (λ (l : List DeviceAct). act ∷ l) so.device)
+acts_keep_alike (On c act ∷ adds) log other alike =
+    let so = acts_keep_alike adds log other alike in
     record {
       device = so.device;
       each = λ d. elim (cases_Bool (c == d)) [
-        | inl e ↦ rw e (same_act act (of d (adds ++ log)) (of d (adds ++ other)) (so.each d))
+        | inl e ↦ rw e (act_keeps_same_connection act (of d (adds ++ log)) (of d (adds ++ other)) (so.each d))
         | inr e ↦ rw e (so.each d)
       ];
     }
@@ -109,13 +111,13 @@ alike_more (On c act ∷ adds) log other alike =
 abbrev pub only_own : List ConnAct → Effect
 only_own own = record { own = own; adds = [] }
 
-abbrev pub came_on : ℕ → List (List ℕ) → List Act
-came_on c pieces = acts_of c (only_own (map Piece pieces))
+abbrev pub pieces_on : ℕ → List (List ℕ) → List Act
+pieces_on c pieces = acts_of c (only_own (map Piece pieces))
 
-pub alike_came : (c : ℕ) (pieces others : List (List ℕ)) (log other : List Act)
+pub pieces_keep_alike : (c : ℕ) (pieces others : List (List ℕ)) (log other : List Act)
     → reading (stream (of c log) ++ join_pieces pieces) ≡ reading (stream (of c other) ++ join_pieces others) → Alike log other
-    → Alike (came_on c pieces ++ log) (came_on c others ++ other)
-alike_came c pieces others log other streams alike =
+    → Alike (pieces_on c pieces ++ log) (pieces_on c others ++ other)
+pieces_keep_alike c pieces others log other streams alike =
     let one = only_own (map Piece pieces) in
     let two = only_own (map Piece others) in
     record {
@@ -123,6 +125,6 @@ alike_came c pieces others log other streams alike =
       each = λ d. elim (cases_eq d c) [
         | inl e ↦ rw (e, of_effect c one log, of_effect c two other)
             (same_pieces pieces others (of c log) (of c other) streams (alike.each c))
-        | inr ne ↦ rw (others_effect c d one log ne, others_effect c d two other ne) (alike.each d)
+        | inr ne ↦ rw (of_others_effect c d one log ne, of_others_effect c d two other ne) (alike.each d)
       ];
     }

@@ -20,7 +20,7 @@ use Rattle.sv_history.specs.Effect.{acts_of}
 use Rattle.sv_history.specs.Execution.{request_effect, aborts}
 use Rattle.sv_history.specs.Resuming.{failure_effect, connect_effect}
 use Rattle.sv_history.specs.History.{abort_acts, turn_acts, own_acts}
-use Rattle.sv_laws.proofs.Cuts.SharedSteps.{SameCalls, request_alike, aborts_alike}
+use Rattle.sv_laws.proofs.Cuts.SharedSteps.{SameCalls, same_device_same_effect, aborts_alike}
 
 -- Each connection's next call, and what it requests, is the same too.
 pub record SameNext (log other : List Act) : Type 0 where
@@ -29,18 +29,18 @@ pub record SameNext (log other : List Act) : Type 0 where
   pub requests : (d : ℕ) → next_request (of d log) ≡ next_request (of d other)
 
 -- The acts that abort a suspended call are the same.
-ended_shared : (found : Option ℕ) (log other : List Act) → ((d : ℕ) → pending_call (of d log) ≡ pending_call (of d other))
+abort_acts_same : (found : Option ℕ) (log other : List Act) → ((d : ℕ) → pending_call (of d log) ≡ pending_call (of d other))
     → abort_acts found log ≡ abort_acts found other
-ended_shared None log other same = refl
-ended_shared (Some d) log other same = ap (λ (o : Option (List ℕ)). acts_of d (failure_effect Abort d (core_call_in o))) (same d)
+abort_acts_same None log other same = refl
+abort_acts_same (Some d) log other same = ap (λ (o : Option (List ℕ)). acts_of d (failure_effect Abort d (core_call_in o))) (same d)
 
 -- Adding the same acts to both logs keeps the pending calls the same.
-pub calls_behind : (adds log other : List Act) → ((d : ℕ) → pending_call (of d log) ≡ pending_call (of d other))
+pub acts_keep_same_calls : (adds log other : List Act) → ((d : ℕ) → pending_call (of d log) ≡ pending_call (of d other))
     → (d : ℕ) → pending_call (of d (adds ++ log)) ≡ pending_call (of d (adds ++ other))
-calls_behind [] log other same d = same d
-calls_behind (OnDevice act ∷ adds) log other same d = calls_behind adds log other same d
-calls_behind (On c act ∷ adds) log other same d =
-    on_one act (c == d) (of d (adds ++ log)) (of d (adds ++ other)) (calls_behind adds log other same d)
+acts_keep_same_calls [] log other same d = same d
+acts_keep_same_calls (OnDevice act ∷ adds) log other same d = acts_keep_same_calls adds log other same d
+acts_keep_same_calls (On c act ∷ adds) log other same d =
+    on_one act (c == d) (of d (adds ++ log)) (of d (adds ++ other)) (acts_keep_same_calls adds log other same d)
   where
     on_one : (act : ConnAct) (b : Bool) (mine also : List ConnAct) → pending_call mine ≡ pending_call also
         → pending_call (if b then act ∷ mine else mine) ≡ pending_call (if b then act ∷ also else also)
@@ -49,34 +49,35 @@ calls_behind (On c act ∷ adds) log other same d =
     on_one (BytesTaken count) true mine also same = same
     on_one _ true mine also same = refl
 
-turn_shared : (config : Config) (polled c : ℕ) (call : Option (List ℕ)) (request : Option Request) (log other : List Act)
+turn_acts_same : (config : Config) (polled c : ℕ) (call : Option (List ℕ)) (request : Option Request) (log other : List Act)
     → SameNext log other → turn_acts config polled c call request log ≡ turn_acts config polled c call request other
-turn_shared config polled c (Some bytes) (Some request) log other v =
+turn_acts_same config polled c (Some bytes) (Some request) log other v =
     let effect = request_effect config polled c request (device_acts other) in
     let found = aborts request (device_acts other) in
     let acts = acts_of c effect ++ On c (CallTaken bytes) ∷ [] in
     rw (
-      request_alike config polled c request (device_acts log) (device_acts other) v.now.device,
+      same_device_same_effect config polled c request (device_acts log) (device_acts other) v.now.device,
       aborts_alike request (device_acts log) (device_acts other) v.now.device,
-    ) (ap (λ (l : List Act). l ++ acts) (ended_shared found (acts ++ log) (acts ++ other) (calls_behind acts log other v.now.calls)))
-turn_shared config polled c _ _ log other v = refl
+    ) (ap (λ (l : List Act). l ++ acts)
+        (abort_acts_same found (acts ++ log) (acts ++ other) (acts_keep_same_calls acts log other v.now.calls)))
+turn_acts_same config polled c _ _ log other v = refl
 
 abbrev shuts_by : ℕ → List LinkAct → List Act
 shuts_by c links = map OnDevice (Channel (ChannelClosed c) ∷ map Linked (closing c links) ++ Waited (Left c) ∷ []) ++ On c PortClosed ∷ []
 
-pub own_shared : (config : Config) (polled : ℕ) (event : PlainEvent) (log other : List Act) → SameNext log other
+pub own_acts_same : (config : Config) (polled : ℕ) (event : PlainEvent) (log other : List Act) → SameNext log other
     → own_acts config polled event log ≡ own_acts config polled event other
-own_shared config polled (Turn c) log other v =
-    turn_shared config polled c (next_call (of c log)) (next_request (of c log)) log other v ∙ rw (v.requests c, v.calls c) refl
-own_shared config polled (Refuse c) log other v = rw (v.requests c, v.calls c) refl
-own_shared config polled (Close (Conn c)) log other v = ap (λ (l : List LinkAct). shuts_by c l) v.now.device.links
-own_shared config polled (Dialed c ok) log other v =
+own_acts_same config polled (Turn c) log other v =
+    turn_acts_same config polled c (next_call (of c log)) (next_request (of c log)) log other v ∙ rw (v.requests c, v.calls c) refl
+own_acts_same config polled (Refuse c) log other v = rw (v.requests c, v.calls c) refl
+own_acts_same config polled (Close (Conn c)) log other v = ap (λ (l : List LinkAct). shuts_by c l) v.now.device.links
+own_acts_same config polled (Dialed c ok) log other v =
     ap (λ (o : Option (List ℕ)). acts_of c (connect_effect c ok (core_call_in o))) (v.now.calls c)
-own_shared config polled External log other v =
+own_acts_same config polled External log other v =
     ap (λ (l : List ScanAct). map OnDevice (map Applied (or_nothing (trigger_fault (effective l) ByInput))))
     v.now.device.instrument.status.scanned
-own_shared config polled Tick log other v =
+own_acts_same config polled Tick log other v =
     ap (λ (l : List ScanAct). map OnDevice (map Applied (where_scanning (state (effective l)))) ++ OnDevice Ticked ∷ [])
     v.now.device.instrument.status.scanned
-own_shared config polled (Took (Conn c) count) log other v = refl
-own_shared config polled _ log other v = refl
+own_acts_same config polled (Took (Conn c) count) log other v = refl
+own_acts_same config polled _ log other v = refl

@@ -12,13 +12,13 @@ use Rattle.sv_history.specs.Act.{Act, ConnAct, DeviceAct, On, OnDevice, of, devi
 use Rattle.sv_history.specs.Requests.{HearsOf}
 use Rattle.sv_history.specs.History.{IsLogOf}
 use Rattle.sv_laws.specs.Adding.{all_replies, Adds}
-use Rattle.sv_laws.proofs.Facts.{moved}
-use Rattle.sv_laws.proofs.OneLog.{one_log, sends_moved}
-use Rattle.sv_laws.proofs.Cuts.SameDevice.{SameDevice, device_act, device_back, Tells, tells_act}
+use Rattle.sv_laws.proofs.Facts.{relation_of_equals}
+use Rattle.sv_laws.proofs.OneLog.{one_log, sends_in_other_history}
+use Rattle.sv_laws.proofs.Cuts.SameDevice.{SameDevice, act_keeps_same_device, same_device_sym, Tells, tells_act}
 use Rattle.sv_laws.proofs.Cuts.SharedSteps.{SameCalls}
 use Rattle.sv_laws.proofs.Cuts.SharedEvents.{SameNext}
-use Rattle.sv_laws.proofs.Cuts.KeptLogs.{IsKept, event_so}
-use Rattle.sv_laws.proofs.Cuts.SameAhead.{SameAhead, ahead_more, next_call_ahead, next_request_ahead}
+use Rattle.sv_laws.proofs.Cuts.KeptLogs.{IsKept, kept_through_event}
+use Rattle.sv_laws.proofs.Cuts.SameAhead.{SameAhead, acts_keep_same_ahead, next_call_ahead, next_request_ahead}
 
 -- ---- the acts of the device
 
@@ -29,18 +29,18 @@ pub record SameShared (acts other : List DeviceAct) : Type 0 where
   pub tells : Tells acts other
   pub back : Tells other acts
 
-pub shared_more : (adds log other : List Act) → SameShared (device_acts log) (device_acts other)
+pub acts_keep_same_shared : (adds log other : List Act) → SameShared (device_acts log) (device_acts other)
     → SameShared (device_acts (adds ++ log)) (device_acts (adds ++ other))
-shared_more [] log other v = v
-shared_more (On c act ∷ adds) log other v = shared_more adds log other v
-shared_more (OnDevice act ∷ adds) log other v =
-    let so = shared_more adds log other v in
+acts_keep_same_shared [] log other v = v
+acts_keep_same_shared (On c act ∷ adds) log other v = acts_keep_same_shared adds log other v
+acts_keep_same_shared (OnDevice act ∷ adds) log other v =
+    let so = acts_keep_same_shared adds log other v in
     let here = device_acts (adds ++ log) in
     let there = device_acts (adds ++ other) in
     record {
-      device = device_act act here there so.device;
+      device = act_keeps_same_device act here there so.device;
       tells = tells_act act here there so.device so.tells;
-      back = tells_act act there here (device_back here there so.device) so.back;
+      back = tells_act act there here (same_device_sym here there so.device) so.back;
     }
 
 -- ---- the two logs
@@ -52,18 +52,18 @@ pub record SameLogs (first second : ℕ → List ℕ) (log other : List Act) : T
   pub open shared use *
   pub each : (d : ℕ) → SameAhead (first d) (second d) (of d log) (of d other)
 
-logs_more : (first second : ℕ → List ℕ) (adds log other : List Act) → SameLogs first second log other
+acts_keep_same_logs : (first second : ℕ → List ℕ) (adds log other : List Act) → SameLogs first second log other
     → SameLogs first second (adds ++ log) (adds ++ other)
-logs_more first second adds log other v = record {
-  shared = shared_more adds log other v.shared;
-  each = λ d. ahead_more (first d) (second d) d adds log other (v.each d);
+acts_keep_same_logs first second adds log other v = record {
+  shared = acts_keep_same_shared adds log other v.shared;
+  each = λ d. acts_keep_same_ahead (first d) (second d) d adds log other (v.each d);
 }
 
 same_calls : (first second : ℕ → List ℕ) (log other : List Act) → SameLogs first second log other → SameCalls log other
 same_calls first second log other v = record { device = v.device; calls = λ d. (v.each d).call }
 
 logs_kept : (first second : ℕ → List ℕ) → IsKept (SameLogs first second)
-logs_kept first second = record { calls = same_calls first second; more = logs_more first second }
+logs_kept first second = record { calls = same_calls first second; more = acts_keep_same_logs first second }
 
 logs_next : (first second : ℕ → List ℕ) (log other : List Act) → SameLogs first second log other → SameNext log other
 logs_next first second log other v = record {
@@ -73,13 +73,14 @@ logs_next first second log other v = record {
 }
 
 -- The same further events keep the two logs the same.
-events_same : (config : Config) (first second : ℕ → List ℕ) (one two events : List PlainEvent)
+events_keep_same_logs : (config : Config) (first second : ℕ → List ℕ) (one two events : List PlainEvent)
     → ((a b : List Act) → IsLogOf config one a → IsLogOf config two b → SameLogs first second a b) → (log also : List Act)
     → IsLogOf config (events ++ one) log → IsLogOf config (events ++ two) also → SameLogs first second log also
-events_same config first second one two [] base log also = base log also
-events_same config first second one two (event ∷ events) base log also =
-    event_so (SameLogs first second) (logs_kept first second) (logs_next first second) config event (events ++ one) (events ++ two) log also
-    (events_same config first second one two events base)
+events_keep_same_logs config first second one two [] base log also = base log also
+events_keep_same_logs config first second one two (event ∷ events) base log also =
+    kept_through_event (SameLogs first second) (logs_kept first second) (logs_next first second) config event (events ++ one)
+        (events ++ two) log also
+    (events_keep_same_logs config first second one two events base)
 
 -- ---- the bytes added on a port
 
@@ -95,7 +96,7 @@ ahead_back first second acts others v = record {
 
 logs_back : (first second : ℕ → List ℕ) (log other : List Act) → SameLogs first second log other → SameLogs second first other log
 logs_back first second log other v = assumption (
-  device_back (device_acts log) (device_acts other) v.device,
+  same_device_sym (device_acts log) (device_acts other) v.device,
   (λ (d : ℕ). ahead_back (first d) (second d) (of d log) (of d other) (v.each d)),
 )
 
@@ -133,8 +134,9 @@ behind_same : (config : Config) (first second : ℕ → List ℕ) (one two event
     → Begun config first second one two → IsLogOf config (events ++ one) log → IsLogOf config (events ++ two) also
     → SameLogs first second log also
 behind_same config first second one two events log also h x y =
-    events_same config first second one two events
-    (λ a b p q. moved (SameLogs first second) h.a h.b a b (one_log config one a h.a p h.was) (one_log config two b h.b q h.also) h.same)
+    events_keep_same_logs config first second one two events
+    (λ a b p q. relation_of_equals (SameLogs first second) h.a h.b a b (one_log config one a h.a p h.was)
+        (one_log config two b h.b q h.also) h.same)
     log also x y
 
 adds_to : (port : Port) (config : Config) (first second : ℕ → List ℕ) (one two events : List PlainEvent) (log also : List Act)
@@ -168,16 +170,16 @@ adds_to (Conn d) config first second one two events log also bytes h x y
 adds_to (Intr d) config first second one two events log also bytes h x y (before, sends, adds) =
     let v = behind_same config first second one two events log also h x y in (
       before,
-      sends_moved (Intr d) config one two h.a h.b before h.was h.also
+      sends_in_other_history (Intr d) config one two h.a h.b before h.was h.also
           (λ channel_log hears. (channel_log, h.same.tells channel_log hears, refl)) sends,
-      sends_moved (Intr d) config (events ++ one) (events ++ two) log also (before ++ bytes) x y
+      sends_in_other_history (Intr d) config (events ++ one) (events ++ two) log also (before ++ bytes) x y
           (λ channel_log hears. (channel_log, v.tells channel_log hears, refl)) adds,
     )
 
-pub adds_same : (port : Port) (config : Config) (first second : ℕ → List ℕ) (one two events : List PlainEvent) (log also : List Act)
+pub same_bytes_added : (port : Port) (config : Config) (first second : ℕ → List ℕ) (one two events : List PlainEvent) (log also : List Act)
     (bytes : List ℕ) → Begun config first second one two → IsLogOf config (events ++ one) log → IsLogOf config (events ++ two) also
     → Adds port config one events bytes ↔ Adds port config two events bytes
-adds_same port config first second one two events log also bytes h x y = (
+same_bytes_added port config first second one two events log also bytes h x y = (
   adds_to port config first second one two events log also bytes h x y,
   adds_to port config second first two one events also log bytes (begun_back config first second one two h) y x,
 )

@@ -23,18 +23,18 @@ use Rattle.sv_history.specs.AbortChannel.{owner_of, if_waiting}
 use Rattle.sv_history.specs.Execution.{request_effect, aborts}
 use Rattle.sv_history.specs.Resuming.{resume_effect, failure_effect, late}
 use Rattle.sv_history.specs.Settling.{First, InstrumentDoes, CanResume, Resumes, TimesOut, IsNext}
-use Rattle.sv_laws.proofs.Cuts.SameInstrument.{SameInstrument, instrument_step}
-use Rattle.sv_laws.proofs.Cuts.SameDevice.{SameDevice, device_back, ended_alike, answerable_alike, polled_alike, alike_ground}
+use Rattle.sv_laws.proofs.Cuts.SameInstrument.{SameInstrument, same_instrument_same_step}
+use Rattle.sv_laws.proofs.Cuts.SameDevice.{SameDevice, same_device_sym, has_ended_same, answerable_alike, is_polled_same, same_device_same_ground}
 use Rattle.sv_laws.proofs.SameOutcomes.{admitted_same, resumed_same}
 
 -- ---- calls
 
-pub request_alike : (config : Config) (polled c : ℕ) (request : Request) (acts other : List DeviceAct) → SameDevice acts other
+pub same_device_same_effect : (config : Config) (polled c : ℕ) (request : Request) (acts other : List DeviceAct) → SameDevice acts other
     → request_effect config polled c request acts ≡ request_effect config polled c request other
-request_alike config polled c (CoreRequest call) acts other v = ap (call_effect call.xid)
-    (admitted_same config polled c call.arguments acts other (inr (v.links, v.waits)) (alike_ground c acts other v))
-request_alike config polled c (AbortRequest xid (pos n)) acts other v = rw v.links refl
-request_alike config polled c _ acts other v = refl
+same_device_same_effect config polled c (CoreRequest call) acts other v = ap (call_effect call.xid)
+    (admitted_same config polled c call.arguments acts other (inr (v.links, v.waits)) (same_device_same_ground c acts other v))
+same_device_same_effect config polled c (AbortRequest xid (pos n)) acts other v = rw v.links refl
+same_device_same_effect config polled c _ acts other v = refl
 
 where_alike : (found : Option ℕ) (n : ℕ) (acts other : List DeviceAct) → SameDevice acts other
     → if_waiting found (Some n) acts ≡ if_waiting found (Some n) other
@@ -52,7 +52,7 @@ pub resumed_alike : (config : Config) (polled c : ℕ) (wait : Wait) (call : Opt
     → SameDevice acts other → resume_effect config polled c wait call acts ≡ resume_effect config polled c wait call other
 resumed_alike config polled c wait None acts other v = refl
 resumed_alike config polled c wait (Some call) acts other v =
-    resumed_same config polled c wait call acts other (inr (v.links, v.waits)) (alike_ground c acts other v)
+    resumed_same config polled c wait call acts other (inr (v.links, v.waits)) (same_device_same_ground c acts other v)
 
 -- ---- one step
 
@@ -61,17 +61,18 @@ pub record SameCalls (log other : List Act) : Type 0 where
   pub device : SameDevice (device_acts log) (device_acts other)
   pub calls : (d : ℕ) → pending_call (of d log) ≡ pending_call (of d other)
 
-pub calls_back : (log other : List Act) → SameCalls log other → SameCalls other log
-calls_back log other v =
-    record { device = device_back (device_acts log) (device_acts other) v.device; calls = λ d. sym (v.calls d) }
+pub same_calls_sym : (log other : List Act) → SameCalls log other → SameCalls other log
+same_calls_sym log other v =
+    record { device = same_device_sym (device_acts log) (device_acts other) v.device; calls = λ d. sym (v.calls d) }
 
 -- The acts that lead from `log` to a log of which `Here` holds lead from `other` to one of which
 -- `There` holds.
-abbrev pub Shared : List Act → List Act → (List Act → Type 0) → (List Act → Type 0) → Type 0
-Shared log other Here There = (new : List Act) → Here new → (adds : List Act) × (new ≡ adds ++ log) × There (adds ++ other)
+abbrev pub LeadsAlike : List Act → List Act → (List Act → Type 0) → (List Act → Type 0) → Type 0
+LeadsAlike log other Here There = (new : List Act) → Here new → (adds : List Act) × (new ≡ adds ++ log) × There (adds ++ other)
 
-first_shared : (log other : List Act) (A B C D : List Act → Type 0) → Shared log other A C → Shared other log C A → Shared log other B D
-    → Shared log other (First A B) (First C D)
+first_shared : (log other : List Act) (A B C D : List Act → Type 0) → LeadsAlike log other A C → LeadsAlike other log C A
+    → LeadsAlike log other B D
+    → LeadsAlike log other (First A B) (First C D)
 first_shared log other A B C D to from on new (inl a) = let so = to new a in (so.0, so.1, inl so.2)
 first_shared log other A B C D to from on new (inr b) =
     let so = on new b.1 in (so.0, so.1, inr ((λ one c. let back = from one c in b.0 (back.0 ++ log) back.2), so.2))
@@ -80,7 +81,7 @@ does_shared : (IsSuch : List InstrumentAct → List InstrumentAct → Type 0) (l
     → ((new : List InstrumentAct) → IsSuch (instrument_acts (device_acts log)) new → (adds : List InstrumentAct)
     × (new ≡ adds ++ instrument_acts (device_acts log))
     × IsSuch (instrument_acts (device_acts other)) (adds ++ instrument_acts (device_acts other)))
-    → Shared log other (InstrumentDoes IsSuch log) (InstrumentDoes IsSuch other)
+    → LeadsAlike log other (InstrumentDoes IsSuch log) (InstrumentDoes IsSuch other)
 does_shared IsSuch log other moves new (adds, such, is) =
     let there = instrument_acts (device_acts other) in
     let so = moves (adds ++ instrument_acts (device_acts log)) such in
@@ -100,10 +101,10 @@ fires_shared log other v new (none, is) = (
 
 able_alike : (acts other : List DeviceAct) (found : Option ℕ) → SameDevice acts other → IsOldest (wait_acts acts) (CanResume acts) found
     → IsOldest (wait_acts other) (CanResume other) found
-able_alike acts other found v h = rw (answerable_alike acts other v, ended_alike acts other v, v.links, v.waits) at h
+able_alike acts other found v h = rw (answerable_alike acts other v, has_ended_same acts other v, v.links, v.waits) at h
 
 resumes_shared : (config : Config) (log other : List Act) → SameCalls log other
-    → Shared log other (Resumes config log) (Resumes config other)
+    → LeadsAlike log other (Resumes config log) (Resumes config other)
 resumes_shared config log other v new (c, wait, polled, oldest, for, said, is) =
     let call = core_call_in (pending_call (of c log)) in
     let effect = resume_effect config polled c wait call (device_acts log) in
@@ -118,13 +119,13 @@ resumes_shared config log other v new (c, wait, polled, oldest, for, said, is) =
         polled,
         able_alike (device_acts log) (device_acts other) (Some c) v.device oldest,
         subst (λ (l : List WaitAct). waits c l ≡ Some wait) v.device.waits for,
-        polled_alike polled (device_acts log) (device_acts other) v.device said,
+        is_polled_same polled (device_acts log) (device_acts other) v.device said,
         ap (λ (e : Effect). acts_of c e ++ other) same,
       ),
     )
 
 times_shared : (config : Config) (log other : List Act) → SameCalls log other
-    → Shared log other (TimesOut config log) (TimesOut config other)
+    → LeadsAlike log other (TimesOut config log) (TimesOut config other)
 times_shared config log other v new (c, wait, oldest, for, is) =
     let acts = acts_of c (failure_effect (late wait) c (core_call_in (pending_call (of c log)))) in (
       acts,
@@ -141,10 +142,10 @@ times_shared config log other v new (c, wait, oldest, for, is) =
       ),
     )
 
-pub next_shared : (config : Config) (log other : List Act) → SameCalls log other
-    → Shared log other (IsNext config log) (IsNext config other)
-next_shared config log other v =
-    let back = calls_back log other v in
+pub same_calls_same_step : (config : Config) (log other : List Act) → SameCalls log other
+    → LeadsAlike log other (IsNext config log) (IsNext config other)
+same_calls_same_step config log other v =
+    let back = same_calls_sym log other v in
     let here = instrument_acts (device_acts log) in
     let there = instrument_acts (device_acts other) in
     let times = TimesOut config other in
@@ -153,6 +154,7 @@ next_shared config log other v =
     first_shared log other _ _ _ resumes (does_shared IsFired log other (fires_shared here there v.device.instrument))
     (does_shared IsFired other log (fires_shared there here back.device.instrument))
     (first_shared log other _ _ _ steps (resumes_shared config log other v) (resumes_shared config other log back)
-    (first_shared log other _ _ _ times (does_shared IsStep log other (λ new step. instrument_step here there new v.device.instrument step))
-    (does_shared IsStep other log (λ new step. instrument_step there here new back.device.instrument step))
+    (first_shared log other _ _ _ times
+        (does_shared IsStep log other (λ new step. same_instrument_same_step here there new v.device.instrument step))
+    (does_shared IsStep other log (λ new step. same_instrument_same_step there here new back.device.instrument step))
     (times_shared config log other v)))

@@ -22,30 +22,30 @@ use Rattle.sv_history.specs.Settling.{IsNext, SettlesIn}
 use Rattle.sv_history.specs.History.{IsLogOf}
 use Rattle.sv_laws.specs.Adding.{all_replies, all_sent, Adds}
 use Rattle.sv_laws.specs.Cuts.{without_pieces, NoneWaits, AreCut, WritesCut}
-use Rattle.sv_laws.proofs.OneLog.{sends_moved}
-use Rattle.sv_history.proofs.OneStep.{next_once}
-use Rattle.sv_laws.proofs.EveryLog.EachEvent.{fit_log, idle_free}
-use Rattle.sv_laws.proofs.EveryLog.Steps.{log_settled, rested}
-use Rattle.sv_laws.proofs.Cuts.ReadsOn.{same_behind}
+use Rattle.sv_laws.proofs.OneLog.{sends_in_other_history}
+use Rattle.sv_history.proofs.OneStep.{next_step_unique}
+use Rattle.sv_laws.proofs.EveryLog.EachEvent.{fit_log, next_call_means_none_suspended}
+use Rattle.sv_laws.proofs.EveryLog.Steps.{log_settled, settled_is_rested}
+use Rattle.sv_laws.proofs.Cuts.ReadsOn.{same_tail_same_records}
 use Rattle.sv_laws.proofs.Cuts.SameDevice.{Tells, accepts}
 use Rattle.sv_laws.proofs.Cuts.SameAhead.{SameAhead}
-use Rattle.sv_laws.proofs.Cuts.KeptLogs.{settles_so}
-use Rattle.sv_laws.proofs.Cuts.SharedLogs.{Begun, adds_same}
-use Rattle.sv_laws.proofs.Cuts.BytesBehind.{CameBehind, behind_device, behind_others}
+use Rattle.sv_laws.proofs.Cuts.KeptLogs.{kept_through_steps}
+use Rattle.sv_laws.proofs.Cuts.SharedLogs.{Begun, same_bytes_added}
+use Rattle.sv_laws.proofs.Cuts.BytesBehind.{AddsOnlyPieces, pieces_leave_device, pieces_leave_others}
 use Rattle.sv_laws.proofs.Cuts.Fed.{Fed, fed, only_bytes}
-use Rattle.sv_laws.proofs.Cuts.Written.{wrote, Wrote, written}
-use Rattle.sv_laws.proofs.Cuts.FirstPart.{Resting, reported, BecomesLong, first_part, whole_long}
-use Rattle.sv_laws.proofs.Cuts.Beside.{Beside, reports, parts_shared, long_shared, beside_kept, beside_came, of_wrote, beside_wrote}
-use Rattle.sv_laws.proofs.Cuts.AllTaken.{same_bare, fed_all}
+use Rattle.sv_laws.proofs.Cuts.Written.{log_with_write, Wrote, written}
+use Rattle.sv_laws.proofs.Cuts.FirstPart.{Resting, reported, BecomesLong, first_part, whole_write_reports_overrun}
+use Rattle.sv_laws.proofs.Cuts.Beside.{Beside, reports, parts_shared, long_shared, beside_kept, bytes_keep_beside, write_leaves_other_connections, beside_wrote}
+use Rattle.sv_laws.proofs.Cuts.AllTaken.{without_pieces_shows_same, fed_all}
 
 -- ---- the logs after the last write was accepted
 
 -- A step that is due is the first of the steps that settle the log.
-settles_behind : (n : ℕ) (config : Config) (log mid new : List Act) → IsNext config log mid → SettlesIn n config log new
+settles_after_step : (n : ℕ) (config : Config) (log mid new : List Act) → IsNext config log mid → SettlesIn n config log new
     → (m : ℕ) × SettlesIn m config mid new
-settles_behind zero config log mid new next settles = absurd (settles.0 mid next)
-settles_behind (suc n) config log mid new next (middle, also, more) =
-    (n, subst (λ (l : List Act). SettlesIn n config l new) (next_once config log middle mid also next) more)
+settles_after_step zero config log mid new next settles = absurd (settles.0 mid next)
+settles_after_step (suc n) config log mid new next (middle, also, more) =
+    (n, subst (λ (l : List Act). SettlesIn n config l new) (next_step_unique config log middle mid also next) more)
 
 -- The whole write leads to the log `whole`. Two writes, one of each part, lead to the log `last`.
 -- Before each write only bytes came on the connection.
@@ -54,9 +54,9 @@ record Parts (c : ℕ) (x y : List ℕ) (ended : Bool) (config : Config) (before
   first : List Act
   mid : List Act
   second : List Act
-  at_single : CameBehind c before single
-  at_first : CameBehind c before first
-  at_second : CameBehind c mid second
+  at_single : AddsOnlyPieces c before single
+  at_first : AddsOnlyPieces c before first
+  at_second : AddsOnlyPieces c mid second
   rests_single : Resting config single
   rests_first : Resting config first
   both : Wrote c (x ++ y) ended config single whole
@@ -68,8 +68,8 @@ others_before : (c : ℕ) (x y : List ℕ) (ended : Bool) (config : Config) (bef
     (h : Parts c x y ended config before whole last) → ((d : ℕ) → d ≢ c → of d h.mid ≡ of d h.first) → (d : ℕ) → d ≢ c
     → of d h.single ≡ of d h.second
 others_before c x y ended config before whole last h same d ne =
-    behind_others c d before h.single h.at_single ne ∙ sym (behind_others c d before h.first h.at_first ne) ∙ sym (same d ne)
-    ∙ sym (behind_others c d h.mid h.second h.at_second ne)
+    pieces_leave_others c d before h.single h.at_single ne ∙ sym (pieces_leave_others c d before h.first h.at_first ne) ∙ sym (same d ne)
+    ∙ sym (pieces_leave_others c d h.mid h.second h.at_second ne)
 
 -- After all steps that are due, the two logs are `Beside`.
 beside_settled : (c : ℕ) (x y : List ℕ) (ended : Bool) (config : Config) (before whole last : List Act)
@@ -81,46 +81,47 @@ beside_settled c x y ended config before whole last h line =
     ]
   where
     single_at : device_acts h.single ≡ device_acts before
-    single_at = behind_device c before h.single h.at_single
+    single_at = pieces_leave_device c before h.single h.at_single
 
     first_at : device_acts h.first ≡ device_acts before
-    first_at = behind_device c before h.first h.at_first
+    first_at = pieces_leave_device c before h.first h.at_first
 
     second_at : device_acts h.second ≡ device_acts h.mid
-    second_at = behind_device c h.mid h.second h.at_second
+    second_at = pieces_leave_device c h.mid h.second h.at_second
 
-    short : h.mid ≡ wrote c h.one.call h.one.reply x false h.first → Beside c whole last
+    short : h.mid ≡ log_with_write c h.one.call h.one.reply x false h.first → Beside c whole last
     short same =
-        let start = wrote c h.both.call h.both.reply (x ++ y) ended h.single in
-        let also = wrote c h.other.call h.other.reply y ended h.second in
+        let start = log_with_write c h.both.call h.both.reply (x ++ y) ended h.single in
+        let also = log_with_write c h.other.call h.other.reply y ended h.second in
         let v = beside_wrote c start also h.both.call h.both.reply (x ++ y) ended h.single h.other.call h.other.reply y ended h.second
         (accepts (x ++ y) ended ∷ device_acts before) (accepts y ended ∷ accepts x false ∷ device_acts before) (λ d. refl) (λ d. refl)
         (others_before c x y ended config before whole last h
-        (λ d ne. ap (of d) same ∙ of_wrote c d h.one.call h.one.reply x false h.first ne))
+        (λ d ne. ap (of d) same ∙ write_leaves_other_connections c d h.one.call h.one.reply x false h.first ne))
         (ap (λ (l : List DeviceAct). accepts (x ++ y) ended ∷ l) single_at)
         (ap (λ (l : List DeviceAct). accepts y ended ∷ l) (second_at ∙ ap device_acts same)
         ∙ ap (λ (l : List DeviceAct). accepts y ended ∷ accepts x false ∷ l) first_at)
         (parts_shared x y ended (device_acts before)) in
-        settles_so (Beside c) (beside_kept c) h.both.steps h.other.steps config start also whole last v h.both.settles h.other.settles
+        kept_through_steps (Beside c) (beside_kept c) h.both.steps h.other.steps config start also whole last v h.both.settles
+            h.other.settles
 
-    overlong : h.mid ≡ reported (wrote c h.one.call h.one.reply x false h.first) → BecomesLong x (device_acts h.first)
+    overlong : h.mid ≡ reported (log_with_write c h.one.call h.one.reply x false h.first) → BecomesLong x (device_acts h.first)
         → Beside c whole last
     overlong same long =
-        let start = wrote c h.both.call h.both.reply (x ++ y) ended h.single in
-        let also = wrote c h.other.call h.other.reply y ended h.second in
+        let start = log_with_write c h.both.call h.both.reply (x ++ y) ended h.single in
+        let also = log_with_write c h.other.call h.other.reply y ended h.second in
         let here = subst (λ (l : List DeviceAct). BecomesLong x l) (first_at ∙ sym single_at) long in
-        let next = whole_long config c h.both.call h.both.reply x y ended h.single h.rests_single here in
-        let rest = settles_behind h.both.steps config start (reported start) whole next h.both.settles in
+        let next = whole_write_reports_overrun config c h.both.call h.both.reply x y ended h.single h.rests_single here in
+        let rest = settles_after_step h.both.steps config start (reported start) whole next h.both.settles in
         let v = beside_wrote c (reported start) also h.both.call h.both.reply (x ++ y) ended h.single h.other.call h.other.reply y ended
         h.second (reports (accepts (x ++ y) ended ∷ device_acts before)) (accepts y ended ∷ reports (accepts x false ∷ device_acts before))
         (λ d. refl) (λ d. refl)
         (others_before c x y ended config before whole last h
-        (λ d ne. ap (of d) same ∙ of_wrote c d h.one.call h.one.reply x false h.first ne))
+        (λ d ne. ap (of d) same ∙ write_leaves_other_connections c d h.one.call h.one.reply x false h.first ne))
         (ap (λ (l : List DeviceAct). reports (accepts (x ++ y) ended ∷ l)) single_at)
         (ap (λ (l : List DeviceAct). accepts y ended ∷ l) (second_at ∙ ap device_acts same)
         ∙ ap (λ (l : List DeviceAct). accepts y ended ∷ reports (accepts x false ∷ l)) first_at)
         (long_shared x y ended (device_acts before)) in
-        settles_so (Beside c) (beside_kept c) rest.0 h.other.steps config (reported start) also whole last v rest.1 h.other.settles
+        kept_through_steps (Beside c) (beside_kept c) rest.0 h.other.steps config (reported start) also whole last v rest.1 h.other.settles
 
 -- ---- the bytes sent on each port
 
@@ -133,10 +134,10 @@ ahead_same acts others same = subst (λ (l : List ConnAct). SameAhead (all_repli
   sends = ([], sym (append-nil (all_replies acts)), sym (append-nil (all_replies acts)));
 })
 
-sent_beside : (c : ℕ) (port : Port) (log other : List Act) → port ≢ Conn c → Beside c log other → (channel_log : List ChannelAct)
+beside_logs_send_same : (c : ℕ) (port : Port) (log other : List Act) → port ≢ Conn c → Beside c log other → (channel_log : List ChannelAct)
     → all_sent port channel_log log ≡ all_sent port channel_log other
-sent_beside c (Conn d) log other ne v channel_log = ap all_replies (v.others d (λ e. ne (ap Conn e)))
-sent_beside c (Intr d) log other ne v channel_log = refl
+beside_logs_send_same c (Conn d) log other ne v channel_log = ap all_replies (v.others d (λ e. ne (ap Conn e)))
+beside_logs_send_same c (Intr d) log other ne v channel_log = refl
 
 adds_other : (port : Port) (config : Config) (past one two : List PlainEvent) (log other : List Act) (bytes : List ℕ)
     → IsLogOf config (one ++ past) log → IsLogOf config (two ++ past) other → Tells (device_acts log) (device_acts other)
@@ -145,7 +146,7 @@ adds_other : (port : Port) (config : Config) (past one two : List PlainEvent) (l
 adds_other port config past one two log other bytes was also tells same (before, sends, adds) = (
   before,
   sends,
-  sends_moved port config (one ++ past) (two ++ past) log other (before ++ bytes) was also
+  sends_in_other_history port config (one ++ past) (two ++ past) log other (before ++ bytes) was also
       (λ channel_log hears. (channel_log, tells channel_log hears, same channel_log)) adds,
 )
 
@@ -159,13 +160,13 @@ wrote_by : (c lid : ℕ) (config : Config) (past : List PlainEvent) (log : List 
 wrote_by c lid config past log bytes ended xid io_timeout lock_timeout flags call rest is flag f =
     written c lid bytes ended config f.base f.last call xid io_timeout lock_timeout flags is flag
     (log_settled config (f.earlier ++ past) f.base f.was)
-    (idle_free c f.base call (fit_log config (f.earlier ++ past) f.base f.was) f.taking.next) f.acts f.taking
+    (next_call_means_none_suspended c f.base call (fit_log config (f.earlier ++ past) f.base f.was) f.taking.next) f.acts f.taking
 
 resting : (config : Config) (history : List PlainEvent) (before base : List Act) (polled : ℕ) → IsLogOf config history base
     → device_acts base ≡ device_acts before → NoneWaits (wait_acts (device_acts before)) → IsPolled polled (device_acts base)
     → Resting config base
 resting config history before base polled was same none said = record {
-  rests = rested config base (log_settled config history base was);
+  rests = settled_is_rested config base (log_settled config history base was);
   none = subst (λ (l : List DeviceAct). NoneWaits (wait_acts l)) (sym same) none;
   polled = polled;
   said = said;
@@ -208,16 +209,16 @@ module _ (c lid : ℕ) (x y : List ℕ) (ended : Bool) (config : Config) (past o
         at_first = at_first;
         at_second = fed_one.came;
         rests_single = resting config (fed_both.earlier ++ past) h.before fed_both.base both.polled fed_both.was
-            (behind_device c h.before fed_both.base at_single) h.none_waits both.said;
+            (pieces_leave_device c h.before fed_both.base at_single) h.none_waits both.said;
         rests_first = resting config (fed_one.earlier ++ past) h.before fed_one.base first.polled fed_one.was
-            (behind_device c h.before fed_one.base at_first) h.none_waits first.said;
+            (pieces_leave_device c h.before fed_one.base at_first) h.none_waits first.said;
         both = both;
         one = first;
         other = wrote_by c lid config past h.cut y ended _ _ _ _ h.writes_second.4 h.middle h.writes_second.5 h.writes_second.6 fed_other;
       }
 
   beside : Beside c h.whole h.cut
-  beside = beside_came c fed_both.last fed_other.last h.whole h.cut fed_both.came fed_other.came
+  beside = bytes_keep_beside c fed_both.last fed_other.last h.whole h.cut fed_both.came fed_other.came
       (beside_settled c x y ended config h.before fed_both.last fed_other.last parts h.no_line)
 
   own_ahead : SameAhead (all_replies (of c h.whole)) (all_replies (of c h.cut)) (of c h.whole) (of c h.cut)
@@ -229,10 +230,13 @@ module _ (c lid : ℕ) (x y : List ℕ) (ended : Bool) (config : Config) (past o
       ∙ ap (λ (l : List ConnAct).
       Replied (result_reply h.writes_second.0 (Size NoError (length y))) ∷ CallTaken h.writes_second.4 ∷ l) h.writes_first.7 in
       record {
-        role = (same_bare acts).role ∙ ap open_role one_bare ∙ sym ((same_bare others).role ∙ ap open_role two_bare);
-        call = (same_bare acts).call ∙ ap pending_call one_bare ∙ sym ((same_bare others).call ∙ ap pending_call two_bare);
-        no_call = (same_bare acts).no_call ∙ ap took_no_call one_bare ∙ sym ((same_bare others).no_call ∙ ap took_no_call two_bare);
-        ahead = same_behind (stream acts) (stream others) (records_ended acts) (records_ended others)
+        role = (without_pieces_shows_same acts).role ∙ ap open_role one_bare
+            ∙ sym ((without_pieces_shows_same others).role ∙ ap open_role two_bare);
+        call = (without_pieces_shows_same acts).call ∙ ap pending_call one_bare
+            ∙ sym ((without_pieces_shows_same others).call ∙ ap pending_call two_bare);
+        no_call = (without_pieces_shows_same acts).no_call ∙ ap took_no_call one_bare
+            ∙ sym ((without_pieces_shows_same others).no_call ∙ ap took_no_call two_bare);
+        ahead = same_tail_same_records (stream acts) (stream others) (records_ended acts) (records_ended others)
             (fed_all c config past h.whole _ _ rest fed_both h.one_feeds.none_left)
             (fed_all c config past h.cut _ _ h.middle fed_other h.two_feeds.none_left) h.same_tail;
         sends = ([], sym (append-nil (all_replies acts)), sym (append-nil (all_replies others)));
@@ -259,14 +263,15 @@ module _ (c lid : ℕ) (x y : List ℕ) (ended : Bool) (config : Config) (past o
   sent_but : (port : Port) (bytes : List ℕ) → port ≢ Conn c → Adds port config past one bytes ↔ Adds port config past two bytes
   sent_but port bytes ne = (
     adds_other port config past one two h.whole h.cut bytes h.one_feeds.is_log h.two_feeds.is_log beside.shared.tells
-        (sent_beside c port h.whole h.cut ne beside),
+        (beside_logs_send_same c port h.whole h.cut ne beside),
     adds_other port config past two one h.cut h.whole bytes h.two_feeds.is_log h.one_feeds.is_log beside.shared.back
-        (λ channel_log. sym (sent_beside c port h.whole h.cut ne beside channel_log)),
+        (λ channel_log. sym (beside_logs_send_same c port h.whole h.cut ne beside channel_log)),
   )
 
 pub writes_cut : WritesCut
 writes_cut c lid x y ended config past one two events log other h is_log also port bytes = (
-  adds_same port config (λ d. all_replies (of d h.whole)) (λ d. all_replies (of d h.cut)) (one ++ past) (two ++ past) events log other bytes
+  same_bytes_added port config (λ d. all_replies (of d h.whole)) (λ d. all_replies (of d h.cut)) (one ++ past) (two ++ past) events log
+      other bytes
       (begun c lid x y ended config past one two h) is_log also,
   sent_but c lid x y ended config past one two h port bytes,
 )

@@ -29,12 +29,12 @@ use Rattle.sv_history.specs.PolledStatus.{IsPolled}
 use Rattle.sv_history.specs.Settling.{SettlesIn, IsSettled}
 use Rattle.sv_history.specs.History.{taken_acts}
 use Rattle.sv_laws.specs.Cuts.{without_pieces}
-use Rattle.sv_history.proofs.Projections.{of_mine}
+use Rattle.sv_history.proofs.Projections.{of_own_act}
 use Rattle.sv_laws.proofs.Cuts.SameDevice.{accepts}
-use Rattle.sv_laws.proofs.Cuts.NoCallTaken.{settles_none, bare_of}
+use Rattle.sv_laws.proofs.Cuts.NoCallTaken.{steps_take_no_call, without_pieces_of_append}
 use Rattle.sv_laws.proofs.Cuts.Fed.{Taking}
-use Rattle.sv_laws.proofs.Cuts.WriteOutcome.{core_asked, WriteCase, write_case}
-use Rattle.sv_laws.proofs.Cuts.Suspended.{suspends, is_there_in, only_late}
+use Rattle.sv_laws.proofs.Cuts.WriteOutcome.{core_call_on_any_role, WriteCase, write_case}
+use Rattle.sv_laws.proofs.Cuts.Suspended.{log_with_suspended, is_there_in, only_its_timeout_is_due}
 
 -- ---- a reply without an error is no reply with an error, and no PROG_UNAVAIL
 
@@ -49,9 +49,10 @@ error_read : (xid n : ℕ) (error : ErrorCode) → error_in (result_reply xid (S
 error_read xid n NoError = refl
 error_read xid n _ = refl
 
-tells_none : (xid other n m : ℕ) (error : ErrorCode) → result_reply other (Size error n) ≡ result_reply xid (Size NoError m)
+same_reply_has_no_error : (xid other n m : ℕ) (error : ErrorCode) → result_reply other (Size error n) ≡ result_reply xid (Size NoError m)
     → error_number error ≡ 0
-tells_none xid other n m error same = sym (error_read other n error) ∙ ap (λ (l : List ℕ). error_in l) same ∙ error_read xid m NoError
+same_reply_has_no_error xid other n m error same = sym (error_read other n error) ∙ ap (λ (l : List ℕ). error_in l) same
+    ∙ error_read xid m NoError
 
 unavailable_read : (xid : ℕ) → status_in (reply_record xid ProgUnavail []) ≡ 1
 unavailable_read xid = refl
@@ -59,16 +60,16 @@ unavailable_read xid = refl
 success_read : (xid n : ℕ) → status_in (result_reply xid (Size NoError n)) ≡ 0
 success_read xid n = refl
 
-is_served : (xid other n : ℕ) → reply_record other ProgUnavail [] ≡ result_reply xid (Size NoError n) → ⊥
-is_served xid other n same =
+success_is_not_unavailable : (xid other n : ℕ) → reply_record other ProgUnavail [] ≡ result_reply xid (Size NoError n) → ⊥
+success_is_not_unavailable xid other n same =
     let read : status_in (reply_record other ProgUnavail []) ≡ 0 = ap (λ (l : List ℕ). status_in l) same ∙ success_read xid n in
     let z : 1 ≡ 0 = sym (unavailable_read other) ∙ read in cc
 
 -- ---- what was taken
 
 -- The log after a write was taken, its bytes were accepted, and it was answered.
-abbrev pub wrote : ℕ → List ℕ → List ℕ → List ℕ → Bool → List Act → List Act
-wrote c call reply bytes ended base = On c (Replied reply) ∷ OnDevice (accepts bytes ended) ∷ On c (CallTaken call) ∷ base
+abbrev pub log_with_write : ℕ → List ℕ → List ℕ → List ℕ → Bool → List Act → List Act
+log_with_write c call reply bytes ended base = On c (Replied reply) ∷ OnDevice (accepts bytes ended) ∷ On c (CallTaken call) ∷ base
 
 -- In the log `base` a write of these bytes is taken, its bytes are accepted, and it is answered.
 -- Then the steps that are due lead to `log`.
@@ -80,20 +81,20 @@ pub record Wrote (c : ℕ) (bytes : List ℕ) (ended : Bool) (config : Config) (
   pub next : next_call (of c base) ≡ Some call
   pub said : IsPolled polled (device_acts base)
   pub free : has_ended (exchange_acts (device_acts base)) ≡ false
-  pub settles : SettlesIn steps config (wrote c call reply bytes ended base) log
+  pub settles : SettlesIn steps config (log_with_write c call reply bytes ended base) log
 
-abbrev bare : ℕ → List Act → List ConnAct
-bare c log = without_pieces (of c log)
+abbrev bare_acts : ℕ → List Act → List ConnAct
+bare_acts c log = without_pieces (of c log)
 
 -- The connection's acts end with a reply before the steps that are due, and with a reply after the
 -- same acts afterwards. Then it is the same reply.
-told_by : (c : ℕ) (steps : ℕ) (config : Config) (mid log : List Act) (told reply : List ℕ) (rest : List ConnAct)
-    → SettlesIn steps config mid log → bare c mid ≡ Replied told ∷ rest → bare c log ≡ Replied reply ∷ rest → told ≡ reply
-told_by c steps config mid log told reply rest settles was is =
-    let adds = settles_none steps config mid log settles in
+settling_keeps_reply : (c : ℕ) (steps : ℕ) (config : Config) (mid log : List Act) (told reply : List ℕ) (rest : List ConnAct)
+    → SettlesIn steps config mid log → bare_acts c mid ≡ Replied told ∷ rest → bare_acts c log ≡ Replied reply ∷ rest → told ≡ reply
+settling_keeps_reply c steps config mid log told reply rest settles was is =
+    let adds = steps_take_no_call steps config mid log settles in
     by_size (without_pieces (of c adds.0))
-    (sym (ap (λ (l : List ConnAct). without_pieces (of c adds.0) ++ l) was) ∙ sym (bare_of c adds.0 mid)
-    ∙ ap (λ (l : List Act). bare c l) (sym adds.1) ∙ is)
+    (sym (ap (λ (l : List ConnAct). without_pieces (of c adds.0) ++ l) was) ∙ sym (without_pieces_of_append c adds.0 mid)
+    ∙ ap (λ (l : List Act). bare_acts c l) (sym adds.1) ∙ is)
   where
     by_size : (front : List ConnAct) → front ++ Replied told ∷ rest ≡ Replied reply ∷ rest → told ≡ reply
     by_size [] same = cc
@@ -122,31 +123,31 @@ module _ (c lid : ℕ) (bytes : List ℕ) (ended : Bool) (config : Config) (base
   at_once : (told : List ℕ) (steps : ℕ) → SettlesIn steps config (On c (Replied told) ∷ On c (CallTaken call) ∷ base) log → told ≡ reply
   at_once told steps settles =
       let mid = On c (Replied told) ∷ On c (CallTaken call) ∷ base in
-      told_by c steps config mid log told reply (CallTaken call ∷ bare c base) settles
-      (ap without_pieces (of_mine c (Replied told) (On c (CallTaken call) ∷ base))
-      ∙ ap (λ (l : List ConnAct). Replied told ∷ without_pieces l) (of_mine c (CallTaken call) base)) acts
+      settling_keeps_reply c steps config mid log told reply (CallTaken call ∷ bare_acts c base) settles
+      (ap without_pieces (of_own_act c (Replied told) (On c (CallTaken call) ∷ base))
+      ∙ ap (λ (l : List ConnAct). Replied told ∷ without_pieces l) (of_own_act c (CallTaken call) base)) acts
 
   -- The call isn't suspended: otherwise it would later be answered with an error.
   never_waits : (steps : ℕ) (wait : Wait) (last : Option ℕ) → error_number (late wait) ≢ 0 → is_there_in (Some lid) wait base ≡ false
-      → SettlesIn steps config (suspends c call (Some lid) wait last base) log → ⊥
+      → SettlesIn steps config (log_with_suspended c call (Some lid) wait last base) log → ⊥
   never_waits zero wait last error there settles =
-      let here : bare c log ≡ CallTaken call ∷ bare c base =
-      ap (λ (l : List Act). bare c l) settles.1 ∙ ap without_pieces (of_mine c (CallTaken call) base) in
-      let z : CallTaken call ∷ bare c base ≡ Replied reply ∷ CallTaken call ∷ bare c base = sym here ∙ acts in cc
+      let here : bare_acts c log ≡ CallTaken call ∷ bare_acts c base =
+      ap (λ (l : List Act). bare_acts c l) settles.1 ∙ ap without_pieces (of_own_act c (CallTaken call) base) in
+      let z : CallTaken call ∷ bare_acts c base ≡ Replied reply ∷ CallTaken call ∷ bare_acts c base = sym here ∙ acts in cc
   never_waits (suc steps) wait last error there (mid, next, more) =
-      let now = suspends c call (Some lid) wait last base in
+      let now = log_with_suspended c call (Some lid) wait last base in
       let told = result_reply xid (Size (late wait) 0) in
-      let mine : of c now ≡ CallTaken call ∷ of c base = of_mine c (CallTaken call) base in
+      let mine : of c now ≡ CallTaken call ∷ of c base = of_own_act c (CallTaken call) base in
       let found : core_call_in (pending_call (of c now)) ≡ Some (record { xid = xid; arguments = arguments }) =
       ap (λ (l : List ConnAct). core_call_in (pending_call l)) mine ∙ is in
       let gave : mid ≡ On c (Replied told) ∷ OnDevice (Waited (Left c)) ∷ now =
-      only_late config c call (Some lid) wait last base mid settled none there next
+      only_its_timeout_is_due config c call (Some lid) wait last base mid settled none there next
       ∙ ap (λ (o : Option CoreCall). acts_of c (failure_effect (late wait) c o) ++ now) found in
-      let was : bare c mid ≡ Replied told ∷ CallTaken call ∷ bare c base =
-      ap (λ (l : List Act). bare c l) gave ∙ ap without_pieces (of_mine c (Replied told) (OnDevice (Waited (Left c)) ∷ now))
+      let was : bare_acts c mid ≡ Replied told ∷ CallTaken call ∷ bare_acts c base =
+      ap (λ (l : List Act). bare_acts c l) gave ∙ ap without_pieces (of_own_act c (Replied told) (OnDevice (Waited (Left c)) ∷ now))
       ∙ ap (λ (l : List ConnAct). Replied told ∷ without_pieces l) mine in
-      error (tells_none xid xid 0 (length bytes) (late wait)
-      (told_by c steps config mid log told reply (CallTaken call ∷ bare c base) more was acts))
+      error (same_reply_has_no_error xid xid 0 (length bytes) (late wait)
+      (settling_keeps_reply c steps config mid log told reply (CallTaken call ∷ bare_acts c base) more was acts))
 
   abbrev after : CallOutcome → List Act
   after outcome = (acts_of c (call_effect xid outcome) ++ On c (CallTaken call) ∷ []) ++ base
@@ -156,7 +157,7 @@ module _ (c lid : ℕ) (bytes : List ℕ) (ended : Bool) (config : Config) (base
       → Wrote c bytes ended config base log
   by_case polled steps outcome next said settles (inl (error, some, so)) =
       let here = subst (λ (o : CallOutcome). SettlesIn steps config (after o) log) so settles in
-      absurd (some (tells_none xid xid 0 (length bytes) error (at_once (result_reply xid (Size error 0)) steps here)))
+      absurd (some (same_reply_has_no_error xid xid 0 (length bytes) error (at_once (result_reply xid (Size error 0)) steps here)))
   by_case polled steps outcome next said settles (inr (inl (wait, last, some, there, so))) =
       absurd (never_waits steps wait last some there (subst (λ (o : CallOutcome). SettlesIn steps config (after o) log) so settles))
   by_case polled steps outcome next said settles (inr (inr (free, so))) =
@@ -169,7 +170,8 @@ module _ (c lid : ℕ) (bytes : List ℕ) (ended : Bool) (config : Config) (base
         next = next;
         said = said;
         free = free;
-        settles = subst (λ (b : Bool). SettlesIn steps config (wrote c call reply bytes b base) log) (flag_is flags ended flag) here;
+        settles = subst (λ (b : Bool). SettlesIn steps config (log_with_write c call reply bytes b base) log) (flag_is flags ended flag)
+            here;
       }
 
   -- On a connection that serves another program the call isn't answered with this reply either. So
@@ -178,11 +180,11 @@ module _ (c lid : ℕ) (bytes : List ℕ) (ended : Bool) (config : Config) (base
   written taking =
       let role = open_role (of c base) in
       let asks = ap (request_for role) (sym taking.next) ∙ taking.asks in
-      elim (core_asked role call taking.request (record { xid = xid; arguments = arguments }) asks is) [
+      elim (core_call_on_any_role role call taking.request (record { xid = xid; arguments = arguments }) asks is) [
         | inl core ↦ by_case taking.polled taking.steps
             (admission config taking.polled c arguments (stop_of c arguments (device_acts base)) (device_acts base)) taking.next taking.said
             (as_request taking core) (write_case config taking.polled c lid io_timeout lock_timeout flags bytes (device_acts base))
-        | inr (other, decided) ↦ absurd (is_served xid other (length bytes)
+        | inr (other, decided) ↦ absurd (success_is_not_unavailable xid other (length bytes)
             (at_once (reply_record other ProgUnavail []) taking.steps (as_request taking decided)))
       ]
     where

@@ -8,8 +8,8 @@ use Rattle.sv_links.specs.Waiting.{WaitAct, Left, waits, deadline, arrival, IsEx
 use Rattle.sv_links.specs.Queue.{is_past}
 use Rattle.sv_history.specs.Act.{DeviceAct, wait_acts}
 use Rattle.sv_laws.proofs.EveryLog.Fit.{AllSuit}
-use Rattle.sv_laws.proofs.EveryLog.Known.{waits_within}
-use Rattle.sv_laws.proofs.Facts.{not_both}
+use Rattle.sv_laws.proofs.EveryLog.Known.{suspended_below_16}
+use Rattle.sv_laws.proofs.Facts.{true_is_not_false}
 
 -- ---- the oldest suspended call whose deadline has come
 
@@ -38,49 +38,50 @@ abbrev pub Least : List WaitAct → (ℕ → Bool) → ℕ → Option ℕ → Ty
 Least acts test n None = (d : ℕ) → d < n → test d ≡ false
 Least acts test n (Some c) = (test c ≡ true) × ((d : ℕ) → d < n → IsNoLater acts test c d)
 
-up_to : (IsSo : ℕ → Type 0) (n : ℕ) → IsSo n → ((d : ℕ) → d < n → IsSo d) → (d : ℕ) → d < suc n → IsSo d
-up_to IsSo n now before d lt =
+below_successor : (IsSo : ℕ → Type 0) (n : ℕ) → IsSo n → ((d : ℕ) → d < n → IsSo d) → (d : ℕ) → d < suc n → IsSo d
+below_successor IsSo n now before d lt =
     elim (cases_eq d n) [ inl e ↦ subst IsSo (sym e) now | inr ne ↦ before d (omega (arith, lt, ne)) ]
 
 least_more : (acts : List WaitAct) (test : ℕ → Bool) (n : ℕ) (found : Option ℕ) → Least acts test n found
     → (next : Option ℕ) × Least acts test (suc n) next
 least_more acts test n None h = elim (cases_Bool (test n)) [
-  | inl e ↦ (Some n, (e, up_to (IsNoLater acts test n) n (λ is. omega arith) (λ d less is. not_both (test d) is (h d less))))
-  | inr e ↦ (None, up_to (λ d. test d ≡ false) n e h)
+  | inl e ↦ (Some n, (e, below_successor (IsNoLater acts test n) n (λ is. omega arith)
+      (λ d less is. true_is_not_false (test d) is (h d less))))
+  | inr e ↦ (None, below_successor (λ d. test d ≡ false) n e h)
 ]
 least_more acts test n (Some c) h = elim (cases_Bool (test n)) [
   | inl e ↦ elim (cases_Bool (ltb (arrival n acts) (arrival c acts))) [
     | inl k ↦
         let first = ltb-true (arrival n acts) (arrival c acts) k in
         let behind : (d : ℕ) → d < n → IsNoLater acts test n d = λ d less is. let le = h.1 d less is in omega (arith, le, first) in
-        (Some n, (e, up_to (IsNoLater acts test n) n (λ is. omega arith) behind))
-    | inr k ↦ (Some c, (h.0, up_to (IsNoLater acts test c) n (λ is. ltb-false (arrival n acts) (arrival c acts) k) h.1))
+        (Some n, (e, below_successor (IsNoLater acts test n) n (λ is. omega arith) behind))
+    | inr k ↦ (Some c, (h.0, below_successor (IsNoLater acts test c) n (λ is. ltb-false (arrival n acts) (arrival c acts) k) h.1))
   ]
-  | inr e ↦ (Some c, (h.0, up_to (IsNoLater acts test c) n (λ is. not_both (test n) is e) h.1))
+  | inr e ↦ (Some c, (h.0, below_successor (IsNoLater acts test c) n (λ is. true_is_not_false (test n) is e) h.1))
 ]
 
-pub least : (acts : List WaitAct) (test : ℕ → Bool) (n : ℕ) → (found : Option ℕ) × Least acts test n found
-least acts test zero = (None, (λ d lt. absurd (omega (arith, lt))))
-least acts test (suc n) = let before = least acts test n in least_more acts test n before.0 before.1
+pub least_exists : (acts : List WaitAct) (test : ℕ → Bool) (n : ℕ) → (found : Option ℕ) × Least acts test n found
+least_exists acts test zero = (None, (λ d lt. absurd (omega (arith, lt))))
+least_exists acts test (suc n) = let before = least_exists acts test n in least_more acts test n before.0 before.1
 
 oldest_by : (clock : ℕ) (acts : List WaitAct) → ((d : ℕ) (wait : Wait) → waits d acts ≡ Some wait → d < 16) → (found : Option ℕ)
     → Least acts (is_due clock acts) 16 found → IsOldest acts (IsExpired clock acts) found
 oldest_by clock acts within None h = λ d such.
-    not_both (is_due clock acts d) (expired_due clock d acts such) (h d (within d such.0 such.2))
+    true_is_not_false (is_due clock acts d) (expired_due clock d acts such) (h d (within d such.0 such.2))
 oldest_by clock acts within (Some c) h =
     (due_expired clock c acts h.0, (λ d such. h.1 d (within d such.0 such.2) (expired_due clock d acts such)))
 
-pub oldest_due : (clock : ℕ) (acts : List DeviceAct) → AllSuit acts
+pub oldest_expired_exists : (clock : ℕ) (acts : List DeviceAct) → AllSuit acts
     → (found : Option ℕ) × IsOldest (wait_acts acts) (IsExpired clock (wait_acts acts)) found
-oldest_due clock acts all =
-    let first = least (wait_acts acts) (is_due clock (wait_acts acts)) 16 in
-    (first.0, oldest_by clock (wait_acts acts) (waits_within acts all) first.0 first.1)
+oldest_expired_exists clock acts all =
+    let first = least_exists (wait_acts acts) (is_due clock (wait_acts acts)) 16 in
+    (first.0, oldest_by clock (wait_acts acts) (suspended_below_16 acts all) first.0 first.1)
 
 -- ---- how many connections below `n` have a suspended call
 
-abbrev pub count : List WaitAct → ℕ → ℕ
-count acts zero = 0
-count acts (suc n) = cond (is_some (waits n acts)) (count acts n + 1) (count acts n)
+abbrev pub suspended_below : List WaitAct → ℕ → ℕ
+suspended_below acts zero = 0
+suspended_below acts (suc n) = cond (is_some (waits n acts)) (suspended_below acts n + 1) (suspended_below acts n)
 
 count_more : (b : Bool) (m n : ℕ) → m ≤ n → m ≤ cond b (n + 1) n
 count_more true m n le = omega (arith, le)
@@ -94,21 +95,23 @@ count_less : (b : Bool) (m n : ℕ) → m < n → cond b (m + 1) m < cond b (n +
 count_less true m n lt = omega (arith, lt)
 count_less false m n lt = lt
 
-left_no_more : (d n : ℕ) (acts : List WaitAct) → count (Left d ∷ acts) n ≤ count acts n
-left_no_more d zero acts = omega arith
-left_no_more d (suc n) acts = elim (cases_Bool (eqb d n)) [
-  | inl e ↦ rw e (count_more (is_some (waits n acts)) (count (Left d ∷ acts) n) (count acts n) (left_no_more d n acts))
-  | inr e ↦ rw e (count_both (is_some (waits n acts)) (count (Left d ∷ acts) n) (count acts n) (left_no_more d n acts))
+leaving_never_raises_count : (d n : ℕ) (acts : List WaitAct) → suspended_below (Left d ∷ acts) n ≤ suspended_below acts n
+leaving_never_raises_count d zero acts = omega arith
+leaving_never_raises_count d (suc n) acts = elim (cases_Bool (eqb d n)) [
+  | inl e ↦ rw e (count_more (is_some (waits n acts)) (suspended_below (Left d ∷ acts) n) (suspended_below acts n)
+      (leaving_never_raises_count d n acts))
+  | inr e ↦ rw e (count_both (is_some (waits n acts)) (suspended_below (Left d ∷ acts) n) (suspended_below acts n)
+      (leaving_never_raises_count d n acts))
 ]
 
-pub left_fewer : (d n : ℕ) (acts : List WaitAct) (wait : Wait) → d < n → waits d acts ≡ Some wait
-    → count (Left d ∷ acts) n < count acts n
-left_fewer d zero acts wait lt for = absurd (omega (arith, lt))
-left_fewer d (suc n) acts wait lt for = elim (cases_eq d n) [
+pub leaving_lowers_count : (d n : ℕ) (acts : List WaitAct) (wait : Wait) → d < n → waits d acts ≡ Some wait
+    → suspended_below (Left d ∷ acts) n < suspended_below acts n
+leaving_lowers_count d zero acts wait lt for = absurd (omega (arith, lt))
+leaving_lowers_count d (suc n) acts wait lt for = elim (cases_eq d n) [
   | inl same ↦
       let there : is_some (waits n acts) ≡ true = ap is_some (ap (λ (m : ℕ). waits m acts) (sym same) ∙ for) in
-      let le = left_no_more d n acts in
+      let le = leaving_never_raises_count d n acts in
       rw (eq-eqb d n same, there) (omega (arith, le))
-  | inr ne ↦ rw (ne_eqb d n ne) (count_less (is_some (waits n acts)) (count (Left d ∷ acts) n) (count acts n)
-      (left_fewer d n acts wait (omega (arith, lt, ne)) for))
+  | inr ne ↦ rw (ne_eqb d n ne) (count_less (is_some (waits n acts)) (suspended_below (Left d ∷ acts) n) (suspended_below acts n)
+      (leaving_lowers_count d n acts wait (omega (arith, lt, ne)) for))
 ]

@@ -40,11 +40,11 @@ use Rattle.sv_history.specs.Interrupts.{connect_outcome}
 use Rattle.sv_history.specs.Resuming.{effect_of, leaving}
 use Rattle.sv_history.specs.Refusing.{takes_memory, refusable_call, refusable, refused_reply}
 use Rattle.sv_history.specs.History.{turn_acts, refuse_acts, own_acts, unless_shut, refusal, IsLogOf}
-use Rattle.sv_history.proofs.Projections.{of_mine, of_shared}
-use Rattle.sv_laws.proofs.EveryLog.EachEvent.{each_log, StepsKeep, ends_keep, step_keeps, turn_keeps, refuse_keeps}
-use Rattle.sv_laws.proofs.Facts.{some_same}
-use Rattle.sv_laws.proofs.EveryLog.Taken.{xid_of, xid_in, xid_is, asks_as, is_core}
-use Rattle.sv_laws.proofs.EveryLog.Fit.{of_each}
+use Rattle.sv_history.proofs.Projections.{of_own_act, of_device_acts}
+use Rattle.sv_laws.proofs.EveryLog.EachEvent.{induction_over_history, StepsKeep, steps_keep_by_effects, step_keeps, turn_keeps, refuse_keeps}
+use Rattle.sv_laws.proofs.Facts.{some_injective}
+use Rattle.sv_laws.proofs.EveryLog.Taken.{xid_of, xid_in, xid_is, request_is_for_role, is_core}
+use Rattle.sv_laws.proofs.EveryLog.Fit.{each_after_effect}
 
 -- ---- when an act is possible
 
@@ -56,68 +56,69 @@ IsReplyTo call reply = (xid : ℕ) × (answer : Reply) × (fields : List Field) 
 -- The act is possible after these acts. Bytes come and are taken, and a call is taken, only while
 -- the connection is open, and this call is the next one. A reply needs a pending call. A fault
 -- needs a pending record that isn't a call.
-abbrev pub CanCome : ConnAct → List ConnAct → Type 0
-CanCome (Opened role) acts = ⊤
-CanCome (Piece bytes) acts = (is_open acts ≡ true) × IsBytes bytes
-CanCome (CallTaken call) acts = (is_open acts ≡ true) × (next_call acts ≡ Some call)
-CanCome Faulted acts = (call : List ℕ) × (pending_call acts ≡ Some call) × (call_at call ≡ Err BadHeader)
-CanCome (Replied reply) acts = (call : List ℕ) × (pending_call acts ≡ Some call) × IsReplyTo call reply
-CanCome (BytesTaken count) acts = is_open acts ≡ true
-CanCome PortClosed acts = ⊤
+abbrev pub IsPossible : ConnAct → List ConnAct → Type 0
+IsPossible (Opened role) acts = ⊤
+IsPossible (Piece bytes) acts = (is_open acts ≡ true) × IsBytes bytes
+IsPossible (CallTaken call) acts = (is_open acts ≡ true) × (next_call acts ≡ Some call)
+IsPossible Faulted acts = (call : List ℕ) × (pending_call acts ≡ Some call) × (call_at call ≡ Err BadHeader)
+IsPossible (Replied reply) acts = (call : List ℕ) × (pending_call acts ≡ Some call) × IsReplyTo call reply
+IsPossible (BytesTaken count) acts = is_open acts ≡ true
+IsPossible PortClosed acts = ⊤
 
 -- Each of these acts was possible after the acts before it.
-abbrev pub AllCame : List ConnAct → Type 0
-AllCame [] = ⊤
-AllCame (act ∷ acts) = CanCome act acts × AllCame acts
+abbrev pub WerePossible : List ConnAct → Type 0
+WerePossible [] = ⊤
+WerePossible (act ∷ acts) = IsPossible act acts × WerePossible acts
 
 -- ---- a request has the xid of its record
 
-pub none_bad : (found : Result PlainCall CallFault) → xid_of found ≡ None → found ≡ Err BadHeader
-none_bad (Ok call) e = absurd cc
-none_bad (Err (Version xid)) e = absurd cc
-none_bad (Err BadHeader) e = refl
+pub no_xid_is_no_call : (found : Result PlainCall CallFault) → xid_of found ≡ None → found ≡ Err BadHeader
+no_xid_is_no_call (Ok call) e = absurd cc
+no_xid_is_no_call (Err (Version xid)) e = absurd cc
+no_xid_is_no_call (Err BadHeader) e = refl
 
 -- A request has the xid of the record from which it was read.
 xid_asked : (role : Option Role) (bytes : List ℕ) (request : Request) → request_for role (Some bytes) ≡ Some request
     → xid_of (call_at bytes) ≡ xid_in request
 xid_asked (Some role) bytes request e = xid_is role (xid_of (call_at bytes)) request
-    (asks_as role (call_at bytes) request (some_same (request_of role (call_at bytes)) request e))
+    (request_is_for_role role (call_at bytes) request (some_injective (request_of role (call_at bytes)) request e))
 xid_asked None bytes request e = absurd cc
 
-pub xid_next : (acts : List ConnAct) (bytes : List ℕ) (request : Request) → next_call acts ≡ Some bytes
+pub request_has_xid_of_call : (acts : List ConnAct) (bytes : List ℕ) (request : Request) → next_call acts ≡ Some bytes
     → next_request acts ≡ Some request → xid_of (call_at bytes) ≡ xid_in request
-xid_next acts bytes request next asks = xid_asked (open_role acts) bytes request (ap (request_for (open_role acts)) (sym next) ∙ asks)
+request_has_xid_of_call acts bytes request next asks = xid_asked (open_role acts) bytes request
+    (ap (request_for (open_role acts)) (sym next) ∙ asks)
 
 -- A pending call of the core channel has the xid of its record.
-pub core_known : (found : Option (List ℕ)) (call : CoreCall) → core_call_in found ≡ Some call
+pub core_call_has_xid : (found : Option (List ℕ)) (call : CoreCall) → core_call_in found ≡ Some call
     → (bytes : List ℕ) × (found ≡ Some bytes) × (xid_of (call_at bytes) ≡ Some call.xid)
-core_known (Some bytes) call e = (bytes, refl, (asks_as Core (call_at bytes) (CoreRequest call) (is_core _ call e)).1)
-core_known None call e = absurd cc
+core_call_has_xid (Some bytes) call e = (bytes, refl, (request_is_for_role Core (call_at bytes) (CoreRequest call) (is_core _ call e)).1)
+core_call_has_xid None call e = absurd cc
 
 -- ---- all connections
 
 abbrev Everywhere : List Act → Type 0
-Everywhere log = (c : ℕ) → AllCame (of c log)
+Everywhere log = (c : ℕ) → WerePossible (of c log)
 
-all_effect : (c : ℕ) (effect : Effect) (log : List Act) → Everywhere log → AllCame (effect.own ++ of c log)
+all_effect : (c : ℕ) (effect : Effect) (log : List Act) → Everywhere log → WerePossible (effect.own ++ of c log)
     → Everywhere (acts_of c effect ++ log)
-all_effect c effect log all h = of_each (λ d acts. AllCame acts) c effect log h (λ d ne. all d)
+all_effect c effect log all h = each_after_effect (λ d acts. WerePossible acts) c effect log h (λ d ne. all d)
 
-all_on : (c : ℕ) (act : ConnAct) (log : List Act) → Everywhere log → CanCome act (of c log) → Everywhere (On c act ∷ log)
+all_on : (c : ℕ) (act : ConnAct) (log : List Act) → Everywhere log → IsPossible act (of c log) → Everywhere (On c act ∷ log)
 all_on c act log all h = all_effect c (record { own = act ∷ []; adds = [] }) log all (h, all c)
 
 all_shared : (adds : List DeviceAct) (log : List Act) → Everywhere log → Everywhere (map OnDevice adds ++ log)
-all_shared adds log all d = subst AllCame (sym (of_shared d adds log)) (all d)
+all_shared adds log all d = subst WerePossible (sym (of_device_acts d adds log)) (all d)
 
 -- ---- a suspended call ends, or is suspended again
 
 told_result : (call : List ℕ) (xid : ℕ) (result : Outcome) → xid_of (call_at call) ≡ Some xid → IsReplyTo call (result_reply xid result)
 told_result call xid result is = (xid, Success, result_fields result, is, refl)
 
-came_replies : (xid : ℕ) (result : Option Outcome) (acts : List ConnAct) (call : List ℕ) → pending_call acts ≡ Some call
-    → xid_of (call_at call) ≡ Some xid → AllCame acts → AllCame (replies xid result ++ acts)
-came_replies xid (Some result) acts call busy is all = ((call, busy, told_result call xid result is), all)
-came_replies xid None acts call busy is all = all
+replies_were_possible : (xid : ℕ) (result : Option Outcome) (acts : List ConnAct) (call : List ℕ) → pending_call acts ≡ Some call
+    → xid_of (call_at call) ≡ Some xid → WerePossible acts → WerePossible (replies xid result ++ acts)
+replies_were_possible xid (Some result) acts call busy is all = ((call, busy, told_result call xid result is), all)
+replies_were_possible xid None acts call busy is all = all
 
 all_ended : (c : ℕ) (does : Arguments → CallOutcome) (log : List Act) → Everywhere log
     → Everywhere (acts_of c (effect_of c does (core_call_in (pending_call (of c log)))) ++ log)
@@ -125,13 +126,13 @@ all_ended c does log all = by (core_call_in (pending_call (of c log))) refl
   where
     by : (call : Option CoreCall) → core_call_in (pending_call (of c log)) ≡ call → Everywhere (acts_of c (effect_of c does call) ++ log)
     by (Some call) e =
-        let known = core_known (pending_call (of c log)) call e in
+        let known = core_call_has_xid (pending_call (of c log)) call e in
         all_effect c (effect_of c does (Some call)) log all
-        (came_replies call.xid (does call.arguments).result (of c log) known.0 known.1 known.2 (all c))
+        (replies_were_possible call.xid (does call.arguments).result (of c log) known.0 known.1 known.2 (all c))
     by None e = all_effect c (effect_of c does None) log all (all c)
 
 steps_keep : (config : Config) → StepsKeep config Everywhere
-steps_keep config = ends_keep config Everywhere (λ adds log. all_shared (map Applied adds) log) all_ended
+steps_keep config = steps_keep_by_effects config Everywhere (λ adds log. all_shared (map Applied adds) log) all_ended
 
 -- ---- an event's own acts
 
@@ -140,16 +141,17 @@ port_replied : (call : List ℕ) (xid : ℕ) (port : Result ℕ Garbage) → xid
 port_replied call xid (Ok port) is = (xid, Success, Unsigned port ∷ [], is, refl)
 port_replied call xid (Err garbage) is = (xid, GarbageArgs, [], is, refl)
 
-came_request : (config : Config) (polled c : ℕ) (bytes : List ℕ) (request : Request) (acts : List DeviceAct) (own : List ConnAct)
-    → xid_of (call_at bytes) ≡ xid_in request → AllCame (CallTaken bytes ∷ own)
-    → AllCame ((request_effect config polled c request acts).own ++ CallTaken bytes ∷ own)
-came_request config polled c bytes NoCall acts own is all = ((bytes, refl, none_bad (call_at bytes) is), all)
-came_request config polled c bytes (Decided xid reply) acts own is all = ((bytes, refl, (xid, reply, [], is, refl)), all)
-came_request config polled c bytes (CoreRequest call) acts own is all =
-    came_replies call.xid _ (CallTaken bytes ∷ own) bytes refl is all
-came_request config polled c bytes (AbortRequest xid lid) acts own is all =
+request_acts_were_possible : (config : Config) (polled c : ℕ) (bytes : List ℕ) (request : Request) (acts : List DeviceAct)
+    (own : List ConnAct)
+    → xid_of (call_at bytes) ≡ xid_in request → WerePossible (CallTaken bytes ∷ own)
+    → WerePossible ((request_effect config polled c request acts).own ++ CallTaken bytes ∷ own)
+request_acts_were_possible config polled c bytes NoCall acts own is all = ((bytes, refl, no_xid_is_no_call (call_at bytes) is), all)
+request_acts_were_possible config polled c bytes (Decided xid reply) acts own is all = ((bytes, refl, (xid, reply, [], is, refl)), all)
+request_acts_were_possible config polled c bytes (CoreRequest call) acts own is all =
+    replies_were_possible call.xid _ (CallTaken bytes ∷ own) bytes refl is all
+request_acts_were_possible config polled c bytes (AbortRequest xid lid) acts own is all =
     ((bytes, refl, told_result bytes xid (abort_result (lid_of (Some lid)) acts) is), all)
-came_request config polled c bytes (PortRequest xid args) acts own is all =
+request_acts_were_possible config polled c bytes (PortRequest xid args) acts own is all =
     ((bytes, refl, port_replied bytes xid (port_at (record { core = config.core; abort = config.abort }) args) is), all)
 
 all_turn : (config : Config) (polled c : ℕ) (log : List Act) → Everywhere log → is_open (of c log) ≡ true
@@ -158,8 +160,9 @@ all_turn config polled c log all opened =
     turn_keeps config Everywhere (steps_keep config) polled c (next_call (of c log)) (next_request (of c log)) log all
     (λ bytes request next asks.
     all_effect c (request_effect config polled c request (device_acts log)) (On c (CallTaken bytes) ∷ log)
-    (all_on c (CallTaken bytes) log all (opened, next)) (rw (of_mine c (CallTaken bytes) log)
-    (came_request config polled c bytes request (device_acts log) (of c log) (xid_next (of c log) bytes request next asks)
+    (all_on c (CallTaken bytes) log all (opened, next)) (rw (of_own_act c (CallTaken bytes) log)
+    (request_acts_were_possible config polled c bytes request (device_acts log) (of c log)
+        (request_has_xid_of_call (of c log) bytes request next asks)
     ((opened, next), all c))))
 
 -- A request that can be refused for lack of memory is a call of the core channel.
@@ -174,9 +177,9 @@ refusable_is _ call e = absurd cc
 all_refuse : (c : ℕ) (log : List Act) → Everywhere log → is_open (of c log) ≡ true
     → Everywhere (refuse_acts c (next_call (of c log)) (refusable (of c log)) ++ log)
 all_refuse c log all opened = refuse_keeps Everywhere c (next_call (of c log)) (refusable (of c log)) log all (λ bytes call next can.
-    let is = xid_next (of c log) bytes (CoreRequest call) next (refusable_is (next_request (of c log)) call can) in
+    let is = request_has_xid_of_call (of c log) bytes (CoreRequest call) next (refusable_is (next_request (of c log)) call can) in
     all_on c (Replied (refused_reply call)) (On c (CallTaken bytes) ∷ log) (all_on c (CallTaken bytes) log all (opened, next))
-    (rw (of_mine c (CallTaken bytes) log) (bytes, refl, told_result bytes call.xid (failure call.arguments OutOfResources) is)))
+    (rw (of_own_act c (CallTaken bytes) log) (bytes, refl, told_result bytes call.xid (failure call.arguments OutOfResources) is)))
 
 open_by : (far opened : Bool) (other : Option Refused) → cond (far || not opened) (Some NoConn) other ≡ None → opened ≡ true
 open_by true opened other e = absurd cc
@@ -184,19 +187,20 @@ open_by false true other e = refl
 open_by false false other e = absurd cc
 
 -- If an event that needs an open connection isn't refused, the connection is open.
-pub open_unless : (c : ℕ) (log : List Act) (other : Option Refused) → unless_shut c log other ≡ None → is_open (of c log) ≡ true
-open_unless c log other e = open_by (nat_lt 15 c) (is_open (of c log)) other e
+pub unrefused_is_open : (c : ℕ) (log : List Act) (other : Option Refused) → unless_shut c log other ≡ None → is_open (of c log) ≡ true
+unrefused_is_open c log other e = open_by (nat_lt 15 c) (is_open (of c log)) other e
 
 all_event : (config : Config) (event : PlainEvent) (polled : ℕ) (channel_log : List ChannelAct) (log : List Act) → IsEvent event
     → refusal config channel_log event log ≡ None → Everywhere log → Everywhere (own_acts config polled event log ++ log)
 all_event config (Open c role) polled channel_log log is free all = all_on c (Opened role) log all tt
 all_event config (Bytes c piece) polled channel_log log is free all =
-    all_on c (Piece piece) log all (open_unless c log _ free, bytes_are piece is.1)
+    all_on c (Piece piece) log all (unrefused_is_open c log _ free, bytes_are piece is.1)
 all_event config (Turn c) polled channel_log log is free all =
-    all_turn config polled c log all (open_unless c log _ free)
+    all_turn config polled c log all (unrefused_is_open c log _ free)
 all_event config (Refuse c) polled channel_log log is free all =
-    all_refuse c log all (open_unless c log _ free)
-all_event config (Took (Conn c) count) polled channel_log log is free all = all_on c (BytesTaken count) log all (open_unless c log _ free)
+    all_refuse c log all (unrefused_is_open c log _ free)
+all_event config (Took (Conn c) count) polled channel_log log is free all =
+    all_on c (BytesTaken count) log all (unrefused_is_open c log _ free)
 all_event config (Took (Intr c) count) polled channel_log log is free all = all_shared (Channel (ChannelTaken c count) ∷ []) log all
 all_event config (Close (Conn c)) polled channel_log log is free all =
     let adds = Channel (ChannelClosed c) ∷ (map Linked (closing c (link_acts (device_acts log))) ++ Waited (Left c) ∷ []) in
@@ -215,6 +219,7 @@ all_event config Tick polled channel_log log is free all =
     (all_shared adds (OnDevice Ticked ∷ log) (all_shared (Ticked ∷ []) log all))
 
 -- In each log of a history, every act of a connection was possible when it came.
-pub all_came : (config : Config) (history : List PlainEvent) (log : List Act) (c : ℕ) → IsLogOf config history log → AllCame (of c log)
-all_came config history log c was = each_log config Everywhere (λ d. tt) (all_event config)
+pub acts_were_possible : (config : Config) (history : List PlainEvent) (log : List Act) (c : ℕ) → IsLogOf config history log
+    → WerePossible (of c log)
+acts_were_possible config history log c was = induction_over_history config Everywhere (λ d. tt) (all_event config)
     (step_keeps config Everywhere (steps_keep config)) history log was c

@@ -14,10 +14,10 @@ use Rattle.sv_links.specs.declared.waiting.Wait.TheVariants.{Lock, Input as ForI
 use Rattle.sv_links.specs.Links.{LinkAct, Made, owner, closing}
 use Rattle.sv_links.specs.Waiting.{WaitAct, Entered, Left, waits, link as named_link}
 use Rattle.sv_links.specs.Channels.{ChannelAct, SrqEnabled, ChannelClosed, ChannelTaken}
-use Rattle.sv_laws.proofs.Facts.{some_same}
+use Rattle.sv_laws.proofs.Facts.{some_injective}
 use Rattle.sv_laws.proofs.LinksAlike.{MakesNone}
-use Rattle.sv_laws.proofs.CallsAlike.{call_foreign}
-use Rattle.sv_laws.proofs.Closed.{closed_before, closed_makes_none}
+use Rattle.sv_laws.proofs.CallsAlike.{foreign_act_keeps_call}
+use Rattle.sv_laws.proofs.Closed.{owner_after_close_was_owner, closing_makes_no_link}
 use Rattle.sv_layers.specs.Act.{Act as InstrumentAct}
 use Rattle.sv_instrument.specs.Stimulus.{external_acts, tick_acts}
 use Rattle.sv_history.specs.declared.event.Config.{Config}
@@ -32,7 +32,7 @@ use Rattle.sv_history.specs.CoreCall.{CoreCall, lid_of, failure}
 use Rattle.sv_history.specs.CoreChannel.{own_call}
 use Rattle.sv_history.specs.Effect.{Effect, acts_of, replies, call_effect}
 use Rattle.sv_history.specs.Request.{Request, CoreRequest, core_call_in, next_request}
-use Rattle.sv_history.proofs.Dialing.{peer_by, dialed_to, dialed_is}
+use Rattle.sv_history.proofs.Dialing.{peer_named_by, connect_outcome_for, connect_outcome_by_peer}
 use Rattle.sv_history.specs.Admission.{Stop, Fails, Awaits, stop_of, admission}
 use Rattle.sv_history.specs.Execution.{request_effect, aborts}
 use Rattle.sv_history.specs.CallOutcome.{CallOutcome, only}
@@ -40,29 +40,30 @@ use Rattle.sv_history.specs.Resuming.{effect_of, leaving, next_wait, resume_outc
 use Rattle.sv_history.specs.Refusing.{refusable, refused_reply}
 use Rattle.sv_history.specs.Settling.{IsNext, SettlesIn}
 use Rattle.sv_history.specs.History.{abort_acts, taken_acts, turn_acts, refuse_acts, own_acts, refusal, IsLogOf}
-use Rattle.sv_history.proofs.Projections.{of_mine, of_other, of_shared, device_shared, link_acts_links, wait_acts_links, link_acts_happened, wait_acts_happened}
-use Rattle.sv_laws.proofs.EveryLog.Done.{IsDone, each_done, waits_own, creating_waits}
-use Rattle.sv_laws.proofs.EveryLog.Taken.{free_call, core_taken, within}
-use Rattle.sv_laws.proofs.EveryLog.Fit.{AllSuit, IsHeld, Fit, IsBy, IsCore, held_none, held_same, fit_effect, fit_free, fit_on, fit_on_free, fit_shared}
+use Rattle.sv_history.proofs.Projections.{of_own_act, of_other_act, of_device_acts, device_acts_append, link_acts_links, wait_acts_links, link_acts_applied, wait_acts_applied}
+use Rattle.sv_laws.proofs.EveryLog.Done.{IsActOfCall, each_act_is_of_call, suspended_names_own_link, suspended_create_link}
+use Rattle.sv_laws.proofs.EveryLog.Taken.{next_call_means_none_pending, core_call_is_on_core_role, unrefused_below_16}
+use Rattle.sv_laws.proofs.EveryLog.Fit.{AllSuit, SuspendedIsOnCore, Fit, IsActBy, IsCore, none_suspended_is_on_core, same_call_stays_on_core, fit_effect, fit_without_suspended, fit_after_act, fit_after_act_without_suspended, fit_after_device_acts}
 
 -- ---- induction over a history
 
-pub each_settled : (config : Config) (IsSo : List Act → Type 0) → ((log new : List Act) → IsSo log → IsNext config log new → IsSo new)
+pub settling_keeps : (config : Config) (IsSo : List Act → Type 0) → ((log new : List Act) → IsSo log → IsNext config log new → IsSo new)
     → (n : ℕ) (log new : List Act) → IsSo log → SettlesIn n config log new → IsSo new
-each_settled config IsSo step zero log new so (none, same) = subst IsSo (sym same) so
-each_settled config IsSo step (suc n) log new so (middle, next, more) =
-    each_settled config IsSo step n middle new (step log middle so next) more
+settling_keeps config IsSo step zero log new so (none, same) = subst IsSo (sym same) so
+settling_keeps config IsSo step (suc n) log new so (middle, next, more) =
+    settling_keeps config IsSo step n middle new (step log middle so next) more
 
-pub each_log : (config : Config) (IsSo : List Act → Type 0) → IsSo []
+pub induction_over_history : (config : Config) (IsSo : List Act → Type 0) → IsSo []
     → ((event : PlainEvent) (polled : ℕ) (channel_log : List ChannelAct) (log : List Act) → IsEvent event
     → refusal config channel_log event log ≡ None
     → IsSo log → IsSo (own_acts config polled event log ++ log))
     → ((log new : List Act) → IsSo log → IsNext config log new → IsSo new)
     → (history : List PlainEvent) (log : List Act) → IsLogOf config history log → IsSo log
-each_log config IsSo empty acts step [] log (given, none) = subst IsSo (sym none) empty
-each_log config IsSo empty acts step (event ∷ history) log (before, polled, channel_log, is_event, was, hears, free, said, settles) =
-    each_settled config IsSo step settles.0 (own_acts config polled event before ++ before) log
-    (acts event polled channel_log before is_event free (each_log config IsSo empty acts step history before was)) settles.1
+induction_over_history config IsSo empty acts step [] log (given, none) = subst IsSo (sym none) empty
+induction_over_history config IsSo empty acts step (event ∷ history) log
+    (before, polled, channel_log, is_event, was, hears, free, said, settles) =
+    settling_keeps config IsSo step settles.0 (own_acts config polled event before ++ before) log
+    (acts event polled channel_log before is_event free (induction_over_history config IsSo empty acts step history before was)) settles.1
 
 -- ---- steps
 
@@ -77,11 +78,11 @@ pub record StepsKeep (config : Config) (IsSo : List Act → Type 0) : Type 0 whe
 
 -- It is enough that acts of the instrument keep the invariant, and every effect of a suspended
 -- call.
-pub ends_keep : (config : Config) (IsSo : List Act → Type 0)
+pub steps_keep_by_effects : (config : Config) (IsSo : List Act → Type 0)
     → ((adds : List InstrumentAct) (log : List Act) → IsSo log → IsSo (map OnDevice (map Applied adds) ++ log))
     → ((c : ℕ) (does : Arguments → CallOutcome) (log : List Act) → IsSo log
     → IsSo (acts_of c (effect_of c does (core_call_in (pending_call (of c log)))) ++ log)) → StepsKeep config IsSo
-ends_keep config IsSo happened ended = record {
+steps_keep_by_effects config IsSo happened ended = record {
   happened = happened;
   resumed = λ polled c wait log for so. ended c (λ arguments. resume_outcome config polled c arguments
       (next_wait wait arguments (device_acts log)) (device_acts log)) log so;
@@ -105,10 +106,10 @@ abort_keeps config IsSo keep None log so = so
 
 -- The acts of a Turn in their order: the call is taken, its effect comes, and then the end of a
 -- call that it aborts.
-pub turn_parts : (c : ℕ) (bytes : List ℕ) (effect : Effect) (aborts : Option ℕ) (log : List Act)
+pub turn_acts_in_order : (c : ℕ) (bytes : List ℕ) (effect : Effect) (aborts : Option ℕ) (log : List Act)
     → let taken = acts_of c effect ++ On c (CallTaken bytes) ∷ log in
     taken_acts c bytes effect aborts log ++ log ≡ abort_acts aborts taken ++ taken
-turn_parts c bytes effect aborts log =
+turn_acts_in_order c bytes effect aborts log =
     let acts = acts_of c effect ++ On c (CallTaken bytes) ∷ [] in
     let same : acts ++ log ≡ acts_of c effect ++ On c (CallTaken bytes) ∷ log =
     append_assoc (acts_of c effect) (On c (CallTaken bytes) ∷ []) log in
@@ -122,7 +123,7 @@ pub turn_keeps : (config : Config) (IsSo : List Act → Type 0) → StepsKeep co
     → IsSo (turn_acts config polled c found request log ++ log)
 turn_keeps config IsSo keep polled c (Some bytes) (Some request) log so does =
     let effect = request_effect config polled c request (device_acts log) in
-    subst IsSo (sym (turn_parts c bytes effect (aborts request (device_acts log)) log))
+    subst IsSo (sym (turn_acts_in_order c bytes effect (aborts request (device_acts log)) log))
     (abort_keeps config IsSo keep (aborts request (device_acts log)) _ (does bytes request refl refl))
 turn_keeps config IsSo keep polled c _ _ log so does = so
 
@@ -135,65 +136,69 @@ refuse_keeps IsSo c _ _ log so does = so
 
 -- ---- a call that is executed, or leaves the queue
 
-left_none : (c : ℕ) (acts : List WaitAct) → waits c (Left c ∷ acts) ≡ None
-left_none c acts = rw (eq-eqb c c refl) refl
+left_call_is_gone : (c : ℕ) (acts : List WaitAct) → waits c (Left c ∷ acts) ≡ None
+left_call_is_gone c acts = rw (eq-eqb c c refl) refl
 
-done_by : (c : ℕ) (May : Type 0) (arguments : Arguments) (adds acts : List DeviceAct) → May → Each (IsDone c arguments) adds acts
-    → Each (IsBy c May) adds acts
+done_by : (c : ℕ) (May : Type 0) (arguments : Arguments) (adds acts : List DeviceAct) → May → Each (IsActOfCall c arguments) adds acts
+    → Each (IsActBy c May) adds acts
 done_by c May arguments [] acts may h = tt
 done_by c May arguments (act ∷ adds) acts may h = (one act (adds ++ acts) h.0, done_by c May arguments adds acts may h.1)
   where
-    one : (act : DeviceAct) (acts : List DeviceAct) → IsDone c arguments acts act → IsBy c May acts act
+    one : (act : DeviceAct) (acts : List DeviceAct) → IsActOfCall c arguments acts act → IsActBy c May acts act
     one (Linked (Made lid conn)) acts h = (h.0, h.1, may)
     one (Waited act) acts h = absurd h
     one (Channel (SrqEnabled lid conn handle)) acts h = h.1
     one _ acts h = tt
 
-pub done_waits : (c : ℕ) (arguments : Arguments) (adds acts : List DeviceAct) → Each (IsDone c arguments) adds acts
+pub call_acts_suspend_none : (c : ℕ) (arguments : Arguments) (adds acts : List DeviceAct) → Each (IsActOfCall c arguments) adds acts
     → wait_acts (adds ++ acts) ≡ wait_acts acts
-done_waits c arguments [] acts h = refl
-done_waits c arguments (Waited act ∷ adds) acts h = absurd h.0
-done_waits c arguments (_ ∷ adds) acts h = done_waits c arguments adds acts h.1
+call_acts_suspend_none c arguments [] acts h = refl
+call_acts_suspend_none c arguments (Waited act ∷ adds) acts h = absurd h.0
+call_acts_suspend_none c arguments (_ ∷ adds) acts h = call_acts_suspend_none c arguments adds acts h.1
 
-pub replies_role : (xid : ℕ) (result : Option Outcome) (own : List ConnAct) → open_role (replies xid result ++ own) ≡ open_role own
-replies_role xid (Some result) own = refl
-replies_role xid None own = refl
+pub reply_keeps_role : (xid : ℕ) (result : Option Outcome) (own : List ConnAct) → open_role (replies xid result ++ own) ≡ open_role own
+reply_keeps_role xid (Some result) own = refl
+reply_keeps_role xid None own = refl
 
 -- Ending a suspended call with an error keeps `Fit`.
 pub fit_failed : (error : ErrorCode) (c : ℕ) (call : Option CoreCall) (log : List Act) → Fit log
     → Fit (acts_of c (failure_effect error c call) ++ log)
-fit_failed error c (Some call) log fit = fit_free c (failure_effect error c (Some call)) log fit (refl, tt) refl
-    (left_none c (wait_acts (device_acts log)))
-fit_failed error c None log fit = fit_free c (failure_effect error c None) log fit (refl, tt) refl
-    (left_none c (wait_acts (device_acts log)))
+fit_failed error c (Some call) log fit = fit_without_suspended c (failure_effect error c (Some call)) log fit (refl, tt) refl
+    (left_call_is_gone c (wait_acts (device_acts log)))
+fit_failed error c None log fit = fit_without_suspended c (failure_effect error c None) log fit (refl, tt) refl
+    (left_call_is_gone c (wait_acts (device_acts log)))
 
 fit_dialed : (c : ℕ) (ok : Bool) (call : CoreCall) (peer : Option Peer) (log : List Act) → Fit log
-    → Fit (acts_of c (call_effect call.xid (leaving c (dialed_to c ok call.arguments peer))) ++ log)
+    → Fit (acts_of c (call_effect call.xid (leaving c (connect_outcome_for c ok call.arguments peer))) ++ log)
 fit_dialed c true call (Some peer) log fit =
-    fit_free c (call_effect call.xid (leaving c (dialed_to c true call.arguments (Some peer)))) log fit (tt, (refl, tt)) refl
-    (left_none c (wait_acts (device_acts log)))
+    fit_without_suspended c (call_effect call.xid (leaving c (connect_outcome_for c true call.arguments (Some peer)))) log fit
+        (tt, (refl, tt)) refl
+    (left_call_is_gone c (wait_acts (device_acts log)))
 fit_dialed c false call (Some peer) log fit =
-    fit_free c (call_effect call.xid (leaving c (dialed_to c false call.arguments (Some peer)))) log fit (refl, tt) refl
-    (left_none c (wait_acts (device_acts log)))
+    fit_without_suspended c (call_effect call.xid (leaving c (connect_outcome_for c false call.arguments (Some peer)))) log fit (refl, tt)
+        refl
+    (left_call_is_gone c (wait_acts (device_acts log)))
 fit_dialed c ok call None log fit =
-    fit_free c (call_effect call.xid (leaving c (dialed_to c ok call.arguments None))) log fit (refl, tt) refl
-    (left_none c (wait_acts (device_acts log)))
+    fit_without_suspended c (call_effect call.xid (leaving c (connect_outcome_for c ok call.arguments None))) log fit (refl, tt) refl
+    (left_call_is_gone c (wait_acts (device_acts log)))
 
 fit_connected : (c : ℕ) (ok : Bool) (call : Option CoreCall) (log : List Act) → Fit log → Fit (acts_of c (connect_effect c ok call) ++ log)
-fit_connected c ok (Some call) log fit = rw (dialed_is c ok call.arguments) (fit_dialed c ok call (peer_by call.arguments) log fit)
-fit_connected c ok None log fit = fit_free c (connect_effect c ok None) log fit (refl, tt) refl
-    (left_none c (wait_acts (device_acts log)))
+fit_connected c ok (Some call) log fit = rw (connect_outcome_by_peer c ok call.arguments)
+    (fit_dialed c ok call (peer_named_by call.arguments) log fit)
+fit_connected c ok None log fit = fit_without_suspended c (connect_effect c ok None) log fit (refl, tt) refl
+    (left_call_is_gone c (wait_acts (device_acts log)))
 
 -- ---- a call that resumes
 
 -- A create_link that resumes isn't suspended again.
-pub no_next : (wait : Wait) (arguments : Arguments) (acts : List DeviceAct) (next : Wait × ℕ) → is_create_link arguments ≡ true
+pub create_link_resumes_once : (wait : Wait) (arguments : Arguments) (acts : List DeviceAct) (next : Wait × ℕ)
+    → is_create_link arguments ≡ true
     → next_wait wait arguments acts ≡ Some next → ⊥
-no_next Lock (CreateLink client_id lock_device lock_timeout device) acts next is e = cc
-no_next Lock _ acts next is e = cc
-no_next ForInput arguments acts next is e = cc
-no_next Response arguments acts next is e = cc
-no_next Dial arguments acts next is e = cc
+create_link_resumes_once Lock (CreateLink client_id lock_device lock_timeout device) acts next is e = cc
+create_link_resumes_once Lock _ acts next is e = cc
+create_link_resumes_once ForInput arguments acts next is e = cc
+create_link_resumes_once Response arguments acts next is e = cc
+create_link_resumes_once Dial arguments acts next is e = cc
 
 fit_continued : (config : Config) (polled c : ℕ) (wait : Wait) (call : CoreCall) (next : Option (Wait × ℕ)) (log : List Act) → Fit log
     → waits c (wait_acts (device_acts log)) ≡ Some wait → core_call_in (pending_call (of c log)) ≡ Some call
@@ -207,19 +212,19 @@ fit_continued config polled c wait call (Some next) log fit for known e =
       (
         call,
         known,
-        (λ makes. absurd (no_next wait call.arguments acts next makes e)),
+        (λ makes. absurd (create_link_resumes_once wait call.arguments acts next makes e)),
       ),
     ))
 fit_continued config polled c wait call None log fit for known e =
     let before = Waited (Left c) ∷ device_acts log in
     let what = own_call config polled c call.arguments before in
-    let done = each_done config polled c call.arguments before in
-    fit_free c (call_effect call.xid (leaving c what)) log fit
-    (each_join (IsBy c (IsCore c log)) what.adds (Waited (Left c) ∷ []) (device_acts log)
+    let done = each_act_is_of_call config polled c call.arguments before in
+    fit_without_suspended c (call_effect call.xid (leaving c what)) log fit
+    (each_join (IsActBy c (IsCore c log)) what.adds (Waited (Left c) ∷ []) (device_acts log)
     (done_by c (IsCore c log) call.arguments what.adds before (fit.held c wait for).0 done) (refl, tt))
-    (replies_role call.xid what.result (of c log))
+    (reply_keeps_role call.xid what.result (of c log))
     (ap (λ (l : List DeviceAct). waits c (wait_acts l)) (append_assoc what.adds (Waited (Left c) ∷ []) (device_acts log))
-    ∙ ap (waits c) (done_waits c call.arguments what.adds before done) ∙ left_none c (wait_acts (device_acts log)))
+    ∙ ap (waits c) (call_acts_suspend_none c call.arguments what.adds before done) ∙ left_call_is_gone c (wait_acts (device_acts log)))
 
 fit_resumed : (config : Config) (polled c : ℕ) (wait : Wait) (log : List Act) → Fit log → waits c (wait_acts (device_acts log)) ≡ Some wait
     → Fit (acts_of c (resume_effect config polled c wait (core_call_in (pending_call (of c log))) (device_acts log)) ++ log)
@@ -235,8 +240,8 @@ suits_happened [] acts all = all
 suits_happened (act ∷ adds) acts all = (tt, suits_happened adds acts all)
 
 fit_happened : (adds : List InstrumentAct) (log : List Act) → Fit log → Fit (map OnDevice (map Applied adds) ++ log)
-fit_happened adds log fit = fit_shared (map Applied adds) log fit (suits_happened adds (device_acts log) fit.suits)
-    (link_acts_happened adds (device_acts log)) (wait_acts_happened adds (device_acts log))
+fit_happened adds log fit = fit_after_device_acts (map Applied adds) log fit (suits_happened adds (device_acts log) fit.suits)
+    (link_acts_applied adds (device_acts log)) (wait_acts_applied adds (device_acts log))
 
 -- ---- a step
 
@@ -260,13 +265,13 @@ waits_free c log (Some wait) fit free is =
     let known = (fit.held c wait is).1 in
     absurd (let z : None ≡ Some known.0 = sym (ap core_call_in free) ∙ known.1 in cc)
 
-pub idle_free : (c : ℕ) (log : List Act) (bytes : List ℕ) → Fit log → next_call (of c log) ≡ Some bytes
+pub next_call_means_none_suspended : (c : ℕ) (log : List Act) (bytes : List ℕ) → Fit log → next_call (of c log) ≡ Some bytes
     → waits c (wait_acts (device_acts log)) ≡ None
-idle_free c log bytes fit next = waits_free c log _ fit (free_call (of c log) bytes next) refl
+next_call_means_none_suspended c log bytes fit next = waits_free c log _ fit (next_call_means_none_pending (of c log) bytes next) refl
 
 fit_taken : (c : ℕ) (bytes : List ℕ) (log : List Act) → Fit log → waits c (wait_acts (device_acts log)) ≡ None
     → Fit (On c (CallTaken bytes) ∷ log)
-fit_taken c bytes log fit none = fit_on_free c (CallTaken bytes) log fit refl none
+fit_taken c bytes log fit none = fit_after_act_without_suspended c (CallTaken bytes) log fit refl none
 
 -- A call that was just suspended has this wait, and names this link.
 pub entered_waits : (c : ℕ) (named : Option ℕ) (wait : Wait) (last : Option ℕ) (acts : List WaitAct)
@@ -281,28 +286,29 @@ fit_admitted : (config : Config) (polled c : ℕ) (bytes : List ℕ) (call : Cor
 fit_admitted config polled c bytes call None log fit lt none core known e =
     let taken = On c (CallTaken bytes) ∷ log in
     let what = own_call config polled c call.arguments (device_acts log) in
-    let done = each_done config polled c call.arguments (device_acts log) in
-    fit_free c (call_effect call.xid what) taken fit
+    let done = each_act_is_of_call config polled c call.arguments (device_acts log) in
+    fit_without_suspended c (call_effect call.xid what) taken fit
     (done_by c (IsCore c taken) call.arguments what.adds (device_acts log) core done)
-    (replies_role call.xid what.result (of c taken))
-    (ap (waits c) (done_waits c call.arguments what.adds (device_acts log) done) ∙ none)
+    (reply_keeps_role call.xid what.result (of c taken))
+    (ap (waits c) (call_acts_suspend_none c call.arguments what.adds (device_acts log) done) ∙ none)
 fit_admitted config polled c bytes call (Some (Fails error)) log fit lt none core known e =
     let taken = On c (CallTaken bytes) ∷ log in
-    fit_free c (call_effect call.xid (admission config polled c call.arguments (Some (Fails error)) (device_acts log))) taken fit tt refl
+    fit_without_suspended c (call_effect call.xid (admission config polled c call.arguments (Some (Fails error)) (device_acts log))) taken
+        fit tt refl
     none
 fit_admitted config polled c bytes call (Some (Awaits wait until)) log fit lt none core known e =
     let taken = On c (CallTaken bytes) ∷ log in
     fit_effect c (call_effect call.xid (admission config polled c call.arguments (Some (Awaits wait until)) (device_acts log))) taken fit
-    ((refl, lt, (λ n is. waits_own c call.arguments (device_acts log) wait until n e is)), tt) refl
+    ((refl, lt, (λ n is. suspended_names_own_link c call.arguments (device_acts log) wait until n e is)), tt) refl
     (λ other is.
     let now = entered_waits c (lid_of (link call.arguments)) wait _ (wait_acts (device_acts log)) in
-    let same : wait ≡ other = some_same wait other (sym now.0 ∙ is) in (
+    let same : wait ≡ other = some_injective wait other (sym now.0 ∙ is) in (
       core,
       (
         call,
         known,
         (λ makes.
-            let waits = creating_waits c call.arguments (device_acts log) wait until e makes in
+            let waits = suspended_create_link c call.arguments (device_acts log) wait until e makes in
             (sym same ∙ waits.0, now.1 ∙ waits.1)),
       ),
     ))
@@ -311,19 +317,19 @@ pub fit_request : (config : Config) (polled c : ℕ) (bytes : List ℕ) (request
     → next_call (of c log) ≡ Some bytes → next_request (of c log) ≡ Some request
     → Fit (acts_of c (request_effect config polled c request (device_acts log)) ++ On c (CallTaken bytes) ∷ log)
 fit_request config polled c bytes request log fit lt next asks =
-    let none = idle_free c log bytes fit next in
+    let none = next_call_means_none_suspended c log bytes fit next in
     by request (fit_taken c bytes log fit none) none asks
   where
     by : (request : Request) → Fit (On c (CallTaken bytes) ∷ log) → waits c (wait_acts (device_acts log)) ≡ None
         → next_request (of c log) ≡ Some request
         → Fit (acts_of c (request_effect config polled c request (device_acts log)) ++ On c (CallTaken bytes) ∷ log)
     by (CoreRequest call) taken none asks =
-        let known = core_taken (of c log) bytes call next asks in
-        let own = of_mine c (CallTaken bytes) log in
+        let known = core_call_is_on_core_role (of c log) bytes call next asks in
+        let own = of_own_act c (CallTaken bytes) log in
         fit_admitted config polled c bytes call (stop_of c call.arguments (device_acts log)) log taken lt none
         (ap open_role own ∙ known.0) (ap (λ (l : List ConnAct). core_call_in (pending_call l)) own ∙ known.1) refl
     by request taken none asks =
-        fit_free c (request_effect config polled c request (device_acts log)) (On c (CallTaken bytes) ∷ log) taken tt refl none
+        fit_without_suspended c (request_effect config polled c request (device_acts log)) (On c (CallTaken bytes) ∷ log) taken tt refl none
 
 fit_turn : (config : Config) (polled c : ℕ) (log : List Act) → Fit log → c < 16
     → Fit (turn_acts config polled c (next_call (of c log)) (next_request (of c log)) log ++ log)
@@ -332,15 +338,15 @@ fit_turn config polled c log fit lt = turn_keeps config Fit (fit_keeps config) p
 
 fit_refuse : (c : ℕ) (log : List Act) → Fit log → Fit (refuse_acts c (next_call (of c log)) (refusable (of c log)) ++ log)
 fit_refuse c log fit = refuse_keeps Fit c (next_call (of c log)) (refusable (of c log)) log fit (λ bytes call next can.
-    let none = idle_free c log bytes fit next in
-    fit_on_free c (Replied _) (On c (CallTaken bytes) ∷ log) (fit_taken c bytes log fit none) refl none)
+    let none = next_call_means_none_suspended c log bytes fit next in
+    fit_after_act_without_suspended c (Replied _) (On c (CallTaken bytes) ∷ log) (fit_taken c bytes log fit none) refl none)
 
 -- If an Open isn't refused, the connection isn't open yet.
-pub shut_before : (far : Bool) (role : Option Role)
+pub opened_was_shut : (far : Bool) (role : Option Role)
     → cond far (Some NoConn) (cond (is_some role) (Some ConnInUse) None) ≡ None → role ≡ None
-shut_before true role e = absurd cc
-shut_before false (Some role) e = absurd cc
-shut_before false None e = refl
+opened_was_shut true role e = absurd cc
+opened_was_shut false (Some role) e = absurd cc
+opened_was_shut false None e = refl
 
 fit_open : (c : ℕ) (role : Role) (log : List Act) → Fit log → open_role (of c log) ≡ None → Fit (On c (Opened role) ∷ log)
 fit_open c role log fit shut = record {
@@ -349,13 +355,13 @@ fit_open c role log fit shut = record {
     | inl e ↦
         let was : open_role (of c log) ≡ Some Core = fit.core n c (is ∙ ap (λ (m : ℕ). Some m) e) in
         absurd (let z : None ≡ Some Core = sym shut ∙ was in cc)
-    | inr ne ↦ rw (of_other c d (Opened role) log ne) (fit.core n d is)
+    | inr ne ↦ rw (of_other_act c d (Opened role) log ne) (fit.core n d is)
   ];
   held = λ d. elim (cases_eq d c) [
     | inl e ↦ λ wait is.
         let was = (fit.held d wait is).0 in
         absurd (let z : None ≡ Some Core = sym (ap (λ (m : ℕ). open_role (of m log)) e ∙ shut) ∙ was in cc)
-    | inr ne ↦ rw (of_other c d (Opened role) log ne) (fit.held d)
+    | inr ne ↦ rw (of_other_act c d (Opened role) log ne) (fit.held d)
   ];
 }
 
@@ -366,43 +372,45 @@ suits_links [] acts before h all = all
 suits_links (Made lid conn ∷ links) acts before h all = absurd h.0
 suits_links (_ ∷ links) acts before h all = (tt, suits_links links acts before h.1 all)
 
-abbrev pub close_adds : ℕ → List DeviceAct → List DeviceAct
-close_adds c acts = Channel (ChannelClosed c) ∷ (map Linked (closing c (link_acts acts)) ++ Waited (Left c) ∷ [])
+abbrev pub close_acts : ℕ → List DeviceAct → List DeviceAct
+close_acts c acts = Channel (ChannelClosed c) ∷ (map Linked (closing c (link_acts acts)) ++ Waited (Left c) ∷ [])
 
-pub device_closed : (c : ℕ) (log : List Act)
-    → device_acts (map OnDevice (close_adds c (device_acts log)) ++ On c PortClosed ∷ log)
+pub device_acts_of_close : (c : ℕ) (log : List Act)
+    → device_acts (map OnDevice (close_acts c (device_acts log)) ++ On c PortClosed ∷ log)
     ≡ Channel (ChannelClosed c) ∷ (map Linked (closing c (link_acts (device_acts log))) ++ Waited (Left c) ∷ device_acts log)
-device_closed c log = device_shared (close_adds c (device_acts log)) (On c PortClosed ∷ log)
+device_acts_of_close c log = device_acts_append (close_acts c (device_acts log)) (On c PortClosed ∷ log)
     ∙ ap (λ (l : List DeviceAct). Channel (ChannelClosed c) ∷ l)
     (append_assoc (map Linked (closing c (link_acts (device_acts log)))) (Waited (Left c) ∷ []) (device_acts log))
 
-pub of_closed : (c d : ℕ) (log : List Act) → d ≢ c
-    → of d (map OnDevice (close_adds c (device_acts log)) ++ On c PortClosed ∷ log) ≡ of d log
-of_closed c d log ne = of_shared d (close_adds c (device_acts log)) (On c PortClosed ∷ log) ∙ of_other c d PortClosed log ne
+pub close_leaves_others : (c d : ℕ) (log : List Act) → d ≢ c
+    → of d (map OnDevice (close_acts c (device_acts log)) ++ On c PortClosed ∷ log) ≡ of d log
+close_leaves_others c d log ne = of_device_acts d (close_acts c (device_acts log)) (On c PortClosed ∷ log)
+    ∙ of_other_act c d PortClosed log ne
 
-fit_close : (c : ℕ) (log : List Act) → Fit log → Fit (map OnDevice (close_adds c (device_acts log)) ++ On c PortClosed ∷ log)
+fit_close : (c : ℕ) (log : List Act) → Fit log → Fit (map OnDevice (close_acts c (device_acts log)) ++ On c PortClosed ∷ log)
 fit_close c log fit =
     let acts = device_acts log in
-    let new = map OnDevice (close_adds c acts) ++ On c PortClosed ∷ log in
+    let new = map OnDevice (close_acts c acts) ++ On c PortClosed ∷ log in
     let links = map Linked (closing c (link_acts acts)) in
     let calls : wait_acts (device_acts new) ≡ Left c ∷ wait_acts acts =
-    ap wait_acts (device_closed c log) ∙ wait_acts_links (closing c (link_acts acts)) (Waited (Left c) ∷ acts) in
+    ap wait_acts (device_acts_of_close c log) ∙ wait_acts_links (closing c (link_acts acts)) (Waited (Left c) ∷ acts) in
     let left : link_acts (device_acts new) ≡ closing c (link_acts acts) ++ link_acts acts =
-    ap link_acts (device_closed c log) ∙ link_acts_links (closing c (link_acts acts)) (Waited (Left c) ∷ acts) in
+    ap link_acts (device_acts_of_close c log) ∙ link_acts_links (closing c (link_acts acts)) (Waited (Left c) ∷ acts) in
     record {
-      suits = subst AllSuit (sym (device_closed c log)) (
+      suits = subst AllSuit (sym (device_acts_of_close c log)) (
         tt,
         suits_links (closing c (link_acts acts)) (Waited (Left c) ∷ acts)
-            (link_acts acts) (closed_makes_none c (link_acts acts)) (tt, fit.suits),
+            (link_acts acts) (closing_makes_no_link c (link_acts acts)) (tt, fit.suits),
       );
       core = λ n d is.
-          let was = closed_before c d n (link_acts acts) (subst (λ (l : List LinkAct). owner n l ≡ Some d) left is) in
-          ap open_role (of_closed c d log was.0) ∙ fit.core n d was.1;
-      held = λ d. subst (λ (l : List WaitAct). IsHeld d (of d new) l) (sym calls) (elim (cases_eq d c) [
-        | inl e ↦ subst (λ (n : ℕ). IsHeld n (of n new) (Left c ∷ wait_acts acts)) (sym e)
-            (held_none c (of c new) (Left c ∷ wait_acts acts) (left_none c (wait_acts acts)))
-        | inr ne ↦ held_same d (of d log) (of d new) (wait_acts acts) (Left c ∷ wait_acts acts) (of_closed c d log ne)
-            (call_foreign d (Left c) (wait_acts acts) (wait_acts acts) (λ e. ne (sym e))
+          let was = owner_after_close_was_owner c d n (link_acts acts) (subst (λ (l : List LinkAct). owner n l ≡ Some d) left is) in
+          ap open_role (close_leaves_others c d log was.0) ∙ fit.core n d was.1;
+      held = λ d. subst (λ (l : List WaitAct). SuspendedIsOnCore d (of d new) l) (sym calls) (elim (cases_eq d c) [
+        | inl e ↦ subst (λ (n : ℕ). SuspendedIsOnCore n (of n new) (Left c ∷ wait_acts acts)) (sym e)
+            (none_suspended_is_on_core c (of c new) (Left c ∷ wait_acts acts) (left_call_is_gone c (wait_acts acts)))
+        | inr ne ↦ same_call_stays_on_core d (of d log) (of d new) (wait_acts acts) (Left c ∷ wait_acts acts)
+            (close_leaves_others c d log ne)
+            (foreign_act_keeps_call d (Left c) (wait_acts acts) (wait_acts acts) (λ e. ne (sym e))
             (record { wait = refl; until = refl; named = refl })) (fit.held d)
       ]);
     }
@@ -410,25 +418,25 @@ fit_close c log fit =
 pub fit_event : (config : Config) (event : PlainEvent) (polled : ℕ) (channel_log : List ChannelAct) (log : List Act)
     → refusal config channel_log event log ≡ None → Fit log → Fit (own_acts config polled event log ++ log)
 fit_event config (Open c role) polled channel_log log free fit =
-    fit_open c role log fit (shut_before (nat_lt 15 c) (open_role (of c log)) free)
-fit_event config (Bytes c piece) polled channel_log log free fit = fit_on c (Piece piece) log fit refl (fit.held c)
+    fit_open c role log fit (opened_was_shut (nat_lt 15 c) (open_role (of c log)) free)
+fit_event config (Bytes c piece) polled channel_log log free fit = fit_after_act c (Piece piece) log fit refl (fit.held c)
 fit_event config (Turn c) polled channel_log log free fit =
-    fit_turn config polled c log fit (within c log _ free)
+    fit_turn config polled c log fit (unrefused_below_16 c log _ free)
 fit_event config (Refuse c) polled channel_log log free fit = fit_refuse c log fit
-fit_event config (Took (Conn c) count) polled channel_log log free fit = fit_on c (BytesTaken count) log fit refl (fit.held c)
+fit_event config (Took (Conn c) count) polled channel_log log free fit = fit_after_act c (BytesTaken count) log fit refl (fit.held c)
 fit_event config (Took (Intr c) count) polled channel_log log free fit =
-    fit_shared (Channel (ChannelTaken c count) ∷ []) log fit (tt, fit.suits) refl refl
+    fit_after_device_acts (Channel (ChannelTaken c count) ∷ []) log fit (tt, fit.suits) refl refl
 fit_event config (Close (Conn c)) polled channel_log log free fit =
-    subst Fit (sym (append_assoc (map OnDevice (close_adds c (device_acts log))) (On c PortClosed ∷ []) log)) (fit_close c log fit)
+    subst Fit (sym (append_assoc (map OnDevice (close_acts c (device_acts log))) (On c PortClosed ∷ []) log)) (fit_close c log fit)
 fit_event config (Close (Intr c)) polled channel_log log free fit =
-    fit_shared (Channel (ChannelClosed c) ∷ []) log fit (tt, fit.suits) refl refl
+    fit_after_device_acts (Channel (ChannelClosed c) ∷ []) log fit (tt, fit.suits) refl refl
 fit_event config (Dialed c ok) polled channel_log log free fit = fit_connected c ok (core_call_in (pending_call (of c log))) log fit
 fit_event config (Input channel microvolts) polled channel_log log free fit = fit_happened (_ ∷ []) log fit
 fit_event config External polled channel_log log free fit = fit_happened (external_acts (instrument_acts (device_acts log))) log fit
 fit_event config Tick polled channel_log log free fit =
     subst Fit (sym (append_assoc (map OnDevice (map Applied (tick_acts (instrument_acts (device_acts log))))) (OnDevice Ticked ∷ []) log))
     (fit_happened (tick_acts (instrument_acts (device_acts log))) (OnDevice Ticked ∷ log)
-    (fit_shared (Ticked ∷ []) log fit (tt, fit.suits) refl refl))
+    (fit_after_device_acts (Ticked ∷ []) log fit (tt, fit.suits) refl refl))
 
 pub fit_none : Fit []
 fit_none = record {
@@ -440,5 +448,5 @@ fit_none = record {
 -- Each log of a history is `Fit`.
 pub fit_log : (config : Config) (history : List PlainEvent) (log : List Act) → IsLogOf config history log → Fit log
 fit_log config =
-    each_log config Fit fit_none (λ event polled channel_log log is free. fit_event config event polled channel_log log free)
+    induction_over_history config Fit fit_none (λ event polled channel_log log is free. fit_event config event polled channel_log log free)
     (fit_step config)

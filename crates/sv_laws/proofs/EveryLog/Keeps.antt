@@ -11,13 +11,13 @@ use Rattle.sv_links.specs.declared.waiting.Wait.TheVariants.{Lock}
 use Rattle.sv_links.specs.Links.{LinkAct, Made, Destroyed, Locked, Unlocked, links_made, live, owner, is_locked, holder, is_this, is_locked_out}
 use Rattle.sv_links.specs.Table.{IsKept}
 use Rattle.sv_links.specs.Waiting.{Entered, Again, Left, waits, link, IsOldest}
-use Rattle.sv_links.proofs.Locks.{holder_is, lock_free, lock_again, freed, lock_destroyed}
+use Rattle.sv_links.proofs.Locks.{holder_is, lock_taken_when_free, lock_taken_again, holder_after_destroying, lock_destroyed}
 use Rattle.sv_history.specs.Act.{DeviceAct, Linked, Waited, link_acts, wait_acts}
 use Rattle.sv_laws.specs.LockFair.{WaitsForLock}
-use Rattle.sv_laws.proofs.Facts.{some_same, some_none, not_both}
+use Rattle.sv_laws.proofs.Facts.{some_injective, none_is_not_some, true_is_not_false}
 use Rattle.sv_laws.proofs.LinksAlike.{owner_made, owner_destroyed_other}
 use Rattle.sv_laws.proofs.EveryLog.Fit.{AllSuit}
-use Rattle.sv_laws.proofs.EveryLog.Known.{rises, mapped}
+use Rattle.sv_laws.proofs.EveryLog.Known.{link_numbers_rise, mapped_was_some}
 
 -- No suspended call names this link.
 abbrev pub NamesNone : ℕ → List DeviceAct → Type 0
@@ -55,57 +55,57 @@ abbrev pub AllKeep : List DeviceAct → Type 0
 AllKeep [] = ⊤
 AllKeep (act ∷ acts) = Keeps acts act × AllKeep acts
 
-pub keep_more : (adds acts : List DeviceAct) → Each Keeps adds acts → AllKeep acts → AllKeep (adds ++ acts)
-keep_more [] acts h all = all
-keep_more (act ∷ adds) acts h all = (h.0, keep_more adds acts h.1 all)
+pub keep_append : (adds acts : List DeviceAct) → Each Keeps adds acts → AllKeep acts → AllKeep (adds ++ acts)
+keep_append [] acts h all = all
+keep_append (act ∷ adds) acts h all = (h.0, keep_append adds acts h.1 all)
 
-pub keep_before : (newer older : List DeviceAct) → AllKeep (newer ++ older) → AllKeep older
-keep_before [] older all = all
-keep_before (act ∷ newer) older all = keep_before newer older all.1
+pub keep_suffix : (newer older : List DeviceAct) → AllKeep (newer ++ older) → AllKeep older
+keep_suffix [] older all = all
+keep_suffix (act ∷ newer) older all = keep_suffix newer older all.1
 
 -- ---- at most one link is locked, and it is the holder
 
 -- This link is the only locked one; `None`: no link is locked.
-abbrev HeldBy : List LinkAct → Option ℕ → Type 0
-HeldBy acts o = (n : ℕ) → is_locked n acts ≡ is_this n o
+abbrev IsOnlyLocked : List LinkAct → Option ℕ → Type 0
+IsOnlyLocked acts o = (n : ℕ) → is_locked n acts ≡ is_this n o
 
 kept_all : (links : List Link) → IsKept (map (λ (x : Link). Some x) links) links
 kept_all [] = refl
 kept_all (x ∷ links) = ([], links, refl, kept_all links)
 
-holder_by : (acts : List DeviceAct) → AllSuit acts → (o : Option ℕ) → HeldBy (link_acts acts) o → holder (link_acts acts) ≡ o
+holder_by : (acts : List DeviceAct) → AllSuit acts → (o : Option ℕ) → IsOnlyLocked (link_acts acts) o → holder (link_acts acts) ≡ o
 holder_by acts all o held = holder_is
     (record { made = links_made (link_acts acts); slots = map (λ (x : Link). Some x) (live (link_acts acts)); holder = o; spare = 0 })
     (link_acts acts)
-    (record { made = refl; kept = kept_all (live (link_acts acts)); rising = rises acts all; lock = held })
+    (record { made = refl; kept = kept_all (live (link_acts acts)); rising = link_numbers_rise acts all; lock = held })
 
 -- If no other link is locked, a link that gets the lock is then the only locked one.
-locked_by : (lid : ℕ) (acts : List LinkAct) (o : Option ℕ) → HeldBy acts o → (o ≡ Some lid) ⊎ (o ≡ None)
-    → HeldBy (Locked lid ∷ acts) (Some lid)
+locked_by : (lid : ℕ) (acts : List LinkAct) (o : Option ℕ) → IsOnlyLocked acts o → (o ≡ Some lid) ⊎ (o ≡ None)
+    → IsOnlyLocked (Locked lid ∷ acts) (Some lid)
 locked_by lid acts o held (inl same) =
-    lock_again lid acts (λ n. held n ∙ ap (is_this n) same)
-locked_by lid acts o held (inr none) = lock_free lid acts (λ n. held n ∙ ap (is_this n) none)
+    lock_taken_again lid acts (λ n. held n ∙ ap (is_this n) same)
+locked_by lid acts o held (inr none) = lock_taken_when_free lid acts (λ n. held n ∙ ap (is_this n) none)
 
 may_by : (lid : ℕ) (acts : List DeviceAct) (o : Option ℕ) → holder (link_acts acts) ≡ o → MayTake lid acts → (o ≡ Some lid) ⊎ (o ≡ None)
 may_by lid acts o is (inl same) = inl (sym is ∙ same)
 may_by lid acts o is (inr (none, more)) = inr (sym is ∙ none)
 
-held_by : (acts : List DeviceAct) → AllSuit acts → AllKeep acts → (o : Option ℕ) × HeldBy (link_acts acts) o
-held_by [] all keep = (None, λ n. refl)
-held_by (Linked (Made lid conn) ∷ acts) all keep = held_by acts all.1 keep.1
-held_by (Linked (Destroyed lid) ∷ acts) all keep =
-    let was = held_by acts all.1 keep.1 in (freed lid was.0, lock_destroyed lid was.0 (link_acts acts) was.1)
-held_by (Linked (Unlocked lid) ∷ acts) all keep =
-    let was = held_by acts all.1 keep.1 in (freed lid was.0, lock_destroyed lid was.0 (link_acts acts) was.1)
-held_by (Linked (Locked lid) ∷ acts) all keep =
-    let was = held_by acts all.1 keep.1 in
+exists_only_locked : (acts : List DeviceAct) → AllSuit acts → AllKeep acts → (o : Option ℕ) × IsOnlyLocked (link_acts acts) o
+exists_only_locked [] all keep = (None, λ n. refl)
+exists_only_locked (Linked (Made lid conn) ∷ acts) all keep = exists_only_locked acts all.1 keep.1
+exists_only_locked (Linked (Destroyed lid) ∷ acts) all keep =
+    let was = exists_only_locked acts all.1 keep.1 in (holder_after_destroying lid was.0, lock_destroyed lid was.0 (link_acts acts) was.1)
+exists_only_locked (Linked (Unlocked lid) ∷ acts) all keep =
+    let was = exists_only_locked acts all.1 keep.1 in (holder_after_destroying lid was.0, lock_destroyed lid was.0 (link_acts acts) was.1)
+exists_only_locked (Linked (Locked lid) ∷ acts) all keep =
+    let was = exists_only_locked acts all.1 keep.1 in
     (Some lid, locked_by lid (link_acts acts) was.0 was.1 (may_by lid acts was.0 (holder_by acts all.1 was.0 was.1) keep.0.1))
-held_by (_ ∷ acts) all keep = held_by acts all.1 keep.1
+exists_only_locked (_ ∷ acts) all keep = exists_only_locked acts all.1 keep.1
 
-pub held_is : (acts : List DeviceAct) → AllSuit acts → AllKeep acts → HeldBy (link_acts acts) (holder (link_acts acts))
-held_is acts all keep =
-    let by = held_by acts all keep in
-    subst (HeldBy (link_acts acts)) (sym (holder_by acts all by.0 by.1)) by.1
+pub only_holder_is_locked : (acts : List DeviceAct) → AllSuit acts → AllKeep acts → IsOnlyLocked (link_acts acts) (holder (link_acts acts))
+only_holder_is_locked acts all keep =
+    let by = exists_only_locked acts all keep in
+    subst (IsOnlyLocked (link_acts acts)) (sym (holder_by acts all by.0 by.1)) by.1
 
 -- ---- the holder is a live link
 
@@ -116,54 +116,54 @@ or_by false b e = inr e
 not_by : (a b : ℕ) → not (eqb a b) ≡ true → a ≢ b
 not_by a b e same = absurd (let z : not true ≡ true = rw (eq-eqb a b same) at e in cc)
 
-locked_lives : (acts : List DeviceAct) → AllKeep acts → (n : ℕ) → is_locked n (link_acts acts) ≡ true
+locked_link_is_live : (acts : List DeviceAct) → AllKeep acts → (n : ℕ) → is_locked n (link_acts acts) ≡ true
     → (d : ℕ) × (owner n (link_acts acts) ≡ Some d)
-locked_lives [] keep n e = absurd cc
-locked_lives (Linked (Made lid conn) ∷ acts) keep n e =
-    let was = locked_lives acts keep.1 n e in (was.0, owner_made n was.0 lid conn (link_acts acts) was.1)
-locked_lives (Linked (Destroyed lid) ∷ acts) keep n e =
+locked_link_is_live [] keep n e = absurd cc
+locked_link_is_live (Linked (Made lid conn) ∷ acts) keep n e =
+    let was = locked_link_is_live acts keep.1 n e in (was.0, owner_made n was.0 lid conn (link_acts acts) was.1)
+locked_link_is_live (Linked (Destroyed lid) ∷ acts) keep n e =
     let both = (both_true (not (eqb lid n)) (is_locked n (link_acts acts))).0 e in
-    let was = locked_lives acts keep.1 n both.1 in
+    let was = locked_link_is_live acts keep.1 n both.1 in
     (was.0, owner_destroyed_other n lid (link_acts acts) (not_by lid n both.0) ∙ was.1)
-locked_lives (Linked (Unlocked lid) ∷ acts) keep n e =
-    locked_lives acts keep.1 n ((both_true (not (eqb lid n)) (is_locked n (link_acts acts))).0 e).1
-locked_lives (Linked (Locked lid) ∷ acts) keep n e = elim (or_by (eqb lid n) (is_locked n (link_acts acts)) e) [
+locked_link_is_live (Linked (Unlocked lid) ∷ acts) keep n e =
+    locked_link_is_live acts keep.1 n ((both_true (not (eqb lid n)) (is_locked n (link_acts acts))).0 e).1
+locked_link_is_live (Linked (Locked lid) ∷ acts) keep n e = elim (or_by (eqb lid n) (is_locked n (link_acts acts)) e) [
   | inl same ↦ (keep.0.0.0, ap (λ (m : ℕ). owner m (link_acts acts)) (sym (eqb-true lid n same)) ∙ keep.0.0.1)
-  | inr more ↦ locked_lives acts keep.1 n more
+  | inr more ↦ locked_link_is_live acts keep.1 n more
 ]
-locked_lives (_ ∷ acts) keep n e = locked_lives acts keep.1 n e
+locked_link_is_live (_ ∷ acts) keep n e = locked_link_is_live acts keep.1 n e
 
-pub holder_lives : (acts : List DeviceAct) → AllSuit acts → AllKeep acts → (n : ℕ) → holder (link_acts acts) ≡ Some n
+pub holder_is_live : (acts : List DeviceAct) → AllSuit acts → AllKeep acts → (n : ℕ) → holder (link_acts acts) ≡ Some n
     → (d : ℕ) × (owner n (link_acts acts) ≡ Some d)
-holder_lives acts all keep n is =
-    locked_lives acts keep n (held_is acts all keep n ∙ ap (is_this n) is ∙ eq-eqb n n refl)
+holder_is_live acts all keep n is =
+    locked_link_is_live acts keep n (only_holder_is_locked acts all keep n ∙ ap (is_this n) is ∙ eq-eqb n n refl)
 
 -- ---- the link that a suspended call names is a live link of its connection
 
-pub named_lives : (acts : List DeviceAct) → AllSuit acts → AllKeep acts → (d : ℕ) (wait : Wait) (n : ℕ)
+pub named_link_is_live : (acts : List DeviceAct) → AllSuit acts → AllKeep acts → (d : ℕ) (wait : Wait) (n : ℕ)
     → waits d (wait_acts acts) ≡ Some wait → link d (wait_acts acts) ≡ Some n → owner n (link_acts acts) ≡ Some d
-named_lives [] all keep d wait n w h = absurd cc
-named_lives (Linked (Made lid conn) ∷ acts) all keep d wait n w h =
-    owner_made n d lid conn (link_acts acts) (named_lives acts all.1 keep.1 d wait n w h)
-named_lives (Linked (Destroyed lid) ∷ acts) all keep d wait n w h = elim (cases_eq lid n) [
+named_link_is_live [] all keep d wait n w h = absurd cc
+named_link_is_live (Linked (Made lid conn) ∷ acts) all keep d wait n w h =
+    owner_made n d lid conn (link_acts acts) (named_link_is_live acts all.1 keep.1 d wait n w h)
+named_link_is_live (Linked (Destroyed lid) ∷ acts) all keep d wait n w h = elim (cases_eq lid n) [
   | inl e ↦ absurd (keep.0 d wait w (h ∙ ap (λ (m : ℕ). Some m) (sym e)))
-  | inr ne ↦ owner_destroyed_other n lid (link_acts acts) ne ∙ named_lives acts all.1 keep.1 d wait n w h
+  | inr ne ↦ owner_destroyed_other n lid (link_acts acts) ne ∙ named_link_is_live acts all.1 keep.1 d wait n w h
 ]
-named_lives (Waited (Entered conn named for last) ∷ acts) all keep d wait n w h = elim (cases_Bool (eqb conn d)) [
+named_link_is_live (Waited (Entered conn named for last) ∷ acts) all keep d wait n w h = elim (cases_Bool (eqb conn d)) [
   | inl e ↦ all.0.1 n (rw e at h) ∙ ap (λ (m : ℕ). Some m) (eqb-true conn d e)
-  | inr e ↦ named_lives acts all.1 keep.1 d wait n (rw e at w) (rw e at h)
+  | inr e ↦ named_link_is_live acts all.1 keep.1 d wait n (rw e at w) (rw e at h)
 ]
-named_lives (Waited (Again conn for last) ∷ acts) all keep d wait n w h = elim (cases_Bool (eqb conn d)) [
+named_link_is_live (Waited (Again conn for last) ∷ acts) all keep d wait n w h = elim (cases_Bool (eqb conn d)) [
   | inl e ↦
-      let was = mapped for wait (waits d (wait_acts acts)) (rw e at w) in
-      named_lives acts all.1 keep.1 d was.0 n was.1 h
-  | inr e ↦ named_lives acts all.1 keep.1 d wait n (rw e at w) h
+      let was = mapped_was_some for wait (waits d (wait_acts acts)) (rw e at w) in
+      named_link_is_live acts all.1 keep.1 d was.0 n was.1 h
+  | inr e ↦ named_link_is_live acts all.1 keep.1 d wait n (rw e at w) h
 ]
-named_lives (Waited (Left conn) ∷ acts) all keep d wait n w h = elim (cases_Bool (eqb conn d)) [
+named_link_is_live (Waited (Left conn) ∷ acts) all keep d wait n w h = elim (cases_Bool (eqb conn d)) [
   | inl e ↦ absurd (let z : None ≡ Some wait = rw e at w in cc)
-  | inr e ↦ named_lives acts all.1 keep.1 d wait n (rw e at w) h
+  | inr e ↦ named_link_is_live acts all.1 keep.1 d wait n (rw e at w) h
 ]
-named_lives (_ ∷ acts) all keep d wait n w h = named_lives acts all.1 keep.1 d wait n w h
+named_link_is_live (_ ∷ acts) all keep d wait n w h = named_link_is_live acts all.1 keep.1 d wait n w h
 
 -- ---- a call that waits for the lock doesn't name a locked link
 
@@ -179,46 +179,49 @@ out_by n (Some h) e = elim (cases_eq h n) [
 out_by n None e = absurd cc
 
 mapped_lock : (for : Wait) (found : Option Wait) → for ≢ Lock → option_map (λ (before : Wait). for) found ≡ Some Lock → ⊥
-mapped_lock for (Some was) ne e = ne (some_same for Lock e)
+mapped_lock for (Some was) ne e = ne (some_injective for Lock e)
 mapped_lock for None ne e = cc
 
-locked_out : (acts : List DeviceAct) → AllSuit acts → AllKeep acts → (d n : ℕ) → WaitsForLock acts d → link d (wait_acts acts) ≡ Some n
+waiting_names_no_locked : (acts : List DeviceAct) → AllSuit acts → AllKeep acts → (d n : ℕ) → WaitsForLock acts d
+    → link d (wait_acts acts) ≡ Some n
     → is_locked n (link_acts acts) ≡ false
-locked_out [] all keep d n w h = absurd cc
-locked_out (Linked (Made lid conn) ∷ acts) all keep d n w h = locked_out acts all.1 keep.1 d n w h
-locked_out (Linked (Destroyed lid) ∷ acts) all keep d n w h = and_off (not (eqb lid n)) _ (locked_out acts all.1 keep.1 d n w h)
-locked_out (Linked (Unlocked lid) ∷ acts) all keep d n w h = and_off (not (eqb lid n)) _ (locked_out acts all.1 keep.1 d n w h)
-locked_out (Linked (Locked lid) ∷ acts) all keep d n w h =
-    let owns = named_lives acts all.1 keep.1 d Lock n w h in
+waiting_names_no_locked [] all keep d n w h = absurd cc
+waiting_names_no_locked (Linked (Made lid conn) ∷ acts) all keep d n w h = waiting_names_no_locked acts all.1 keep.1 d n w h
+waiting_names_no_locked (Linked (Destroyed lid) ∷ acts) all keep d n w h =
+    and_off (not (eqb lid n)) _ (waiting_names_no_locked acts all.1 keep.1 d n w h)
+waiting_names_no_locked (Linked (Unlocked lid) ∷ acts) all keep d n w h =
+    and_off (not (eqb lid n)) _ (waiting_names_no_locked acts all.1 keep.1 d n w h)
+waiting_names_no_locked (Linked (Locked lid) ∷ acts) all keep d n w h =
+    let owns = named_link_is_live acts all.1 keep.1 d Lock n w h in
     let ne : lid ≢ n = λ e.
-    let same : keep.0.0.0 ≡ d = some_same keep.0.0.0 d (sym keep.0.0.1 ∙ ap (λ (m : ℕ). owner m (link_acts acts)) e ∙ owns) in
-    some_none _ Lock keep.0.0.2 (ap (λ (m : ℕ). waits m (wait_acts acts)) same ∙ w) in
-    rw (ne_eqb lid n ne) (locked_out acts all.1 keep.1 d n w h)
-locked_out (Waited (Entered conn named for last) ∷ acts) all keep d n w h = elim (cases_Bool (eqb conn d)) [
+    let same : keep.0.0.0 ≡ d = some_injective keep.0.0.0 d (sym keep.0.0.1 ∙ ap (λ (m : ℕ). owner m (link_acts acts)) e ∙ owns) in
+    none_is_not_some _ Lock keep.0.0.2 (ap (λ (m : ℕ). waits m (wait_acts acts)) same ∙ w) in
+    rw (ne_eqb lid n ne) (waiting_names_no_locked acts all.1 keep.1 d n w h)
+waiting_names_no_locked (Waited (Entered conn named for last) ∷ acts) all keep d n w h = elim (cases_Bool (eqb conn d)) [
   | inl e ↦
-      let is : for ≡ Lock = some_same for Lock (rw e at w) in
+      let is : for ≡ Lock = some_injective for Lock (rw e at w) in
       let same : named ≡ Some n = rw e at h in
-      held_is acts all.1 keep.1 n
+      only_holder_is_locked acts all.1 keep.1 n
       ∙ out_by n (holder (link_acts acts)) (ap (is_locked_out (holder (link_acts acts))) (sym same) ∙ keep.0 is)
-  | inr e ↦ locked_out acts all.1 keep.1 d n (rw e at w) (rw e at h)
+  | inr e ↦ waiting_names_no_locked acts all.1 keep.1 d n (rw e at w) (rw e at h)
 ]
-locked_out (Waited (Again conn for last) ∷ acts) all keep d n w h = elim (cases_Bool (eqb conn d)) [
+waiting_names_no_locked (Waited (Again conn for last) ∷ acts) all keep d n w h = elim (cases_Bool (eqb conn d)) [
   | inl e ↦ absurd (mapped_lock for (waits d (wait_acts acts)) keep.0.0 (rw e at w))
-  | inr e ↦ locked_out acts all.1 keep.1 d n (rw e at w) h
+  | inr e ↦ waiting_names_no_locked acts all.1 keep.1 d n (rw e at w) h
 ]
-locked_out (Waited (Left conn) ∷ acts) all keep d n w h = elim (cases_Bool (eqb conn d)) [
+waiting_names_no_locked (Waited (Left conn) ∷ acts) all keep d n w h = elim (cases_Bool (eqb conn d)) [
   | inl e ↦ absurd (let z : None ≡ Some Lock = rw e at w in cc)
-  | inr e ↦ locked_out acts all.1 keep.1 d n (rw e at w) h
+  | inr e ↦ waiting_names_no_locked acts all.1 keep.1 d n (rw e at w) h
 ]
-locked_out (_ ∷ acts) all keep d n w h = locked_out acts all.1 keep.1 d n w h
+waiting_names_no_locked (_ ∷ acts) all keep d n w h = waiting_names_no_locked acts all.1 keep.1 d n w h
 
 -- While a link holds the lock, a call that isn't locked out names this link.
-pub out_or_this : (h : ℕ) (named : Option ℕ) → is_locked_out (Some h) named ≡ false → named ≡ Some h
-out_or_this h (Some n) e = elim (cases_eq n h) [
+pub not_locked_out_names_holder : (h : ℕ) (named : Option ℕ) → is_locked_out (Some h) named ≡ false → named ≡ Some h
+not_locked_out_names_holder h (Some n) e = elim (cases_eq n h) [
   | inl same ↦ ap (λ (m : ℕ). Some m) same
   | inr ne ↦ absurd (let z : not false ≡ false = rw (ne_eqb n h ne) at e in cc)
 ]
-out_or_this h None e = absurd cc
+not_locked_out_names_holder h None e = absurd cc
 
 pub lock_is_free : (acts : List DeviceAct) → AllSuit acts → AllKeep acts → (d : ℕ) → WaitsForLock acts d
     → is_locked_out (holder (link_acts acts)) (link d (wait_acts acts)) ≡ false → holder (link_acts acts) ≡ None
@@ -227,6 +230,6 @@ lock_is_free acts all keep d w e = by (holder (link_acts acts)) refl e
     by : (o : Option ℕ) → holder (link_acts acts) ≡ o → is_locked_out o (link d (wait_acts acts)) ≡ false → holder (link_acts acts) ≡ None
     by None is e = is
     by (Some h) is e =
-        let named = out_or_this h (link d (wait_acts acts)) e in
-        not_both (is_locked h (link_acts acts)) (held_is acts all keep h ∙ ap (is_this h) is ∙ eq-eqb h h refl)
-        (locked_out acts all keep d h w named)
+        let named = not_locked_out_names_holder h (link d (wait_acts acts)) e in
+        true_is_not_false (is_locked h (link_acts acts)) (only_holder_is_locked acts all keep h ∙ ap (is_this h) is ∙ eq-eqb h h refl)
+        (waiting_names_no_locked acts all keep d h w named)

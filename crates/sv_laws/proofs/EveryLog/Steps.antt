@@ -32,25 +32,25 @@ settles_extends (suc n) config log new (middle, next, more) =
 
 -- ---- after the last step none is due
 
-nothing_due : (n : ℕ) (config : Config) (log new : List Act) → SettlesIn n config log new → IsSettled config new
-nothing_due zero config log new (none, same) = subst (λ (end : List Act). IsSettled config end) (sym same) none
-nothing_due (suc n) config log new (middle, next, more) = nothing_due n config middle new more
+settling_ends_settled : (n : ℕ) (config : Config) (log new : List Act) → SettlesIn n config log new → IsSettled config new
+settling_ends_settled zero config log new (none, same) = subst (λ (end : List Act). IsSettled config end) (sym same) none
+settling_ends_settled (suc n) config log new (middle, next, more) = settling_ends_settled n config middle new more
 
-none_due : (config : Config) → IsSettled config []
-none_due config new (inl fires) = absurd (let none = fires.1.0 in cc)
-none_due config new (inr (none, inl goes)) = absurd (let z : None ≡ Some goes.1 = goes.4 in cc)
-none_due config new (inr (none, inr (still, inl step))) = step.1
-none_due config new (inr (none, inr (still, inr (idle, gives)))) = absurd (let z : None ≡ Some gives.1 = gives.3 in cc)
+empty_log_is_settled : (config : Config) → IsSettled config []
+empty_log_is_settled config new (inl fires) = absurd (let none = fires.1.0 in cc)
+empty_log_is_settled config new (inr (none, inl goes)) = absurd (let z : None ≡ Some goes.1 = goes.4 in cc)
+empty_log_is_settled config new (inr (none, inr (still, inl step))) = step.1
+empty_log_is_settled config new (inr (none, inr (still, inr (idle, gives)))) = absurd (let z : None ≡ Some gives.1 = gives.3 in cc)
 
 pub log_settled : (config : Config) (history : List PlainEvent) (log : List Act) → IsLogOf config history log → IsSettled config log
-log_settled config [] log (given, none) = subst (λ (end : List Act). IsSettled config end) (sym none) (none_due config)
+log_settled config [] log (given, none) = subst (λ (end : List Act). IsSettled config end) (sym none) (empty_log_is_settled config)
 log_settled config (event ∷ history) log (before, polled, channel_log, is_event, was, hears, free, said, settles) =
-    nothing_due settles.0 config _ log settles.1
+    settling_ends_settled settles.0 config _ log settles.1
 
 -- If no step is due, the log stays as it is.
-pub stays : (n : ℕ) (config : Config) (log new : List Act) → IsSettled config log → SettlesIn n config log new → new ≡ log
-stays zero config log new none (still, same) = same
-stays (suc n) config log new none (middle, next, more) = absurd (none middle next)
+pub settled_log_stays : (n : ℕ) (config : Config) (log new : List Act) → IsSettled config log → SettlesIn n config log new → new ≡ log
+settled_log_stays zero config log new none (still, same) = same
+settled_log_stays (suc n) config log new none (middle, next, more) = absurd (none middle next)
 
 -- ---- if no step is due, no step of any kind is possible
 
@@ -60,8 +60,8 @@ pub record Rested (config : Config) (log : List Act) : Type 0 where
   pub steps : (new : List Act) → InstrumentDoes IsStep log new → ⊥
   pub times : (new : List Act) → TimesOut config log new → ⊥
 
-pub rested : (config : Config) (log : List Act) → IsSettled config log → Rested config log
-rested config log none =
+pub settled_is_rested : (config : Config) (log : List Act) → IsSettled config log → Rested config log
+settled_is_rested config log none =
     let fires : (new : List Act) → InstrumentDoes IsFired log new → ⊥ = λ new does. none new (inl does) in
     let resumes : (new : List Act) → Resumes config log new → ⊥ = λ new does. none new (inr (fires, inl does)) in
     let steps : (new : List Act) → InstrumentDoes IsStep log new → ⊥ = λ new does. none new (inr (fires, inr (resumes, inl does))) in

@@ -24,9 +24,9 @@ use Rattle.sv_history.specs.Settling.{InstrumentDoes, CanResume, Resumes, IsNext
 use Rattle.sv_history.proofs.Projections.{device_effect}
 use Rattle.sv_laws.proofs.EveryLog.Fit.{Fit}
 use Rattle.sv_laws.proofs.EveryLog.EachEvent.{fit_step}
-use Rattle.sv_laws.proofs.EveryLog.Known.{waits_within, not_able}
-use Rattle.sv_laws.proofs.Isolation.Alike.{View, Pair, IsLeaving, pair_left, mine_also}
-use Rattle.sv_laws.proofs.EveryLog.Due.{count, left_fewer, oldest_due}
+use Rattle.sv_laws.proofs.EveryLog.Known.{suspended_below_16, others_blocked_by_lock}
+use Rattle.sv_laws.proofs.Isolation.Alike.{View, Pair, IsLeaving, leaving_acts_keep_pair, owner_in_other_log}
+use Rattle.sv_laws.proofs.EveryLog.Due.{suspended_below, leaving_lowers_count, oldest_expired_exists}
 use Rattle.sv_laws.proofs.EveryLog.Steps.{Reaches, reaches_none, reaches_next, reaches_then}
 
 -- ---- which steps are possible in both logs
@@ -36,31 +36,32 @@ abbrev pub NothingElse : Config → List Act → Type 0
 NothingElse config log = ((new : List Act) → InstrumentDoes IsFired log new → ⊥) × ((new : List Act) → Resumes config log new → ⊥)
     × ((new : List Act) → InstrumentDoes IsStep log new → ⊥)
 
-pub does_to : (IsSuch : List InstrumentAct → List InstrumentAct → Type 0) (log other new : List Act)
+pub same_instrument_same_step : (IsSuch : List InstrumentAct → List InstrumentAct → Type 0) (log other new : List Act)
     → instrument_acts (device_acts log) ≡ instrument_acts (device_acts other) → InstrumentDoes IsSuch log new
     → (there : List Act) × InstrumentDoes IsSuch other there
-does_to IsSuch log other new same (adds, such, is) = (
+same_instrument_same_step IsSuch log other new same (adds, such, is) = (
   map OnDevice (map Applied adds) ++ other,
   (adds, subst (λ (l : List InstrumentAct). IsSuch l (adds ++ l)) same such, refl),
 )
 
-pub able_to : (c lid : ℕ) (acts other : List DeviceAct) → View c lid acts other → CanResume acts c → CanResume other c
-able_to c lid acts other view able =
+pub own_call_can_resume_too : (c lid : ℕ) (acts other : List DeviceAct) → View c lid acts other → CanResume acts c → CanResume other c
+own_call_can_resume_too c lid acts other view able =
     rw (view.also, ← view.instrument, ← view.call.named, ← view.call.wait) (rw view.held at able)
 
 pub able_back : (c lid : ℕ) (acts other : List DeviceAct) → View c lid acts other → CanResume other c → CanResume acts c
 able_back c lid acts other view able =
     rw (view.held, view.instrument, view.call.named, view.call.wait) (rw view.also at able)
 
-pub polled_to : (polled : ℕ) (acts other : List DeviceAct) → instrument_acts acts ≡ instrument_acts other → IsPolled polled acts
+pub same_instrument_same_poll : (polled : ℕ) (acts other : List DeviceAct) → instrument_acts acts ≡ instrument_acts other
+    → IsPolled polled acts
     → IsPolled polled other
-polled_to polled acts other same said =
+same_instrument_same_poll polled acts other same said =
     subst (λ (l : List InstrumentAct). (k : ℕ) → (bit_at polled k ≡ 1) ↔ PolledBit k l) same said
 
 -- If no call of another connection can resume, the connection's own call is the oldest that can.
-pub only_own : (c : ℕ) (acts : List DeviceAct) → ((d : ℕ) → d ≢ c → CanResume acts d → ⊥) → CanResume acts c
+pub own_call_is_oldest : (c : ℕ) (acts : List DeviceAct) → ((d : ℕ) → d ≢ c → CanResume acts d → ⊥) → CanResume acts c
     → IsOldest (wait_acts acts) (CanResume acts) (Some c)
-only_own c acts none able = (
+own_call_is_oldest c acts none able = (
   able,
   (λ d such. elim (cases_eq d c) [
     | inl same ↦ subst (λ (n : ℕ). arrival c (wait_acts acts) ≤ arrival n (wait_acts acts)) (sym same) (omega arith)
@@ -80,48 +81,51 @@ resumes_as config c log other new none also able wait instrument (d, for, polled
       c,
       for,
       polled,
-      only_own c (device_acts other) also (able (subst (λ (n : ℕ). CanResume (device_acts log) n) e oldest.0)),
+      own_call_is_oldest c (device_acts other) also (able (subst (λ (n : ℕ). CanResume (device_acts log) n) e oldest.0)),
       wait ∙ ap (λ (n : ℕ). waits n (wait_acts (device_acts log))) (sym e) ∙ waits_for,
-      polled_to polled (device_acts log) (device_acts other) instrument said,
+      same_instrument_same_poll polled (device_acts log) (device_acts other) instrument said,
       refl,
     ),
   )
   | inr ne ↦ absurd (none d ne oldest.0)
 ]
 
-pub none_able : (c lid : ℕ) (log other : List Act) → Fit log → Pair c lid log other → (d : ℕ) → d ≢ c → CanResume (device_acts log) d → ⊥
-none_able c lid log other fit pair =
-    not_able c lid (device_acts log) fit.suits pair.view.held pair.view.mine pair.view.rests
+pub others_cannot_resume : (c lid : ℕ) (log other : List Act) → Fit log → Pair c lid log other → (d : ℕ) → d ≢ c
+    → CanResume (device_acts log) d → ⊥
+others_cannot_resume c lid log other fit pair =
+    others_blocked_by_lock c lid (device_acts log) fit.suits pair.view.held pair.view.mine pair.view.rests
 
-pub none_able_also : (c lid : ℕ) (log other : List Act) → Fit other → Pair c lid log other
+pub others_cannot_resume_either : (c lid : ℕ) (log other : List Act) → Fit other → Pair c lid log other
     → (d : ℕ) → d ≢ c → CanResume (device_acts other) d → ⊥
-none_able_also c lid log other fit pair = not_able c lid (device_acts other) fit.suits pair.view.also
-    (mine_also c lid (device_acts log) (device_acts other) pair.view) pair.view.rest
+others_cannot_resume_either c lid log other fit pair = others_blocked_by_lock c lid (device_acts other) fit.suits pair.view.also
+    (owner_in_other_log c lid (device_acts log) (device_acts other) pair.view) pair.view.rest
 
 pub no_fire : (c lid : ℕ) (log other : List Act) → Pair c lid log other → ((new : List Act) → InstrumentDoes IsFired log new → ⊥)
     → (new : List Act) → InstrumentDoes IsFired other new → ⊥
 no_fire c lid log other pair none new does =
-    let there = does_to IsFired other log new (sym pair.view.instrument) does in none there.0 there.1
+    let there = same_instrument_same_step IsFired other log new (sym pair.view.instrument) does in none there.0 there.1
 
 pub no_resume : (config : Config) (c lid : ℕ) (log other : List Act) → Fit log → Fit other → Pair c lid log other
     → ((new : List Act) → Resumes config log new → ⊥) → (new : List Act) → Resumes config other new → ⊥
 no_resume config c lid log other fit also pair none new resumes =
-    let there = resumes_as config c other log new (none_able_also c lid log other also pair) (none_able c lid log other fit pair)
+    let there = resumes_as config c other log new (others_cannot_resume_either c lid log other also pair)
+        (others_cannot_resume c lid log other fit pair)
     (able_back c lid (device_acts log) (device_acts other) pair.view) pair.view.call.wait (sym pair.view.instrument) resumes in
     none there.0 there.1
 
-pub nothing_to : (config : Config) (c lid : ℕ) (log other : List Act) → Fit log → Fit other → Pair c lid log other → NothingElse config log
+pub nothing_else_in_other : (config : Config) (c lid : ℕ) (log other : List Act) → Fit log → Fit other → Pair c lid log other
+    → NothingElse config log
     → NothingElse config other
-nothing_to config c lid log other fit also pair (fire, resume, step) = (
+nothing_else_in_other config c lid log other fit also pair (fire, resume, step) = (
   no_fire c lid log other pair fire,
   no_resume config c lid log other fit also pair resume,
-  (λ new does. let there = does_to IsStep other log new (sym pair.view.instrument) does in step there.0 there.1),
+  (λ new does. let there = same_instrument_same_step IsStep other log new (sym pair.view.instrument) does in step there.0 there.1),
 )
 
 -- ---- the calls of other connections that time out first
 
-abbrev pub IsDue : Config → List Act → Option ℕ → Type 0
-IsDue config log found = IsOldest (wait_acts (device_acts log))
+abbrev pub IsOldestExpired : Config → List Act → Option ℕ → Type 0
+IsOldestExpired config log found = IsOldest (wait_acts (device_acts log))
     (IsExpired (config.clock + ticks (device_acts log)) (wait_acts (device_acts log))) found
 
 -- Steps lead from `other` to the log `last`, which is still alike. There, of the calls whose
@@ -132,11 +136,11 @@ pub record Drained (config : Config) (c lid : ℕ) (log other : List Act) : Type
   pub pair : Pair c lid log last
   pub fit : Fit last
   pub found : Option ℕ
-  pub due : IsDue config last found
+  pub due : IsOldestExpired config last found
   pub is_own : (found ≡ None) ⊎ (found ≡ Some c)
 
-abbrev gave : ErrorCode → ℕ → List Act → List Act
-gave error d log = acts_of d (failure_effect error d (core_call_in (pending_call (of d log)))) ++ log
+abbrev log_with_failed_call : ErrorCode → ℕ → List Act → List Act
+log_with_failed_call error d log = acts_of d (failure_effect error d (core_call_in (pending_call (of d log)))) ++ log
 
 failed_device : (error : ErrorCode) (d : ℕ) (call : Option CoreCall) (log : List Act)
     → device_acts (acts_of d (failure_effect error d call) ++ log) ≡ Waited (Left d) ∷ device_acts log
@@ -148,28 +152,30 @@ leaving_failed : (c d : ℕ) (error : ErrorCode) (call : Option CoreCall) (log :
 leaving_failed c d error (Some call) log ne = (ne, (ne, tt))
 leaving_failed c d error None log ne = (ne, tt)
 
-gives_next : (config : Config) (d : ℕ) (log : List Act) → NothingElse config log → (due : IsDue config log (Some d))
-    → IsNext config log (gave (late due.0.0) d log)
+gives_next : (config : Config) (d : ℕ) (log : List Act) → NothingElse config log → (due : IsOldestExpired config log (Some d))
+    → IsNext config log (log_with_failed_call (late due.0.0) d log)
 gives_next config d log (fire, resume, step) due = inr (fire, inr (resume, inr (step, (d, due.0.0, due, due.0.2, refl))))
 
 fewer_wait : (d : ℕ) (log : List Act) (wait : Wait) (error : ErrorCode) → Fit log → waits d (wait_acts (device_acts log)) ≡ Some wait
     → d < 16
-    → count (wait_acts (device_acts (gave error d log))) 16 < count (wait_acts (device_acts log)) 16
+    → suspended_below (wait_acts (device_acts (log_with_failed_call error d log))) 16 < suspended_below (wait_acts (device_acts log)) 16
 fewer_wait d log wait error fit for lt =
-    subst (λ (acts : List DeviceAct). count (wait_acts acts) 16 < count (wait_acts (device_acts log)) 16)
+    subst (λ (acts : List DeviceAct). suspended_below (wait_acts acts) 16 < suspended_below (wait_acts (device_acts log)) 16)
     (sym (failed_device error d (core_call_in (pending_call (of d log))) log))
-    (left_fewer d 16 (wait_acts (device_acts log)) wait lt for)
+    (leaving_lowers_count d 16 (wait_acts (device_acts log)) wait lt for)
 
 -- The logs stay alike when a call of another connection ends with an error.
-gives_pair : (c lid d : ℕ) (log other : List Act) (error : ErrorCode) → d ≢ c → Pair c lid log other → Pair c lid log (gave error d other)
-gives_pair c lid d log other error ne pair =
-    pair_left c lid (acts_of d (failure_effect error d (core_call_in (pending_call (of d other))))) log other
+failing_keeps_pair : (c lid d : ℕ) (log other : List Act) (error : ErrorCode) → d ≢ c → Pair c lid log other
+    → Pair c lid log (log_with_failed_call error d other)
+failing_keeps_pair c lid d log other error ne pair =
+    leaving_acts_keep_pair c lid (acts_of d (failure_effect error d (core_call_in (pending_call (of d other))))) log other
     (leaving_failed c d error (core_call_in (pending_call (of d other))) other ne) pair
 
 -- The case that no call of another connection is left to time out.
-here : (config : Config) (c lid : ℕ) (log other : List Act) (found : Option ℕ) → Fit other → Pair c lid log other → IsDue config other found
+nothing_to_drain : (config : Config) (c lid : ℕ) (log other : List Act) (found : Option ℕ) → Fit other → Pair c lid log other
+    → IsOldestExpired config other found
     → (found ≡ None) ⊎ (found ≡ Some c) → Drained config c lid log other
-here config c lid log other found also pair due own = record {
+nothing_to_drain config c lid log other found also pair due own = record {
   last = other;
   reaches = reaches_none config other;
   pair = pair;
@@ -180,26 +186,26 @@ here config c lid log other found also pair due own = record {
 }
 
 drain_by : (k : ℕ) (config : Config) (c lid : ℕ) (log other : List Act) (found : Option ℕ)
-    → count (wait_acts (device_acts other)) 16 ≤ k → NothingElse config log → Fit log → Fit other → Pair c lid log other
-    → IsDue config other found → Drained config c lid log other
-drain_by k config c lid log other None le none fit also pair due = here config c lid log other None also pair due (inl refl)
+    → suspended_below (wait_acts (device_acts other)) 16 ≤ k → NothingElse config log → Fit log → Fit other → Pair c lid log other
+    → IsOldestExpired config other found → Drained config c lid log other
+drain_by k config c lid log other None le none fit also pair due = nothing_to_drain config c lid log other None also pair due (inl refl)
 drain_by zero config c lid log other (Some d) le none fit also pair due = elim (cases_eq d c) [
-  | inl same ↦ here config c lid log other (Some d) also pair due (inr (ap (λ (n : ℕ). Some n) same))
+  | inl same ↦ nothing_to_drain config c lid log other (Some d) also pair due (inr (ap (λ (n : ℕ). Some n) same))
   | inr ne ↦
-      let within = waits_within (device_acts other) also.suits d due.0.0 due.0.2 in
+      let within = suspended_below_16 (device_acts other) also.suits d due.0.0 due.0.2 in
       absurd (omega (arith, le, fewer_wait d other due.0.0 (late due.0.0) also due.0.2 within))
 ]
 drain_by (suc k) config c lid log other (Some d) le none fit also pair due = elim (cases_eq d c) [
-  | inl same ↦ here config c lid log other (Some d) also pair due (inr (ap (λ (n : ℕ). Some n) same))
+  | inl same ↦ nothing_to_drain config c lid log other (Some d) also pair due (inr (ap (λ (n : ℕ). Some n) same))
   | inr ne ↦
-      let within = waits_within (device_acts other) also.suits d due.0.0 due.0.2 in
+      let within = suspended_below_16 (device_acts other) also.suits d due.0.0 due.0.2 in
       let fewer = fewer_wait d other due.0.0 (late due.0.0) also due.0.2 within in
-      let after = gave (late due.0.0) d other in
-      let next = gives_next config d other (nothing_to config c lid log other fit also pair none) due in
+      let after = log_with_failed_call (late due.0.0) d other in
+      let next = gives_next config d other (nothing_else_in_other config c lid log other fit also pair none) due in
       let then_fit = fit_step config other after also next in
-      let first = oldest_due (config.clock + ticks (device_acts after)) (device_acts after) then_fit.suits in
+      let first = oldest_expired_exists (config.clock + ticks (device_acts after)) (device_acts after) then_fit.suits in
       let more = drain_by k config c lid log after first.0 (omega (arith, le, fewer)) none fit then_fit
-      (gives_pair c lid d log other (late due.0.0) ne pair) first.1 in
+      (failing_keeps_pair c lid d log other (late due.0.0) ne pair) first.1 in
       record {
         last = more.last;
         reaches = reaches_then config other after more.last (reaches_next config other after next) more.reaches;
@@ -214,5 +220,5 @@ drain_by (suc k) config c lid log other (Some d) le none fit also pair due = eli
 pub drain : (config : Config) (c lid : ℕ) (log other : List Act) → NothingElse config log → Fit log → Fit other → Pair c lid log other
     → Drained config c lid log other
 drain config c lid log other none fit also pair =
-    let first = oldest_due (config.clock + ticks (device_acts other)) (device_acts other) also.suits in
-    drain_by (count (wait_acts (device_acts other)) 16) config c lid log other first.0 (omega arith) none fit also pair first.1
+    let first = oldest_expired_exists (config.clock + ticks (device_acts other)) (device_acts other) also.suits in
+    drain_by (suspended_below (wait_acts (device_acts other)) 16) config c lid log other first.0 (omega arith) none fit also pair first.1

@@ -18,19 +18,19 @@ use Rattle.sv_history.specs.Settling.{SettlesIn}
 use Rattle.sv_history.specs.History.{IsLogOf, own_acts, refusal}
 use Rattle.sv_laws.specs.Adding.{all_replies, all_sent}
 use Rattle.sv_laws.specs.Isolation.{is_foreign, own_events, LeavesLinksAlone, EachIs, HoldsFrom, IsLocked, Isolation}
-use Rattle.sv_laws.proofs.OneLog.{one_log, sends_moved}
+use Rattle.sv_laws.proofs.OneLog.{one_log, sends_in_other_history}
 use Rattle.sv_laws.proofs.EveryLog.Fit.{Fit}
 use Rattle.sv_laws.proofs.EveryLog.EachEvent.{fit_log, fit_event}
-use Rattle.sv_laws.proofs.Isolation.Alike.{TellsAs, Pair, pair_foreign, pair_same}
+use Rattle.sv_laws.proofs.Isolation.Alike.{TellsAs, Pair, foreign_acts_keep_pair, same_acts_keep_pair}
 use Rattle.sv_laws.proofs.Isolation.OthersEvents.{foreign_event}
 use Rattle.sv_laws.proofs.Isolation.OwnEvents.{refusal_same, own_event}
-use Rattle.sv_laws.proofs.Isolation.Draining.{polled_to}
-use Rattle.sv_laws.proofs.EveryLog.Steps.{settles_extends, log_settled, stays}
-use Rattle.sv_laws.proofs.Isolation.SettlesAlike.{HoldsUp, holds_further, settles_alike}
+use Rattle.sv_laws.proofs.Isolation.Draining.{same_instrument_same_poll}
+use Rattle.sv_laws.proofs.EveryLog.Steps.{settles_extends, log_settled, settled_log_stays}
+use Rattle.sv_laws.proofs.Isolation.SettlesAlike.{HoldsThroughout, holds_further, settles_alike}
 
 -- ---- the link holds the lock
 
-holds_from : (lid : ℕ) (before whole : List Act) → HoldsFrom lid before whole → HoldsUp lid before whole
+holds_from : (lid : ℕ) (before whole : List Act) → HoldsFrom lid before whole → HoldsThroughout lid before whole
 holds_from lid before whole holds later [] is = tt
 holds_from lid before whole holds later (act ∷ acts) is = (
   holds later (act ∷ acts) is,
@@ -42,9 +42,10 @@ holds_from lid before whole holds later (act ∷ acts) is = (
 same_channel : (c : ℕ) (channel_log : List ChannelAct) → SameChannel c channel_log channel_log
 same_channel c channel_log = record { opened = refl; took = refl; links = refl; sent = refl; all = refl }
 
-starts : (c lid : ℕ) (config : Config) (past events : List PlainEvent) (locked : IsLocked c lid config past events) (later : List Act)
+begins_as_pair : (c lid : ℕ) (config : Config) (past events : List PlainEvent) (locked : IsLocked c lid config past events)
+    (later : List Act)
     → locked.log ≡ later ++ locked.before → Pair c lid locked.before locked.before
-starts c lid config past events locked later is =
+begins_as_pair c lid config past events locked later is =
     let held : holder (link_acts (device_acts locked.before)) ≡ Some lid = locked.holds later [] is in
     let tells : TellsAs c (device_acts locked.before) (device_acts locked.before) = λ channel_log hears.
     (channel_log, hears, same_channel c channel_log) in
@@ -56,7 +57,7 @@ pub record Alone (c lid : ℕ) (config : Config) (past events : List PlainEvent)
   pub other : List Act
   pub is_log : IsLogOf config (own_events c events ++ past) other
   pub pair : Pair c lid log other
-  pub holds : HoldsUp lid log whole
+  pub holds : HoldsThroughout lid log whole
 
 own_without : (c : ℕ) (event : PlainEvent) (events : List PlainEvent) → is_foreign c event ≡ true
     → own_events c (event ∷ events) ≡ own_events c events
@@ -76,20 +77,20 @@ left_out c lid config past events event polled n whole later before log foreign 
     let rest = settles_extends n config (acts ++ before) log settles in
     let reach : whole ≡ (later ++ rest.0) ++ (acts ++ before) =
     is ∙ ap (λ (l : List Act). later ++ l) rest.1 ∙ sym (append_assoc later rest.0 (acts ++ before)) in
-    let pair = pair_foreign c lid acts before alone.other
+    let pair = foreign_acts_keep_pair c lid acts before alone.other
     (foreign_event config polled c lid event before fit alone.pair.view.held alone.pair.view.mine foreign left_alone)
     (alone.holds (later ++ rest.0) acts reach) next.suits alone.pair in
     let further = holds_further lid before whole acts alone.holds in
     let also = fit_log config (own_events c events ++ past) alone.other alone.is_log in
     let ends = settles_alike n config c lid whole later (acts ++ before) alone.other log further is settles next also pair in
-    let same = stays ends.steps.0 config alone.other ends.last
+    let same = settled_log_stays ends.steps.0 config alone.other ends.last
     (log_settled config (own_events c events ++ past) alone.other alone.is_log) ends.steps.1 in
     record {
       other = alone.other;
       is_log = subst (λ (l : List PlainEvent). IsLogOf config (l ++ past) alone.other) (sym (own_without c event events foreign))
           alone.is_log;
       pair = subst (λ (l : List Act). Pair c lid log l) same ends.pair;
-      holds = subst (λ (l : List Act). HoldsUp lid l whole) (sym rest.1) (holds_further lid (acts ++ before) whole rest.0 further);
+      holds = subst (λ (l : List Act). HoldsThroughout lid l whole) (sym rest.1) (holds_further lid (acts ++ before) whole rest.0 further);
     }
 
 -- An event of the connection, or of no connection, comes in both histories.
@@ -111,7 +112,7 @@ in_both c lid config past events event polled n channel_log whole later before l
     let none : refusal config tells.0 event other ≡ None =
     sym (refusal_same config c lid channel_log tells.0 before other event alone.pair tells.2 own) ∙ free in
     let ours = own_event config polled c lid before other event fit alone.pair own left_alone locks in
-    let pair = pair_same c lid acts before other ours.1 locks alone.pair in
+    let pair = same_acts_keep_pair c lid acts before other ours.1 locks alone.pair in
     let further = holds_further lid before whole acts alone.holds in
     let next = fit_event config event polled channel_log before free fit in
     let behind : Fit (acts ++ other) =
@@ -127,33 +128,33 @@ in_both c lid config past events event polled n channel_log whole later before l
         alone.is_log,
         tells.1,
         none,
-        polled_to polled (device_acts before) (device_acts other) alone.pair.view.instrument said,
+        same_instrument_same_poll polled (device_acts before) (device_acts other) alone.pair.view.instrument said,
         (ends.steps.0, subst (λ (l : List Act). SettlesIn ends.steps.0 config (l ++ other) ends.last) ours.0 ends.steps.1),
       );
       pair = ends.pair;
-      holds = subst (λ (l : List Act). HoldsUp lid l whole) (sym rest.1) (holds_further lid (acts ++ before) whole rest.0 further);
+      holds = subst (λ (l : List Act). HoldsThroughout lid l whole) (sym rest.1) (holds_further lid (acts ++ before) whole rest.0 further);
     }
 
-pub alone_from : (c lid : ℕ) (config : Config) (past all events : List PlainEvent) (locked : IsLocked c lid config past all)
+pub own_events_alone : (c lid : ℕ) (config : Config) (past all events : List PlainEvent) (locked : IsLocked c lid config past all)
     (later log : List Act) → locked.log ≡ later ++ log → EachIs (LeavesLinksAlone c) config past events → IsLogOf config
     (events ++ past) log
     → Alone c lid config past events log locked.log
-alone_from c lid config past all [] locked later log is left_alone is_log =
+own_events_alone c lid config past all [] locked later log is left_alone is_log =
     let same : log ≡ locked.before = one_log config past log locked.before is_log locked.was in
     subst (λ (l : List Act). Alone c lid config past [] l locked.log) (sym same) (record {
       other = locked.before;
       is_log = locked.was;
-      pair = starts c lid config past all locked later (is ∙ ap (λ (l : List Act). later ++ l) same);
+      pair = begins_as_pair c lid config past all locked later (is ∙ ap (λ (l : List Act). later ++ l) same);
       holds = holds_from lid locked.before locked.log locked.holds;
     })
-alone_from c lid config past all (event ∷ events) locked later log is left_alone
+own_events_alone c lid config past all (event ∷ events) locked later log is left_alone
     (before, polled, channel_log, is_event, was, hears, free, said, (n, settles)) =
     let acts = own_acts config polled event before in
     let rest = settles_extends n config (acts ++ before) log settles in
     let reach : locked.log ≡ ((later ++ rest.0) ++ acts) ++ before =
     is ∙ ap (λ (l : List Act). later ++ l) rest.1 ∙ sym (append_assoc later rest.0 (acts ++ before))
     ∙ sym (append_assoc (later ++ rest.0) acts before) in
-    let alone = alone_from c lid config past all events locked ((later ++ rest.0) ++ acts) before reach left_alone.0 was in
+    let alone = own_events_alone c lid config past all events locked ((later ++ rest.0) ++ acts) before reach left_alone.0 was in
     let fit = fit_log config (events ++ past) before was in
     let so = left_alone.1 before was in
     elim (cases_Bool (is_foreign c event)) [
@@ -173,7 +174,7 @@ sent_same c lid (Intr d) log other channel_log also e pair same = rw e (ap conca
 
 pub isolation : Isolation
 isolation c lid config past events locked =
-    let alone = alone_from c lid config past events events locked [] locked.log refl locked.left_alone locked.is_log in
+    let alone = own_events_alone c lid config past events events locked [] locked.log refl locked.left_alone locked.is_log in
     let other = alone.other in
     let own = own_events c events in (
       (other, alone.is_log),
@@ -181,14 +182,16 @@ isolation c lid config past events locked =
         (λ adds. (
           adds.0,
           adds.1,
-          sends_moved port config (events ++ past) (own ++ past) locked.log other _ locked.is_log alone.is_log (λ channel_log hears.
+          sends_in_other_history port config (events ++ past) (own ++ past) locked.log other _ locked.is_log alone.is_log
+              (λ channel_log hears.
               let tells = alone.pair.tells channel_log hears in
               (tells.0, tells.1, sent_same c lid port locked.log other channel_log tells.0 mine alone.pair tells.2)) adds.2,
         )),
         (λ adds. (
           adds.0,
           adds.1,
-          sends_moved port config (own ++ past) (events ++ past) other locked.log _ alone.is_log locked.is_log (λ channel_log hears.
+          sends_in_other_history port config (own ++ past) (events ++ past) other locked.log _ alone.is_log locked.is_log
+              (λ channel_log hears.
               let tells = alone.pair.back channel_log hears in
               let same = channel_sym c channel_log tells.0 tells.2 in
               (tells.0, tells.1, sym (sent_same c lid port locked.log other tells.0 channel_log mine alone.pair same))) adds.2,

@@ -8,7 +8,7 @@ use Rattle.sv_vxi.specs.declared.error_code.ErrorCode.TheVariants.{Abort}
 use Rattle.sv_links.specs.Links.{LinkAct, owner, holder, closing, is_this}
 use Rattle.sv_links.specs.Waiting.{Left, waits, link}
 use Rattle.sv_laws.proofs.LinksAlike.{IsForeignLink}
-use Rattle.sv_laws.proofs.Closed.{closed_foreign}
+use Rattle.sv_laws.proofs.Closed.{closing_is_foreign_to_others}
 use Rattle.sv_history.specs.declared.event.Config.{Config}
 use Rattle.sv_history.specs.declared.event.Port.TheVariants.{Conn, Intr}
 use Rattle.sv_history.specs.Event.{PlainEvent, Open, Bytes, Turn, Refuse, Took, Close, Dialed}
@@ -24,15 +24,16 @@ use Rattle.sv_history.specs.History.{abort_acts, turn_acts, own_acts}
 use Rattle.sv_laws.specs.Isolation.{is_foreign, aborted_link, LeavesLinksAlone}
 use Rattle.sv_history.proofs.Projections.{link_acts_links}
 use Rattle.sv_laws.proofs.EveryLog.Fit.{Fit}
-use Rattle.sv_laws.proofs.EveryLog.EachEvent.{close_adds}
-use Rattle.sv_laws.proofs.EveryLog.Known.{rises}
+use Rattle.sv_laws.proofs.EveryLog.EachEvent.{close_acts}
+use Rattle.sv_laws.proofs.EveryLog.Known.{link_numbers_rise}
 use Rattle.sv_laws.proofs.Isolation.Alike.{IsForeign, IsForeignAct}
-use Rattle.sv_laws.proofs.Isolation.Shut.{call_foreign}
+use Rattle.sv_laws.proofs.Isolation.Shut.{others_call_is_foreign}
 use Rattle.sv_laws.proofs.Isolation.OwnEvents.{IsOf, each_shared, each_effect, each_failed, each_connected, each_refused}
 
 -- All acts of another connection `d` are foreign to connection `c`.
-pub foreign_is : (c d : ℕ) → d ≢ c → IsOf d (IsForeignAct c) (IsForeign c)
-foreign_is c d ne = record { own = λ log act. ne; shared = λ log act other. other; left = λ acts. ne; opened = λ acts peer. ne }
+pub others_acts_are_foreign : (c d : ℕ) → d ≢ c → IsOf d (IsForeignAct c) (IsForeign c)
+others_acts_are_foreign c d ne =
+    record { own = λ log act. ne; shared = λ log act other. other; left = λ acts. ne; opened = λ acts peer. ne }
 
 -- ---- a Turn
 
@@ -51,14 +52,15 @@ aborts_owner _ acts e h = absurd cc
 
 foreign_abort : (c : ℕ) (found : Option ℕ) (log : List Act) → found ≢ Some c → Each (IsForeignAct c) (abort_acts found log) log
 foreign_abort c (Some e) log ne =
-    each_failed e (foreign_is c e (λ same. ne (ap (λ (n : ℕ). Some n) same))) Abort (core_call_in (pending_call (of e log))) log
+    each_failed e (others_acts_are_foreign c e (λ same. ne (ap (λ (n : ℕ). Some n) same))) Abort (core_call_in (pending_call (of e log)))
+        log
 foreign_abort c None log ne = tt
 
 foreign_request : (config : Config) (polled c d lid : ℕ) (request : Request) (acts : List DeviceAct)
     → holder (link_acts acts) ≡ Some lid → owner lid (link_acts acts) ≡ Some c → d ≢ c
     → Each (IsForeign c) (request_effect config polled d request acts).adds acts
 foreign_request config polled c d lid (CoreRequest call) acts held mine ne =
-    call_foreign config polled c d lid call.arguments acts held mine ne
+    others_call_is_foreign config polled c d lid call.arguments acts held mine ne
 foreign_request config polled c d lid _ acts held mine ne = tt
 
 foreign_turn : (config : Config) (polled c d lid : ℕ) (found : Option (List ℕ)) (request : Option Request) (log : List Act)
@@ -71,7 +73,7 @@ foreign_turn config polled c d lid (Some bytes) (Some request) log held mine ne 
     each_join (IsForeignAct c) (abort_acts ends (acts ++ log)) acts log
     (foreign_abort c ends (acts ++ log) (λ is. left_alone (aborts_owner request (device_acts log) c is)))
     (each_join (IsForeignAct c) (acts_of d effect) (On d (CallTaken bytes) ∷ []) log
-    (each_effect d (foreign_is c d ne) effect (On d (CallTaken bytes) ∷ log)
+    (each_effect d (others_acts_are_foreign c d ne) effect (On d (CallTaken bytes) ∷ log)
     (foreign_request config polled c d lid request (device_acts log) held mine ne)) (ne, tt))
 foreign_turn config polled c d lid _ _ log held mine ne left_alone = tt
 
@@ -86,36 +88,39 @@ foreign_links c (act ∷ links) acts h = (
 )
 
 foreign_close : (c d : ℕ) (log : List Act) → Fit log → d ≢ c
-    → Each (IsForeignAct c) (map OnDevice (close_adds d (device_acts log)) ++ On d PortClosed ∷ []) log
+    → Each (IsForeignAct c) (map OnDevice (close_acts d (device_acts log)) ++ On d PortClosed ∷ []) log
 foreign_close c d log fit ne =
     let acts = device_acts log in
     let links = closing d (link_acts acts) in
-    each_join (IsForeignAct c) (map OnDevice (close_adds d acts)) (On d PortClosed ∷ []) log
-    (each_shared d (foreign_is c d ne) (close_adds d acts) (On d PortClosed ∷ log) (
+    each_join (IsForeignAct c) (map OnDevice (close_acts d acts)) (On d PortClosed ∷ []) log
+    (each_shared d (others_acts_are_foreign c d ne) (close_acts d acts) (On d PortClosed ∷ log) (
       ne,
       each_join (IsForeign c) (map Linked links) (Waited (Left d) ∷ []) acts
-          (foreign_links c links (Waited (Left d) ∷ acts) (closed_foreign c d _ (link_acts acts) ne (rises acts fit.suits))) (ne, tt),
+          (foreign_links c links (Waited (Left d) ∷ acts)
+              (closing_is_foreign_to_others c d _ (link_acts acts) ne (link_numbers_rise acts fit.suits))) (ne, tt),
     ))
     (ne, tt)
 
 -- ---- an event
 
-other_number : (d c : ℕ) → not (eqb d c) ≡ true → d ≢ c
-other_number d c h same = absurd (let z : not true ≡ true = rw (eq-eqb d c same) at h in cc)
+foreign_number_differs : (d c : ℕ) → not (eqb d c) ≡ true → d ≢ c
+foreign_number_differs d c h same = absurd (let z : not true ≡ true = rw (eq-eqb d c same) at h in cc)
 
 pub foreign_event : (config : Config) (polled c lid : ℕ) (event : PlainEvent) (log : List Act) → Fit log
     → holder (link_acts (device_acts log)) ≡ Some lid → owner lid (link_acts (device_acts log)) ≡ Some c → is_foreign c event ≡ true
     → LeavesLinksAlone c event log → Each (IsForeignAct c) (own_acts config polled event log) log
-foreign_event config polled c lid (Open d role) log fit held mine other left_alone = (other_number d c other, tt)
-foreign_event config polled c lid (Bytes d piece) log fit held mine other left_alone = (other_number d c other, tt)
+foreign_event config polled c lid (Open d role) log fit held mine other left_alone = (foreign_number_differs d c other, tt)
+foreign_event config polled c lid (Bytes d piece) log fit held mine other left_alone = (foreign_number_differs d c other, tt)
 foreign_event config polled c lid (Turn d) log fit held mine other left_alone =
-    foreign_turn config polled c d lid (next_call (of d log)) (next_request (of d log)) log held mine (other_number d c other) left_alone.0
+    foreign_turn config polled c d lid (next_call (of d log)) (next_request (of d log)) log held mine (foreign_number_differs d c other)
+        left_alone.0
 foreign_event config polled c lid (Refuse d) log fit held mine other left_alone =
-    each_refused d (foreign_is c d (other_number d c other)) (next_call (of d log)) (refusable (of d log)) log
-foreign_event config polled c lid (Took (Conn d) count) log fit held mine other left_alone = (other_number d c other, tt)
-foreign_event config polled c lid (Took (Intr d) count) log fit held mine other left_alone = (other_number d c other, tt)
-foreign_event config polled c lid (Close (Conn d)) log fit held mine other left_alone = foreign_close c d log fit (other_number d c other)
-foreign_event config polled c lid (Close (Intr d)) log fit held mine other left_alone = (other_number d c other, tt)
+    each_refused d (others_acts_are_foreign c d (foreign_number_differs d c other)) (next_call (of d log)) (refusable (of d log)) log
+foreign_event config polled c lid (Took (Conn d) count) log fit held mine other left_alone = (foreign_number_differs d c other, tt)
+foreign_event config polled c lid (Took (Intr d) count) log fit held mine other left_alone = (foreign_number_differs d c other, tt)
+foreign_event config polled c lid (Close (Conn d)) log fit held mine other left_alone =
+    foreign_close c d log fit (foreign_number_differs d c other)
+foreign_event config polled c lid (Close (Intr d)) log fit held mine other left_alone = (foreign_number_differs d c other, tt)
 foreign_event config polled c lid (Dialed d ok) log fit held mine other left_alone =
-    each_connected d (foreign_is c d (other_number d c other)) ok (core_call_in (pending_call (of d log))) log
+    each_connected d (others_acts_are_foreign c d (foreign_number_differs d c other)) ok (core_call_in (pending_call (of d log))) log
 foreign_event config polled c lid _ log fit held mine other left_alone = absurd cc

@@ -11,7 +11,7 @@ use Rattle.sv_links.specs.Links.{Made, owner, holder, closing}
 use Rattle.sv_links.specs.Waiting.{Left}
 use Rattle.sv_links.specs.Channels.{ChannelAct, ChannelOpened, waiting as channel_waiting}
 use Rattle.sv_laws.proofs.ChannelsAlike.{SameChannel}
-use Rattle.sv_laws.proofs.Closed.{closed_frees}
+use Rattle.sv_laws.proofs.Closed.{closed_link_holds_no_lock}
 use Rattle.sv_layers.specs.Act.{Act as InstrumentAct}
 use Rattle.sv_instrument.specs.Stimulus.{external_acts, tick_acts}
 use Rattle.sv_history.specs.declared.event.Config.{Config}
@@ -24,18 +24,18 @@ use Rattle.sv_history.specs.CallOutcome.{CallOutcome}
 use Rattle.sv_history.specs.CoreCall.{CoreCall}
 use Rattle.sv_history.specs.Effect.{Effect, acts_of, call_effect}
 use Rattle.sv_history.specs.Request.{Request, CoreRequest, AbortRequest, core_call_in, next_request}
-use Rattle.sv_history.proofs.Dialing.{peer_by, dialed_to, dialed_is}
+use Rattle.sv_history.proofs.Dialing.{peer_named_by, connect_outcome_for, connect_outcome_by_peer}
 use Rattle.sv_history.specs.Admission.{Stop, Fails, Awaits, stop_of, admission}
 use Rattle.sv_history.specs.Refusing.{refusable, refused_reply}
 use Rattle.sv_history.specs.Resuming.{leaving, failure_effect, connect_effect}
 use Rattle.sv_history.specs.History.{turn_acts, refuse_acts, own_acts, refusal, taken_acts}
 use Rattle.sv_laws.specs.Isolation.{is_foreign, makes_link, LeavesLinksAlone}
-use Rattle.sv_history.proofs.Projections.{device_shared, link_acts_links}
+use Rattle.sv_history.proofs.Projections.{device_acts_append, link_acts_links}
 use Rattle.sv_laws.proofs.EveryLog.Fit.{Fit}
-use Rattle.sv_laws.proofs.EveryLog.EachEvent.{close_adds, device_closed}
-use Rattle.sv_laws.proofs.EveryLog.Taken.{no_abort}
-use Rattle.sv_laws.proofs.EveryLog.Done.{IsDone, each_done}
-use Rattle.sv_laws.proofs.Isolation.Alike.{View, Pair, IsOwn, IsOwnAct, Locks}
+use Rattle.sv_laws.proofs.EveryLog.EachEvent.{close_acts, device_acts_of_close}
+use Rattle.sv_laws.proofs.EveryLog.Taken.{core_role_takes_no_abort}
+use Rattle.sv_laws.proofs.EveryLog.Done.{IsActOfCall, each_act_is_of_call}
+use Rattle.sv_laws.proofs.Isolation.Alike.{View, Pair, IsOwn, IsOwnAct, HoldsAfter}
 use Rattle.sv_laws.proofs.SameOutcomes.{SameGround, admitted_same}
 
 own_number : (d c : ℕ) → not (eqb d c) ≡ false → d ≡ c
@@ -86,7 +86,7 @@ module _ (d : ℕ) {IsSuch : List Act → Act → Type 0} {IsShared : List Devic
   pub each_shared : (adds : List DeviceAct) (log : List Act) → Each IsShared adds (device_acts log) → Each IsSuch (map OnDevice adds) log
   each_shared [] log h = tt
   each_shared (act ∷ adds) log h =
-      (is.shared (map OnDevice adds ++ log) act (rw (device_shared adds log) h.0), each_shared adds log h.1)
+      (is.shared (map OnDevice adds ++ log) act (rw (device_acts_append adds log) h.0), each_shared adds log h.1)
 
   pub each_effect : (effect : Effect) (log : List Act) → Each IsShared effect.adds (device_acts log) → Each IsSuch (acts_of d effect) log
   each_effect effect log h = each_join IsSuch (map (On d) effect.own) (map OnDevice effect.adds) log
@@ -99,10 +99,12 @@ module _ (d : ℕ) {IsSuch : List Act → Act → Type 0} {IsShared : List Devic
 
   pub each_connected : (ok : Bool) (call : Option CoreCall) (log : List Act) → Each IsSuch (acts_of d (connect_effect d ok call)) log
   each_connected ok None log = each_effect (connect_effect d ok None) log (is.left (device_acts log), tt)
-  each_connected ok (Some call) log = rw (dialed_is d ok call.arguments) (each_effect
-      (call_effect call.xid (leaving d (dialed_to d ok call.arguments (peer_by call.arguments)))) log (by ok (peer_by call.arguments)))
+  each_connected ok (Some call) log = rw (connect_outcome_by_peer d ok call.arguments) (each_effect
+      (call_effect call.xid (leaving d (connect_outcome_for d ok call.arguments (peer_named_by call.arguments)))) log
+          (by ok (peer_named_by call.arguments)))
     where
-      by : (ok : Bool) (found : Option Peer) → Each IsShared (leaving d (dialed_to d ok call.arguments found)).adds (device_acts log)
+      by : (ok : Bool) (found : Option Peer) → Each IsShared (leaving d (connect_outcome_for d ok call.arguments found)).adds
+          (device_acts log)
       by true (Some peer) = (is.opened (Waited (Left d) ∷ device_acts log) peer, (is.left (device_acts log), tt))
       by false (Some peer) = (is.left (device_acts log), tt)
       by true None = (is.left (device_acts log), tt)
@@ -113,8 +115,8 @@ module _ (d : ℕ) {IsSuch : List Act → Act → Type 0} {IsShared : List Devic
       (is.own (On d (CallTaken bytes) ∷ log) (Replied (refused_reply call)), (is.own log (CallTaken bytes), tt))
   each_refused _ _ log = tt
 
-pub own_is : (c : ℕ) → IsOf c (IsOwnAct c) (λ before act. IsOwn c act)
-own_is c = record { own = λ log act. tt; shared = λ log act own. own; left = λ acts. refl; opened = λ acts peer. tt }
+pub own_acts_are_own : (c : ℕ) → IsOf c (IsOwnAct c) (λ before act. IsOwn c act)
+own_acts_are_own c = record { own = λ log act. tt; shared = λ log act own. own; left = λ acts. refl; opened = λ acts peer. tt }
 
 pub own_happened : (c : ℕ) (adds : List InstrumentAct) (log : List Act) → Each (IsOwnAct c) (map OnDevice (map Applied adds)) log
 own_happened c [] log = tt
@@ -136,12 +138,12 @@ same_ground c lid acts other view = record {
 }
 
 -- A call that isn't create_link makes no link when it is executed.
-pub done_own : (c : ℕ) (arguments : Arguments) (adds acts : List DeviceAct) → is_create_link arguments ≡ false
-    → Each (IsDone c arguments) adds acts → Each (λ before act. IsOwn c act) adds acts
-done_own c arguments [] acts makes h = tt
-done_own c arguments (act ∷ adds) acts makes h = (one act (adds ++ acts) h.0, done_own c arguments adds acts makes h.1)
+pub call_acts_are_own : (c : ℕ) (arguments : Arguments) (adds acts : List DeviceAct) → is_create_link arguments ≡ false
+    → Each (IsActOfCall c arguments) adds acts → Each (λ before act. IsOwn c act) adds acts
+call_acts_are_own c arguments [] acts makes h = tt
+call_acts_are_own c arguments (act ∷ adds) acts makes h = (one act (adds ++ acts) h.0, call_acts_are_own c arguments adds acts makes h.1)
   where
-    one : (act : DeviceAct) (acts : List DeviceAct) → IsDone c arguments acts act → IsOwn c act
+    one : (act : DeviceAct) (acts : List DeviceAct) → IsActOfCall c arguments acts act → IsOwn c act
     one (Linked (Made lid conn)) acts h = let z : true ≡ false = sym h.2 ∙ makes in cc
     one (Waited act) acts h = absurd h
     one _ acts h = tt
@@ -155,7 +157,7 @@ OwnActs config polled c log other event = (own_acts config polled event log ≡ 
 own_admitted : (config : Config) (polled c : ℕ) (arguments : Arguments) (stop : Option Stop) (acts : List DeviceAct)
     → is_create_link arguments ≡ false → Each (λ before act. IsOwn c act) (admission config polled c arguments stop acts).adds acts
 own_admitted config polled c arguments None acts makes =
-    done_own c arguments _ acts makes (each_done config polled c arguments acts)
+    call_acts_are_own c arguments _ acts makes (each_act_is_of_call config polled c arguments acts)
 own_admitted config polled c arguments (Some (Fails error)) acts makes = tt
 own_admitted config polled c arguments (Some (Awaits wait until)) acts makes = (refl, tt)
 
@@ -174,7 +176,7 @@ own_turn_by config polled c lid (Some bytes) (Some (CoreRequest call)) log other
     (same_ground c lid (device_acts log) (device_acts other) pair.view) in (
       ap (λ (outcome : CallOutcome). taken_acts c bytes (call_effect call.xid outcome) None log) same,
       each_join (IsOwnAct c) (acts_of c (call_effect call.xid what)) (On c (CallTaken bytes) ∷ []) log
-          (each_effect c (own_is c) (call_effect call.xid what) (On c (CallTaken bytes) ∷ log)
+          (each_effect c (own_acts_are_own c) (call_effect call.xid what) (On c (CallTaken bytes) ∷ log)
           (own_admitted config polled c call.arguments stop (device_acts log) makes)) (tt, tt),
     )
 own_turn_by config polled c lid (Some bytes) (Some (AbortRequest xid named)) log other pair makes aborts = absurd (aborts xid named refl)
@@ -186,25 +188,25 @@ own_turn : (config : Config) (polled c lid : ℕ) (log other : List Act) → Fit
 own_turn config polled c lid log other fit pair makes =
     let core : open_role (of c log) ≡ Some Core = fit.core lid c pair.view.mine in
     let so = own_turn_by config polled c lid (next_call (of c log)) (next_request (of c log)) log other pair makes
-    (λ xid named is. no_abort (of c log) xid named core is) in
+    (λ xid named is. core_role_takes_no_abort (of c log) xid named core is) in
     (so.0 ∙ ap (λ (l : List ConnAct). turn_acts config polled c (next_call l) (next_request l) other) pair.own, so.1)
 
 -- ---- the connection isn't closed
 
-no_close : (c lid : ℕ) (log : List Act) → owner lid (link_acts (device_acts log)) ≡ Some c
-    → Each (Locks lid) (map OnDevice (close_adds c (device_acts log)) ++ On c PortClosed ∷ []) log → ⊥
-no_close c lid log mine locks =
+holder_is_not_closed : (c lid : ℕ) (log : List Act) → owner lid (link_acts (device_acts log)) ≡ Some c
+    → Each (HoldsAfter lid) (map OnDevice (close_acts c (device_acts log)) ++ On c PortClosed ∷ []) log → ⊥
+holder_is_not_closed c lid log mine locks =
     let acts = device_acts log in
-    let now : holder (link_acts (device_acts ((map OnDevice (close_adds c acts) ++ On c PortClosed ∷ []) ++ log))) ≡ Some lid = locks.0 in
-    let there = append_assoc (map OnDevice (close_adds c acts)) (On c PortClosed ∷ []) log in
-    let links = ap (λ (l : List Act). link_acts (device_acts l)) there ∙ ap link_acts (device_closed c log)
+    let now : holder (link_acts (device_acts ((map OnDevice (close_acts c acts) ++ On c PortClosed ∷ []) ++ log))) ≡ Some lid = locks.0 in
+    let there = append_assoc (map OnDevice (close_acts c acts)) (On c PortClosed ∷ []) log in
+    let links = ap (λ (l : List Act). link_acts (device_acts l)) there ∙ ap link_acts (device_acts_of_close c log)
     ∙ link_acts_links (closing c (link_acts acts)) (Waited (Left c) ∷ acts) in
-    closed_frees c lid (link_acts acts) mine (ap holder (sym links) ∙ now)
+    closed_link_holds_no_lock c lid (link_acts acts) mine (ap holder (sym links) ∙ now)
 
 -- ---- an event
 
 pub own_event : (config : Config) (polled c lid : ℕ) (log other : List Act) (event : PlainEvent) → Fit log → Pair c lid log other
-    → is_foreign c event ≡ false → LeavesLinksAlone c event log → Each (Locks lid) (own_acts config polled event log) log
+    → is_foreign c event ≡ false → LeavesLinksAlone c event log → Each (HoldsAfter lid) (own_acts config polled event log) log
     → OwnActs config polled c log other event
 own_event config polled c lid log other (Turn d) fit pair own left_alone locks =
     let same = own_number d c own in
@@ -214,16 +216,16 @@ own_event config polled c lid log other (Turn d) fit pair own left_alone locks =
 own_event config polled c lid log other (Refuse d) fit pair own left_alone locks =
     subst (λ (n : ℕ). OwnActs config polled c log other (Refuse n)) (sym (own_number d c own)) (
       ap (λ (l : List ConnAct). refuse_acts c (next_call l) (refusable l)) pair.own,
-      each_refused c (own_is c) (next_call (of c log)) (refusable (of c log)) log,
+      each_refused c (own_acts_are_own c) (next_call (of c log)) (refusable (of c log)) log,
     )
 own_event config polled c lid log other (Close (Conn d)) fit pair own left_alone locks =
     let same = own_number d c own in
-    absurd (no_close c lid log pair.view.mine
-    (subst (λ (n : ℕ). Each (Locks lid) (map OnDevice (close_adds n (device_acts log)) ++ On n PortClosed ∷ []) log) same locks))
+    absurd (holder_is_not_closed c lid log pair.view.mine
+    (subst (λ (n : ℕ). Each (HoldsAfter lid) (map OnDevice (close_acts n (device_acts log)) ++ On n PortClosed ∷ []) log) same locks))
 own_event config polled c lid log other (Dialed d ok) fit pair own left_alone locks =
     subst (λ (n : ℕ). OwnActs config polled c log other (Dialed n ok)) (sym (own_number d c own)) (
       ap (λ (l : List ConnAct). acts_of c (connect_effect c ok (core_call_in (pending_call l)))) pair.own,
-      each_connected c (own_is c) ok (core_call_in (pending_call (of c log))) log,
+      each_connected c (own_acts_are_own c) ok (core_call_in (pending_call (of c log))) log,
     )
 own_event config polled c lid log other External fit pair own left_alone locks = (
   ap (λ (l : List InstrumentAct). map OnDevice (map Applied (external_acts l))) pair.view.instrument,

@@ -18,11 +18,11 @@ use Rattle.sv_replay.proofs.Filter.Told.{hidden_told, hidden_end}
 use Rattle.sv_replay.proofs.Filter.Printed.{written_on, written_stop}
 
 -- Filtering what is printed for an explained event leaves what its replay prints.
-explains_on : (config : Config) (line : ℕ) (history : List PlainEvent) (event : PlainEvent) (text : List ℕ) (after : List PlainEvent)
+filtered_event : (config : Config) (line : ℕ) (history : List PlainEvent) (event : PlainEvent) (text : List ℕ) (after : List PlainEvent)
     → Explains config line history event (Ok tt) text after
     → (own : List ℕ) × Replays config history event (Ok tt) own after
     × ((behind : List ℕ) → filtered (text ++ behind) ≡ own ++ filtered behind)
-explains_on config line history event text after e = (
+filtered_event config line history event text after e = (
   e.printed,
   e.replays,
   λ behind. elim e.whole [
@@ -34,10 +34,10 @@ explains_on config line history event text after e = (
   ],
 )
 
-explains_stop : (config : Config) (line : ℕ) (history : List PlainEvent) (event : PlainEvent) (fault : ReplayFault) (text : List ℕ)
+filtered_event_stop : (config : Config) (line : ℕ) (history : List PlainEvent) (event : PlainEvent) (fault : ReplayFault) (text : List ℕ)
     (after : List PlainEvent) → Explains config line history event (Err fault) text after
     → Replays config history event (Err fault) (filtered text) after
-explains_stop config line history event fault text after e =
+filtered_event_stop config line history event fault text after e =
     let is : filtered text ≡ e.printed = elim e.whole [
       | inl all ↦ ap filtered (e.text_is ∙ ap (λ (l : List ℕ). l ++ e.printed) all)
           ∙ (hidden_told line config event e.replays.before e.replays.did e.told e.tells).0 e.printed
@@ -55,7 +55,7 @@ prints_filtered : (config : Config) (history : List PlainEvent) (events : List S
 prints_filtered config history [] text after (none, same) =
     ([], (refl, same), λ behind. ap (λ (l : List ℕ). filtered (l ++ behind)) none)
 prints_filtered config history (said ∷ events) text after (first, rest, middle, explains, prints, is) =
-    let (own, replays, one) = explains_on config said.line history said.event first middle explains in
+    let (own, replays, one) = filtered_event config said.line history said.event first middle explains in
     let (others, more, all) = prints_filtered config middle events rest after prints in (
       own ++ others,
       (own, others, middle, replays, more, refl),
@@ -64,10 +64,11 @@ prints_filtered config history (said ∷ events) text after (first, rest, middle
     )
 
 -- The same if a text follows that the filter removes.
-with_hidden : (config : Config) (history : List PlainEvent) (events : List ScriptEvent) (text behind : List ℕ) (after : List PlainEvent)
+filtered_with_hidden : (config : Config) (history : List PlainEvent) (events : List ScriptEvent) (text behind : List ℕ)
+    (after : List PlainEvent)
     → Prints Explained config history events text after → filtered behind ≡ []
     → Prints Plain config history events (filtered (text ++ behind)) after
-with_hidden config history events text behind after prints none =
+filtered_with_hidden config history events text behind after prints none =
     let (own, replayed, all) = prints_filtered config history events text after prints in
     subst (λ (l : List ℕ). Prints Plain config history events l after)
     (sym (all behind ∙ ap (λ (l : List ℕ). own ++ l) none ∙ append-nil own)) replayed
@@ -85,7 +86,7 @@ stops_filtered config history events fault text after (done, others, said, split
       filtered last,
       middle,
       replayed,
-      explains_stop config said.line middle said.event fault last after explains,
+      filtered_event_stop config said.line middle said.event fault last after explains,
       ap filtered is ∙ all last,
     )
 
@@ -96,7 +97,7 @@ printed_filtered config lines text (events, after, script, prints) = (
   after,
   script,
   subst (λ (l : List ℕ). Prints Plain config [] events (filtered l) after) (append-nil text)
-      (with_hidden config [] events text [] after prints refl),
+      (filtered_with_hidden config [] events text [] after prints refl),
 )
 
 up_to_filtered : (config : Config) (lines : List (List ℕ)) (fault : ReplayFault) (text : List ℕ)
@@ -113,7 +114,7 @@ to_end_filtered config lines front last part (events, after, log, script, prints
   events,
   after,
   script,
-  with_hidden config [] events front part after prints ((hidden_end _).1 part (subst (λ (l : List ℕ). IsFront part l) is of)),
+  filtered_with_hidden config [] events front part after prints ((hidden_end _).1 part (subst (λ (l : List ℕ). IsFront part l) is of)),
 )
 
 output_filtered : (config : Config) (read : List ℕ) (rest : Option (List ℕ)) (text : List ℕ)

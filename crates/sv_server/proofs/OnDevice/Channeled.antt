@@ -10,7 +10,7 @@ use Rattle.sv_links.specs.Waiting.{WaitAct, Entered, Left}
 use Rattle.sv_links.specs.Queue.{IsQueue}
 use Rattle.sv_links.specs.Channels.{ChannelAct, SrqEnabled, SrqDisabled}
 use Rattle.sv_links.specs.ChannelRepresentation.{Channels, AreChannels, IsReady, HasRoomFor}
-use Rattle.sv_links.proofs.Rising.{with_link, enabled_enabled, enabled_disabled, enabled_sorted}
+use Rattle.sv_links.proofs.Rising.{with_link, links_after_enable, links_after_disable, enabled_sorted}
 use Rattle.sv_history.specs.declared.event.Config.{Config}
 use Rattle.sv_history.specs.Act.{DeviceAct, Linked, Waited, Channel, link_acts, wait_acts}
 use Rattle.sv_history.specs.Requests.{HearsOf}
@@ -119,7 +119,7 @@ device_enabled kept intr config acts lid conn handle is owns stands still =
     let now = stands room channel_log are in
     let link : Enabled = record { lid = lid; conn = conn; handle = handle } in
     let more : intr.enabled ≡ with_link link kept.intr.enabled =
-    now.enabled ∙ enabled_enabled link channel_log ∙ ap (with_link link) (sym are.enabled) in
+    now.enabled ∙ links_after_enable link channel_log ∙ ap (with_link link) (sym are.enabled) in
     device_channel kept intr config acts (SrqEnabled lid conn handle) is (λ t tells are. stands room t are)
     (rw more (owned_enabled kept.intr.enabled (link_acts acts) lid conn handle owned owns)) (λ c dials. still c (is.7 c dials))
 
@@ -140,7 +140,7 @@ device_disabled kept intr config acts lid is stands still =
     let (channel_log, tells, are, owned) = is.6 in
     let now = stands channel_log are in
     let less : intr.enabled ≡ filter (λ other. not (other.lid == lid)) kept.intr.enabled =
-    now.enabled ∙ enabled_disabled lid channel_log ∙ ap (λ (links : List Enabled). filter (λ other. not (other.lid == lid)) links)
+    now.enabled ∙ links_after_disable lid channel_log ∙ ap (λ (links : List Enabled). filter (λ other. not (other.lid == lid)) links)
     (sym are.enabled) in
     device_channel kept intr config acts (SrqDisabled lid) is (λ t tells are. stands t are)
     (rw less (owned_less (λ other. not (other.lid == lid)) kept.intr.enabled (link_acts acts) owned)) (λ c dials. still c (is.7 c dials))

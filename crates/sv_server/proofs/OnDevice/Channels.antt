@@ -17,13 +17,13 @@ use Rattle.sv_history.specs.declared.event.Refused.TheVariants.{NotSent}
 use Rattle.sv_links.specs.Waiting.{WaitAct, waits}
 use Rattle.sv_server.specs.Device.Representation.{Device as KeptDevice, IsDevice}
 use Rattle.sv_history.specs.History.{is_channel_shut, took_refusal}
-use Rattle.sv_history.proofs.Telling.{tells_once}
+use Rattle.sv_history.proofs.Telling.{channel_log_unique}
 
 -- what is kept of them, by what the acts tell
 channels_of : (kept : KeptDevice) (config : Config) (acts : List DeviceAct) (channel_log : List ChannelAct) → IsDevice kept config acts
     → HearsOf acts channel_log → AreChannels kept.intr channel_log
 channels_of kept config acts channel_log is tells =
-    subst (λ (l : List ChannelAct). AreChannels kept.intr l) (tells_once acts is.6.0 channel_log is.6.1 tells) is.6.2
+    subst (λ (l : List ChannelAct). AreChannels kept.intr l) (channel_log_unique acts is.6.0 channel_log is.6.1 tells) is.6.2
 
 -- bytes wait on an open one alone
 waits_where : (open_now : Bool) (bytes : List ℕ) → 0 < length (cond open_now bytes []) → open_now ≡ true

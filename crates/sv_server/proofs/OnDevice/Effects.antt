@@ -11,7 +11,7 @@ use Rattle.sv_instrument.specs.Representation.{Kept, StandsFor}
 use Rattle.sv_history.specs.declared.event.Config.{Config}
 use Rattle.sv_history.specs.Act.{Act, ConnAct, DeviceAct, CallTaken, Linked, On, of, device_acts, link_acts, instrument_acts}
 use Rattle.sv_history.specs.Effect.{Effect, acts_of}
-use Rattle.sv_history.proofs.Projections.{of_mine, of_other, of_shared, of_effect, others_effect, device_effect, link_acts_links, instrument_acts_links, ticks_links, wait_acts_links}
+use Rattle.sv_history.proofs.Projections.{of_own_act, of_other_act, of_device_acts, of_effect, of_others_effect, device_effect, link_acts_links, instrument_acts_links, ticks_links, wait_acts_links}
 use Rattle.sv_server.specs.Device.Representation.{IsDevice, HasDone, AreTold, Device as KeptDevice}
 
 -- what happens to the instrument happens to nothing else
@@ -47,12 +47,12 @@ taken_parts c effect call log = append_assoc (acts_of c effect) (On c (CallTaken
 pub of_taken : (c : ℕ) (effect : Effect) (call : List ℕ) (log : List Act)
     → of c ((acts_of c effect ++ On c (CallTaken call) ∷ []) ++ log) ≡ effect.own ++ CallTaken call ∷ of c log
 of_taken c effect call log = ap (of c) (taken_parts c effect call log) ∙ of_effect c effect (On c (CallTaken call) ∷ log)
-    ∙ ap (λ (acts : List ConnAct). effect.own ++ acts) (of_mine c (CallTaken call) log)
+    ∙ ap (λ (acts : List ConnAct). effect.own ++ acts) (of_own_act c (CallTaken call) log)
 
 pub others_taken : (c d : ℕ) (effect : Effect) (call : List ℕ) (log : List Act) → d ≢ c
     → of d ((acts_of c effect ++ On c (CallTaken call) ∷ []) ++ log) ≡ of d log
 others_taken c d effect call log ne = ap (of d) (taken_parts c effect call log)
-    ∙ others_effect c d effect (On c (CallTaken call) ∷ log) ne ∙ of_other c d (CallTaken call) log ne
+    ∙ of_others_effect c d effect (On c (CallTaken call) ∷ log) ne ∙ of_other_act c d (CallTaken call) log ne
 
 pub device_taken : (c : ℕ) (effect : Effect) (call : List ℕ) (log : List Act)
     → device_acts ((acts_of c effect ++ On c (CallTaken call) ∷ []) ++ log) ≡ effect.adds ++ device_acts log
@@ -60,4 +60,4 @@ device_taken c effect call log = ap device_acts (taken_parts c effect call log) 
 
 -- an effect without acts of its connection
 pub of_same : (c d : ℕ) (effect : Effect) (log : List Act) → effect.own ≡ [] → of d (acts_of c effect ++ log) ≡ of d log
-of_same c d effect log none = rw none (of_shared d effect.adds log)
+of_same c d effect log none = rw none (of_device_acts d effect.adds log)

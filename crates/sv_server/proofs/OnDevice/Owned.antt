@@ -10,8 +10,8 @@ use Rattle.sv_links.specs.Links.{LinkAct, Made, Destroyed, live, owner, is_of, l
 use Rattle.sv_links.specs.Table.{IsRising}
 use Rattle.sv_links.specs.Channels.{ChannelAct, SrqDisabled}
 use Rattle.sv_links.specs.ChannelRepresentation.{IsSorted, without_links, of_others}
-use Rattle.sv_links.proofs.Asking.{below, above, sorted_filter}
-use Rattle.sv_links.proofs.Tables.{Below, above_filter, other_than}
+use Rattle.sv_links.proofs.Asking.{lower_links, higher_links, sorted_filter}
+use Rattle.sv_links.proofs.Tables.{IsOlder, above_filter, other_than}
 use Rattle.sv_links.specs.Limits.{max_links}
 use Rattle.sv_history.specs.Act.{DeviceAct, Linked, link_acts}
 use Rattle.sv_server.specs.Device.Representation.{AreOwned}
@@ -86,10 +86,11 @@ owned_destroyed links acts lid owned = all_passing (λ link. owner link.lid acts
 
 -- a link that begins to ask, of its own connection
 pub owned_enabled : (links : List Enabled) (acts : List LinkAct) (lid conn : ℕ) (handle : List ℕ) → AreOwned links acts
-    → owner lid acts ≡ Some conn → AreOwned (below lid links ++ record { lid = lid; conn = conn; handle = handle } ∷ above lid links) acts
+    → owner lid acts ≡ Some conn
+    → AreOwned (lower_links lid links ++ record { lid = lid; conn = conn; handle = handle } ∷ higher_links lid links) acts
 owned_enabled links acts lid conn handle owned own =
     let P : Enabled → Type 0 = λ link. owner link.lid acts ≡ Some link.conn in
-    all_join P (below lid links) (record { lid = lid; conn = conn; handle = handle } ∷ above lid links)
+    all_join P (lower_links lid links) (record { lid = lid; conn = conn; handle = handle } ∷ higher_links lid links)
     (all_passing P P (λ other. nat_lt other.lid lid) links (λ link e h. h) owned)
     (own, all_passing P P (λ other. nat_lt lid other.lid) links (λ link e h. h) owned)
 
@@ -99,7 +100,7 @@ owned_enabled links acts lid conn handle owned own =
 abbrev named : ℕ → List ℕ → Bool
 named lid numbers = list_any (λ number. eqb number lid) numbers
 
-none_named : (x : Link) (xs : List Link) → AllByRecursion (Below x) xs → named x.lid (map (λ link. link.lid) xs) ≡ false
+none_named : (x : Link) (xs : List Link) → AllByRecursion (IsOlder x) xs → named x.lid (map (λ link. link.lid) xs) ≡ false
 none_named x [] h = refl
 none_named x (y ∷ xs) h = rw (ne_eqb y.lid x.lid (λ e. absurd (omega (arith, h.0, e)))) (none_named x xs h.1)
 

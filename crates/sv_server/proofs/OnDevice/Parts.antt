@@ -15,11 +15,11 @@ use Rattle.sv_links.specs.Table.{Table, IsTable, IsRising}
 use Rattle.sv_links.specs.declared.enabled.Enabled.{Enabled}
 use Rattle.sv_links.specs.Channels.{ChannelAct, SrqDisabled}
 use Rattle.sv_links.specs.ChannelRepresentation.{Channels, Channel, AreChannels, IsReady, is_prepared, without_links, of_others}
-use Rattle.sv_links.proofs.Rising.{enabled_disabled}
+use Rattle.sv_links.proofs.Rising.{links_after_disable}
 use Rattle.sv_links.specs.Waiting.{WaitAct, Entered, Again, Left, waits}
 use Rattle.sv_links.specs.Queue.{IsQueue, creates, creations, without}
-use Rattle.sv_links.proofs.Counted.{creations_without, creations_push, creations_other}
-use Rattle.sv_links.proofs.Live.{closing_live, destroyed_live}
+use Rattle.sv_links.proofs.Counted.{creations_without, creations_after_entering, creations_after_other_call}
+use Rattle.sv_links.proofs.Live.{closing_adds_no_live, destroyed_adds_no_live}
 use Rattle.sv_links.specs.Limits.{max_links}
 use Rattle.sv_exchange.specs.Limits.{max_message}
 use Rattle.sv_history.specs.declared.event.Config.{Config}
@@ -82,12 +82,12 @@ device_left kept waiting config acts c (links, instrument, set_up, clock, before
 
 entered_fewer : (entry : Entry) (old new : List Entry) → new ≡ without entry.conn old ++ entry ∷ [] → creations new ≤ creations old + 1
 entered_fewer entry old new e =
-    rw e (omega (arith, creations_push (without entry.conn old) entry, creations_without entry.conn old))
+    rw e (omega (arith, creations_after_entering (without entry.conn old) entry, creations_without entry.conn old))
 
 pub entered_other : (entry : Entry) (old new : List Entry) → new ≡ without entry.conn old ++ entry ∷ [] → creates entry ≡ false
     → creations new ≤ creations old
 entered_other entry old new e other =
-    rw e (omega (arith, creations_other (without entry.conn old) entry other, creations_without entry.conn old))
+    rw e (omega (arith, creations_after_other_call (without entry.conn old) entry other, creations_without entry.conn old))
 
 pub device_entered : (kept : Device) (waiting : List Entry) (config : Config) (acts : List DeviceAct) (entry : Entry)
     → IsDevice kept config acts → IsQueue waiting (Entered entry.conn entry.lid entry.wait entry.deadline ∷ wait_acts acts)
@@ -162,7 +162,7 @@ pub device_closed : (kept : Device) (links : Table) (intr : Channels) (config : 
     → IsDevice (record kept { links = links; intr = intr }) config (map Linked (closing c (link_acts acts)) ++ acts)
 device_closed kept links intr config acts c is stands spare disables without same =
     device_linked kept links intr config acts (closing c (link_acts acts)) is stands
-    (omega (arith, is.5.0, closing_live c (link_acts acts))) (omega (arith, is.5.1, spare))
+    (omega (arith, is.5.0, closing_adds_no_live c (link_acts acts))) (omega (arith, is.5.1, spare))
     (told_closed kept.intr intr acts c kept.links.made is.6 is.0.rising disables without) (ready_same kept.intr intr same)
 
 told_destroyed : (old intr : Channels) (acts : List DeviceAct) (lid : ℕ) → AreTold old acts
@@ -171,7 +171,7 @@ told_destroyed : (old intr : Channels) (acts : List DeviceAct) (lid : ℕ) → A
 told_destroyed old intr acts lid (channel_log, tells, are, owned) disables =
     let now = disables channel_log are in
     let less : intr.enabled ≡ filter (λ other. not (other.lid == lid)) old.enabled =
-    now.enabled ∙ enabled_disabled lid channel_log ∙ ap (λ (links : List Enabled). filter (λ other. not (other.lid == lid)) links)
+    now.enabled ∙ links_after_disable lid channel_log ∙ ap (λ (links : List Enabled). filter (λ other. not (other.lid == lid)) links)
     (sym are.enabled) in
     (SrqDisabled lid ∷ channel_log, (channel_log, tells, refl), now, rw less (owned_destroyed old.enabled (link_acts acts) lid owned))
 
@@ -182,7 +182,7 @@ pub device_destroyed : (kept : Device) (links : Table) (intr : Channels) (config
     → IsDevice (record kept { links = links; intr = intr }) config (Linked (Destroyed lid) ∷ acts)
 device_destroyed kept links intr config acts lid is stands spare disables same =
     device_linked kept links intr config acts (Destroyed lid ∷ []) is stands
-    (omega (arith, is.5.0, destroyed_live lid (link_acts acts))) (omega (arith, is.5.1, spare))
+    (omega (arith, is.5.0, destroyed_adds_no_live lid (link_acts acts))) (omega (arith, is.5.1, spare))
     (told_destroyed kept.intr intr acts lid is.6 disables) (ready_same kept.intr intr same)
 
 pub device_locked : (kept : Device) (links : Table) (config : Config) (acts : List DeviceAct) (lid : ℕ)

@@ -10,10 +10,10 @@ use Rattle.sv_instrument.specs.RequestCount.{Raise}
 use Rattle.sv_history.specs.declared.event.Config.{Config}
 use Rattle.sv_history.specs.Act.{DeviceAct, Applied, instrument_acts}
 use Rattle.sv_server.specs.Device.Representation.{Device, IsDevice, HasDone}
-use Rattle.sv_history.proofs.Projections.{link_acts_happened, instrument_acts_happened, ticks_happened, wait_acts_happened}
+use Rattle.sv_history.proofs.Projections.{link_acts_applied, instrument_acts_applied, ticks_applied, wait_acts_applied}
 use Rattle.sv_server.proofs.OnDevice.Effects.{device_done}
 use Rattle.sv_server.specs.Device.Inside.Outcome.{InstrumentSteps}
-use Rattle.sv_history.proofs.Telling.{requests, tells_raised}
+use Rattle.sv_history.proofs.Telling.{requests, channel_log_after_requests}
 
 -- what stands for acts stands with so many requests more behind them
 abbrev pub Tolls : Channels → Channels → ℕ → Type 0
@@ -25,14 +25,15 @@ pub device_raised : (kept : Device) (intr : Channels) (config : Config) (acts : 
     → ((c : ℕ) → IsReady kept.intr c → IsReady intr c)
     → IsDevice (record kept { intr = intr }) config (map Applied adds ++ acts)
 device_raised kept intr config acts adds n (links, instrument, set_up, clock, waiting, reserved, was, ready) raise tolls same still = (
-  rw (link_acts_happened adds acts) links,
-  rw (instrument_acts_happened adds acts) instrument,
+  rw (link_acts_applied adds acts) links,
+  rw (instrument_acts_applied adds acts) instrument,
   set_up,
-  rw (ticks_happened adds acts) clock,
-  rw (wait_acts_happened adds acts) waiting,
-  (rw (link_acts_happened adds acts) reserved.0, reserved.1),
-  (requests n was.0, tells_raised adds acts was.0 n raise was.1, tolls was.0 was.2, rw (link_acts_happened adds acts, same) was.3),
-  rw (wait_acts_happened adds acts) (λ c dials. still c (ready c dials)),
+  rw (ticks_applied adds acts) clock,
+  rw (wait_acts_applied adds acts) waiting,
+  (rw (link_acts_applied adds acts) reserved.0, reserved.1),
+  (requests n was.0, channel_log_after_requests adds acts was.0 n raise was.1, tolls was.0 was.2, rw (link_acts_applied adds acts, same)
+      was.3),
+  rw (wait_acts_applied adds acts) (λ c dials. still c (ready c dials)),
 )
 
 -- what ran raised so many

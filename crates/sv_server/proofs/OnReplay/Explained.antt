@@ -4,7 +4,7 @@ use Rattle.std.specs.Prelude.{Result, Ok, Err, ⊤}
 use Rattle.std.specs.Io.KnownBytes.{Appends}
 use Rattle.sv_print.specs.TakenByWriter.{IsFront}
 use Rattle.sv_print.specs.Printed.{Prints}
-use Rattle.sv_print.proofs.Taking.{appends_then, prints_then, prints_as}
+use Rattle.sv_print.proofs.Taking.{appends_then, prints_then, prints_equal_text}
 use Rattle.sv_history.specs.declared.event.Config.{Config}
 use Rattle.sv_history.specs.declared.event.Did.{Did}
 use Rattle.sv_history.specs.declared.event.Refused.{Refused}
@@ -44,7 +44,7 @@ told_refused line config event log refused old new w0 w1 w2 f0 f1 f2 rep acts sa
   (
     head_line line (clock_at config log) ++ taken_line event log,
     refl,
-    prints_as w0 w2 f0 f2 (lines_before line config event log ++ tick_line line (clock_at config log) event)
+    prints_equal_text w0 w2 f0 f2 (lines_before line config event log ++ tick_line line (clock_at config log) event)
         (head_line line (clock_at config log) ++ taken_line event log) (refused_lines line config event log)
         (prints_then w0 w1 w2 f0 f1 f2 (lines_before line config event log) (tick_line line (clock_at config log) event) first
         (subst (λ (clock : ℕ). Prints w1 f1 w2 f2 (tick_line line clock event)) (ap (λ (st : State). st.device.clock) same ∙ rep.device.3)
@@ -86,7 +86,7 @@ module _ (line : ℕ) (config : Config) (event : PlainEvent) (log : List Act) (d
         (
           head_line line (clock_after config event log) ++ (taken_line event log ++ rest),
           (polled, before, after, n, steps, last, said, shows, seen, tells, refl),
-          prints_as w0 w4 f0 f4
+          prints_equal_text w0 w4 f0 f4
               (lines_before line config event log ++ (tick_line line (clock_at config own) event ++ rest))
               (head_line line (clock_after config event log) ++ (taken_line event log ++ rest))
               (event_lines line polled config event log rest)

@@ -15,7 +15,7 @@ use Rattle.sv_history.specs.Connection.{waiting, waiting_on}
 use Rattle.sv_server.specs.Server.State.{State}
 use Rattle.sv_history.specs.Print.{port_of, below, ports, port_line, port_name, lines_of, with_took, with_tooks}
 use Rattle.sv_server.specs.Replay.Inside.Showing.{StandsBy, ShowsPort, ShowsAll, log_with_took, told_with_took}
-use Rattle.sv_history.proofs.Projections.{of_other}
+use Rattle.sv_history.proofs.Projections.{of_other_act}
 use Rattle.sv_server.proofs.OnDevice.Channels.{took_other}
 use Rattle.sv_print.proofs.Taking.{appends_then}
 
@@ -81,7 +81,7 @@ shown_other n m [] channel_log log less = refl
 shown_other n m (byte ∷ bytes) channel_log log less = elim (cases_lt n 16) [
   | inl within ↦ rw (lt-ltb n 16 within) (elim (cases_lt m 16) [
     | inl near ↦ rw (lt-ltb m 16 near)
-        (ap waiting (of_other n m (BytesTaken (length (byte ∷ bytes))) log (λ e. omega (arith, e))))
+        (ap waiting (of_other_act n m (BytesTaken (length (byte ∷ bytes))) log (λ e. omega (arith, e))))
     | inr far ↦ rw (le-ltb m 16 far) refl
   ])
   | inr beyond ↦ rw (le-ltb n 16 beyond, le-ltb m 16 (omega arith))

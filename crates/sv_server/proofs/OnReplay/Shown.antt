@@ -17,7 +17,7 @@ use Rattle.sv_history.specs.Interrupts.{has_channel}
 use Rattle.sv_history.specs.PolledStatus.{IsPolled}
 use Rattle.sv_history.proofs.StillSettled.{still_settled, channel_settled}
 use Rattle.sv_server.proofs.OnServer.Steps.{polled_now}
-use Rattle.sv_history.proofs.Telling.{has_channel_told}
+use Rattle.sv_history.proofs.Telling.{channel_open_by_channel_log}
 use Rattle.sv_server.proofs.OnDevice.Channels.{channel_open, channel_within, channel_shut_is}
 use Rattle.sv_history.specs.Connection.{is_open, bytes_left, waiting, waiting_on}
 use Rattle.sv_history.specs.History.{refusal, took_refusal, own_acts, wants_memory, is_shut, is_channel_shut}
@@ -144,7 +144,7 @@ stands_taken (Intr c) bytes config history channel_log log old new result (is_lo
     let some_wait : 0 < length (channel_waiting c channel_log) = rw (← is) some in
     let o = channel_open c channel_log some_wait in
     let within = channel_within old.device config (device_acts log) channel_log c rep.device tells o in
-    let there : has_channel c (device_acts log) ≡ true = sym (has_channel_told c (device_acts log) channel_log tells) ∙ o in
+    let there : has_channel c (device_acts log) ≡ true = sym (channel_open_by_channel_log c (device_acts log) channel_log tells) ∙ o in
     let none = channel_free c (length bytes) config channel_log log within there (ap (λ (l : List ℕ). length l) is) in
     let (polled, said) = polled_now old.device config (device_acts log) rep.device in
     let makes = makes_none (Intr c) (length bytes) config log polled result new said refl acts in

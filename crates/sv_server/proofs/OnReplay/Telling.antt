@@ -5,7 +5,7 @@ use Rattle.sv_scan.specs.declared.setting.State.TheVariants.{Idle, Waiting, Scan
 use Rattle.sv_scan.specs.Scan.{state}
 use Rattle.sv_layers.specs.Condition.{effective_acts}
 use Rattle.sv_print.specs.Printed.{Prints}
-use Rattle.sv_print.proofs.Taking.{prints_none, prints_then, prints_as}
+use Rattle.sv_print.proofs.Taking.{prints_none, prints_then, prints_equal_text}
 use Rattle.sv_history.specs.declared.event.Config.{Config}
 use Rattle.sv_history.specs.Event.{PlainEvent, Tick, Turn, Refuse}
 use Rattle.sv_history.specs.Act.{Act, device_acts, instrument_acts, ticks}
@@ -98,7 +98,7 @@ module _ (first mid now : State) (shown was : Shown) (w0 w1 w2 : Option (List �
           goes_settled config log middle reached still,
           stands,
         ),
-        prints_as w0 w2 f0 f2 (text ++ step_line name) text (ap (λ (l : List ℕ). text ++ l) empty ∙ append-nil text)
+        prints_equal_text w0 w2 f0 f2 (text ++ step_line name) text (ap (λ (l : List ℕ). text ++ l) empty ∙ append-nil text)
             (prints_then w0 w1 w2 f0 f1 f2 text (step_line name) put line),
       )
 

@@ -25,7 +25,7 @@ use Rattle.sv_server.specs.declared.device.resuming.Cause.TheVariants.{Able}
 use Rattle.sv_server.specs.Server.Inside.Acting.{TakesStep}
 use Rattle.sv_server.specs.Device.Inside.Outcome.{InstrumentSteps, MayResume, MayWaitAnew}
 use Rattle.sv_server.specs.Server.Inside.Ending.{HasPlaceOfLink}
-use Rattle.sv_history.proofs.Projections.{others_effect}
+use Rattle.sv_history.proofs.Projections.{of_others_effect}
 use Rattle.sv_server.proofs.OnDevice.Effects.{of_same}
 use Rattle.sv_server.proofs.OnServer.Taken.{taken_without, taken_anew, taken_one}
 use Rattle.sv_server.proofs.OnServer.Used.{unanswered_used}
@@ -73,7 +73,7 @@ pub gave_up_stands : (state : State) (config : Config) (log : List Act) (c : ℕ
     → Represents (record state { connections = set state.connections c kept; device = device }) config (acts_of c effect ++ log)
 gave_up_stands state config log c effect kept device rep sixteen lt done left call known =
     resumed state config log c effect kept device rep sixteen lt done
-    (rw left (taken_without c log (acts_of c effect ++ log) state.device.waiting (λ d ne. others_effect c d effect log ne) rep.taken))
+    (rw left (taken_without c log (acts_of c effect ++ log) state.device.waiting (λ d ne. of_others_effect c d effect log ne) rep.taken))
     (unanswered_used (of c log) call known)
 
 -- ---- it goes on
@@ -82,7 +82,7 @@ went_taken : (c : ℕ) (log : List Act) (call : List ℕ) (effect : Effect) (old
     → MayWaitAnew (effect.own ≡ []) c (creates_link (core_call call)) old new → AllByRecursion (IsTaken log) old
     → AllByRecursion (IsTaken (acts_of c effect ++ log)) new
 went_taken c log call effect old new known (inl left) taken =
-    rw left (taken_without c log (acts_of c effect ++ log) old (λ d ne. others_effect c d effect log ne) taken)
+    rw left (taken_without c log (acts_of c effect ++ log) old (λ d ne. of_others_effect c d effect log ne) taken)
 went_taken c log call effect old new known (inr (none, wait, deadline, is, other)) taken =
     rw is (taken_anew c wait deadline log (acts_of c effect ++ log) old (λ d. of_same c d effect log none)
     (λ its e. let same : call ≡ its = one_call call its (sym known ∙ e) in

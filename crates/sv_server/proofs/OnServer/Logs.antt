@@ -21,7 +21,7 @@ use Rattle.sv_server.specs.Connection.Representation.{Connection, IsConnection}
 use Rattle.sv_server.specs.Device.Representation.{IsDevice, Device as KeptDevice}
 use Rattle.sv_server.specs.Server.State.{State, Represents, IsTaken}
 use Rattle.sv_history.specs.History.{is_shut}
-use Rattle.sv_history.proofs.Projections.{of_mine, of_other, of_shared, device_shared, of_effect, others_effect, device_effect}
+use Rattle.sv_history.proofs.Projections.{of_own_act, of_other_act, of_device_acts, device_acts_append, of_effect, of_others_effect, device_effect}
 use Rattle.sv_server.proofs.OnDevice.Effects.{of_taken, others_taken, device_taken}
 use Rattle.sv_history.specs.Queries.{IsUsed}
 use Rattle.sv_server.proofs.OnServer.Used.{behind, used_acted, used_act, used_same}
@@ -85,9 +85,9 @@ pub one_act : (state : State) (config : Config) (log : List Act) (c : ℕ) (old 
     → Represents (record state { connections = set state.connections c new; connections_used = n }) config (On c act ∷ log)
 one_act state config log c old new act rep sixteen lt e goes known n connections_used =
     acted state config log (On c act ∷ log) c new state.device rep sixteen lt
-    (rw of_mine (goes (connection_of state config log c old rep lt e))) rep.device (λ d ne. of_other c d act log ne)
-    (taken_acted c log (On c act ∷ log) state.device.waiting (λ d ne. of_other c d act log ne)
-    (λ call h. ap pending_call (of_mine c act log) ∙ known call h) rep.taken) n connections_used
+    (rw of_own_act (goes (connection_of state config log c old rep lt e))) rep.device (λ d ne. of_other_act c d act log ne)
+    (taken_acted c log (On c act ∷ log) state.device.waiting (λ d ne. of_other_act c d act log ne)
+    (λ call h. ap pending_call (of_own_act c act log) ∙ known call h) rep.taken) n connections_used
 
 -- no call of a connection that is shut waits
 pub none_taken : (kept : Connection) (acts : List ConnAct) (call : List ℕ) → IsConnection kept acts → kept.busy ≡ false
@@ -99,12 +99,12 @@ pub shared_acts : (state : State) (config : Config) (log : List Act) (device : K
     → Represents state config log → IsDevice device config (adds ++ device_acts log) → device.waiting ≡ state.device.waiting
     → Represents (record state { device = device }) config (map OnDevice adds ++ log)
 shared_acts state config log device adds rep all same = record {
-  each = λ c other below. rw (of_shared c adds log) (rep.each c other below);
-  beyond = λ c above. of_shared c adds log ∙ rep.beyond c above;
-  connections_used = used_same state.connections_used log (map OnDevice adds ++ log) rep.connections_used (λ c. of_shared c adds log);
-  device = rw (device_shared adds log) all;
-  taken = rw same (taken_acted 0 log (map OnDevice adds ++ log) state.device.waiting (λ d ne. of_shared d adds log)
-      (λ call known. ap pending_call (of_shared 0 adds log) ∙ known) rep.taken);
+  each = λ c other below. rw (of_device_acts c adds log) (rep.each c other below);
+  beyond = λ c above. of_device_acts c adds log ∙ rep.beyond c above;
+  connections_used = used_same state.connections_used log (map OnDevice adds ++ log) rep.connections_used (λ c. of_device_acts c adds log);
+  device = rw (device_acts_append adds log) all;
+  taken = rw same (taken_acted 0 log (map OnDevice adds ++ log) state.device.waiting (λ d ne. of_device_acts d adds log)
+      (λ call known. ap pending_call (of_device_acts 0 adds log) ∙ known) rep.taken);
 }
 
 -- a millisecond passes, and what it brings
@@ -132,18 +132,18 @@ closes : (state : State) (config : Config) (log : List Act) (c : ℕ) (old new :
 closes state config log c old new device rep sixteen lt e goes freed left there =
     let links = map Linked (closing c (link_acts (device_acts log))) in
     let adds = Channel (ChannelClosed c) ∷ links ++ Waited (Left c) ∷ [] in
-    let others = λ (d : ℕ) (ne : d ≢ c). of_shared d adds (On c PortClosed ∷ log) ∙ of_other c d PortClosed log ne in
+    let others = λ (d : ℕ) (ne : d ≢ c). of_device_acts d adds (On c PortClosed ∷ log) ∙ of_other_act c d PortClosed log ne in
     rw (append_assoc (map OnDevice adds) (On c PortClosed ∷ []) log)
     (acted state config log (map OnDevice adds ++ On c PortClosed ∷ log) c new device rep sixteen lt
-    (rw (of_shared c adds (On c PortClosed ∷ log), of_mine) (goes (connection_of state config log c old rep lt e)))
+    (rw (of_device_acts c adds (On c PortClosed ∷ log), of_own_act) (goes (connection_of state config log c old rep lt e)))
     (subst (λ (acts : List DeviceAct). IsDevice device config acts)
-    (sym (device_shared adds (On c PortClosed ∷ log)
+    (sym (device_acts_append adds (On c PortClosed ∷ log)
     ∙ append_assoc (Channel (ChannelClosed c) ∷ links) (Waited (Left c) ∷ []) (device_acts log))) (freed (device_acts log) rep.device))
     others
     (rw left (taken_without c log (map OnDevice adds ++ On c PortClosed ∷ log) state.device.waiting others rep.taken))
     state.connections_used
     (used_same state.connections_used (On c PortClosed ∷ log) (map OnDevice adds ++ On c PortClosed ∷ log)
-    (used_act state.connections_used c PortClosed log rep.connections_used there) (λ d. of_shared d adds (On c PortClosed ∷ log))))
+    (used_act state.connections_used c PortClosed log rep.connections_used there) (λ d. of_device_acts d adds (On c PortClosed ∷ log))))
 
 -- the same, of the number that an event names
 pub closes_named : (state : State) (config : Config) (log : List Act) (c named : ℕ) (old new : Connection) (device : KeptDevice)
@@ -200,6 +200,6 @@ pub resumed : (state : State) (config : Config) (log : List Act) (c : ℕ) (effe
     → Represents (record state { connections = set state.connections c kept; device = device }) config (acts_of c effect ++ log)
 resumed state config log c effect kept device rep sixteen lt (mine, all) taken there =
     acted state config log _ c kept device rep sixteen lt (rw (of_effect c effect log) mine) (rw (device_effect c effect log) all)
-    (λ d ne. others_effect c d effect log ne) taken state.connections_used
+    (λ d ne. of_others_effect c d effect log ne) taken state.connections_used
     (used_acted state.connections_used c log (acts_of c effect ++ log) rep.connections_used there
-    (λ z. behind effect.own (of c log) there (sym (of_effect c effect log) ∙ z)) (λ d ne. others_effect c d effect log ne))
+    (λ z. behind effect.own (of c log) there (sym (of_effect c effect log) ∙ z)) (λ d ne. of_others_effect c d effect log ne))

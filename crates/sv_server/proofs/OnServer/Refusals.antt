@@ -17,7 +17,7 @@ use Rattle.sv_history.specs.History.{refuse_refusal, refuse_acts, is_shut, is_be
 use Rattle.sv_server.specs.Connection.Representation.{Connection}
 use Rattle.sv_server.specs.Server.State.{State, Represents}
 use Rattle.sv_server.specs.Server.Inside.Acting.{Acts, Refuses, IsInput}
-use Rattle.sv_history.proofs.Projections.{of_mine, of_other}
+use Rattle.sv_history.proofs.Projections.{of_own_act, of_other_act}
 use Rattle.sv_history.specs.Limits.{longest_reply}
 use Rattle.sv_server.proofs.OnServer.Taken.{taken_acted}
 use Rattle.sv_server.proofs.OnServer.Used.{unshut_used, used_acted}
@@ -58,9 +58,9 @@ pub refuse_done : (state : State) (config : Config) (log : List Act) (c : ℕ) (
 refuse_done state config log c kept rep sixteen lt open_now (none, bytes, call, next, known, mine) =
     let answered = Replied (refused_reply call) in
     let mid : List Act = On c (CallTaken bytes) ∷ log in
-    let others = λ (d : ℕ) (ne : d ≢ c). of_other c d answered mid ne ∙ of_other c d (CallTaken bytes) log ne in
+    let others = λ (d : ℕ) (ne : d ≢ c). of_other_act c d answered mid ne ∙ of_other_act c d (CallTaken bytes) log ne in
     let here : of c (On c answered ∷ mid) ≡ answered ∷ CallTaken bytes ∷ of c log =
-    of_mine c answered mid ∙ ap (λ (l : List ConnAct). answered ∷ l) (of_mine c (CallTaken bytes) log) in (
+    of_own_act c answered mid ∙ ap (λ (l : List ConnAct). answered ∷ l) (of_own_act c (CallTaken bytes) log) in (
       λ channel_log tells. rw open_now none,
       refl,
       λ polled said. subst

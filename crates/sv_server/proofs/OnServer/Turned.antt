@@ -22,7 +22,7 @@ use Rattle.sv_server.specs.Connection.Inside.Requests.{xid_of}
 use Rattle.sv_server.specs.declared.server.execution.Executed.{Executed}
 use Rattle.sv_history.specs.Effect.{Effect}
 use Rattle.sv_history.specs.Request.{Request, NoCall, Decided, CoreRequest, PortRequest, abort_request, request_of, core_call_of, core_call, request_for, next_request}
-use Rattle.sv_history.proofs.Deciding.{unless_decided, header_reply, request_is}
+use Rattle.sv_history.proofs.Deciding.{request_unless_decided, header_reply, request_by_header}
 use Rattle.sv_history.specs.declared.event.Role.{Role}
 use Rattle.sv_history.specs.declared.event.Role.TheVariants.{Core, Abort, Portmap}
 use Rattle.sv_history.specs.Limits.{longest_reply}
@@ -53,14 +53,14 @@ decided_none xid (Ok (OnLink lid on)) call e = cc
 decided_none xid _ call e = cc
 
 core_unless : (role : Role) (header : PlainCall) (reply : Option Reply) (call : CoreCall)
-    → unless_decided role header reply ≡ CoreRequest call → role ≡ Core
+    → request_unless_decided role header reply ≡ CoreRequest call → role ≡ Core
 core_unless role header (Some reply) call e = absurd (let z : Decided header.xid reply ≡ CoreRequest call = e in cc)
 core_unless Core header None call e = refl
 core_unless Abort header None call e = absurd (decided_none header.xid _ call e)
 core_unless Portmap header None call e = absurd (let z : PortRequest header.xid header.args ≡ CoreRequest call = e in cc)
 
 core_alone : (role : Role) (read : Result PlainCall CallFault) (call : CoreCall) → request_of role read ≡ CoreRequest call → role ≡ Core
-core_alone role (Ok header) call e = core_unless role header (header_reply role header) call (sym (request_is role header) ∙ e)
+core_alone role (Ok header) call e = core_unless role header (header_reply role header) call (sym (request_by_header role header) ∙ e)
 core_alone role (Err (Version xid)) call e = absurd (let z : Decided xid Mismatch ≡ CoreRequest call = e in cc)
 core_alone role (Err BadHeader) call e = absurd (let z : NoCall ≡ CoreRequest call = e in cc)
 

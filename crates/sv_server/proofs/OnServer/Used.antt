@@ -6,7 +6,7 @@ use Rattle.sv_history.specs.Act.{Act, ConnAct, On, of}
 use Rattle.sv_history.specs.Connection.{is_open, pending_call}
 use Rattle.sv_history.specs.History.{is_shut}
 use Rattle.sv_history.specs.Queries.{IsUsed}
-use Rattle.sv_history.proofs.Projections.{of_mine, of_other}
+use Rattle.sv_history.proofs.Projections.{of_own_act, of_other_act}
 
 -- something was recorded of an open connection
 pub open_used : (acts : List ConnAct) → is_open acts ≡ true → acts ≢ []
@@ -48,7 +48,7 @@ used_acted n c log new (none, some) there still others = (
 
 pub used_act : (n c : ℕ) (act : ConnAct) (log : List Act) → IsUsed n log → of c log ≢ [] → IsUsed n (On c act ∷ log)
 used_act n c act log connections_used there = used_acted n c log (On c act ∷ log) connections_used there
-    (λ z. let e : act ∷ of c log ≡ [] = sym (of_mine c act log) ∙ z in absurd cc) (λ d ne. of_other c d act log ne)
+    (λ z. let e : act ∷ of c log ≡ [] = sym (of_own_act c act log) ∙ z in absurd cc) (λ d ne. of_other_act c d act log ne)
 
 -- no connection acts
 pub used_same : (n : ℕ) (log new : List Act) → IsUsed n log → ((d : ℕ) → of d new ≡ of d log) → IsUsed n new
@@ -65,9 +65,9 @@ pub used_opened : (n c m : ℕ) (act : ConnAct) (log : List Act) → m ≡ max n
 used_opened n c m act log most (none, some) = (
   λ d above.
       let (low, past) = above_of n c m d most above in
-      of_other c d act log (λ e. absurd (omega (arith, e, past))) ∙ none d low,
+      of_other_act c d act log (λ e. absurd (omega (arith, e, past))) ∙ none d low,
   λ d is. elim (cases_eq d c) [
-    | inl e ↦ λ z. let w : act ∷ of c log ≡ [] = sym (of_mine c act log) ∙ subst (λ (k : ℕ). of k (On c act ∷ log) ≡ []) e z in absurd cc
-    | inr ne ↦ λ z. some d (next_of n c m d most is ne) (sym (of_other c d act log ne) ∙ z)
+    | inl e ↦ λ z. let w : act ∷ of c log ≡ [] = sym (of_own_act c act log) ∙ subst (λ (k : ℕ). of k (On c act ∷ log) ≡ []) e z in absurd cc
+    | inr ne ↦ λ z. some d (next_of n c m d most is ne) (sym (of_other_act c d act log ne) ∙ z)
   ],
 )

@@ -7,7 +7,7 @@ use Rattle.std.proofs.lemmas.List.{get_or_past}
 use Rattle.std.proofs.lemmas.List.Folds.{concat-append}
 use Rattle.std.proofs.lemmas.List.FromFn.{map-range_with_len_more}
 use Rattle.sv_print.specs.Printed.{Prints}
-use Rattle.sv_print.proofs.Taking.{prints_then, prints_as}
+use Rattle.sv_print.proofs.Taking.{prints_then, prints_equal_text}
 use Rattle.sv_history.specs.Act.{Act}
 use Rattle.sv_explain.specs.declared.shown.ConnShown.{ConnShown}
 use Rattle.sv_explain.specs.Shown.{IsConn, AreConns, never_opened}
@@ -86,10 +86,10 @@ pub written_more : (old now new : List ConnShown) (n : ℕ) (one : ConnShown) (f
 written_more old now new n one first mid last f g h was put line = record {
   reached = omega (arith, put.2, was.reached, max_reaches (length now) n);
   rest = λ c le. put.1 c (λ e. absurd (omega (arith, e, le))) ∙ was.rest c (omega (arith, le));
-  lines = prints_as first last f h _ _ (sym (upto_more (lines_at old new) n)) (prints_then first mid last f g h _ _
-      (prints_as first mid f g _ _ (upto_same (lines_at old now) (lines_at old new) n
+  lines = prints_equal_text first last f h _ _ (sym (upto_more (lines_at old new) n)) (prints_then first mid last f g h _ _
+      (prints_equal_text first mid f g _ _ (upto_same (lines_at old now) (lines_at old new) n
       (λ c lt. ap (λ (x : ConnShown). conn_lines c (at old c) x) (sym (put.1 c (λ e. absurd (omega (arith, e, lt))))))) was.lines)
-      (prints_as mid last g h _ _ (ap (λ (x : ConnShown). conn_lines n x one) (was.rest n (omega arith))
+      (prints_equal_text mid last g h _ _ (ap (λ (x : ConnShown). conn_lines n x one) (was.rest n (omega arith))
       ∙ ap (λ (x : ConnShown). conn_lines n (at old n) x) (sym put.0)) line));
 }
   where
@@ -108,7 +108,7 @@ written_all old now n first last f g was old_le now_le le =
       get_or_past old c never_opened (omega (arith, old_le, past)),
       get_or_past now c never_opened (omega (arith, now_le, past)),
     ) (never_quiet c) in
-    prints_as first last f g _ _ (sym (upto_quiet (lines_at old now) n 16 le quiet)) was.lines
+    prints_equal_text first last f g _ _ (sym (upto_quiet (lines_at old now) n 16 le quiet)) was.lines
 
 -- a list with one entry set is no longer than `m`
 pub put_bounded : (m n : ℕ) (one : ConnShown) (old new : List ConnShown) → IsPut n one old new → length old ≤ m → n < m → length new ≤ m

@@ -9,7 +9,7 @@ use Rattle.sv_history.specs.declared.event.Config.{Config}
 use Rattle.sv_history.specs.Act.{Act, of, device_acts}
 use Rattle.sv_history.specs.Interrupts.{has_channel}
 use Rattle.sv_history.specs.History.{is_channel_shut}
-use Rattle.sv_history.proofs.Telling.{has_channel_told}
+use Rattle.sv_history.proofs.Telling.{channel_open_by_channel_log}
 use Rattle.sv_history.proofs.Unrecorded.{nothing_faulted}
 use Rattle.sv_explain.specs.Shown.{IsConn, never_opened}
 use Rattle.sv_server.specs.Server.State.{State, Represents, IsTaken}
@@ -44,5 +44,5 @@ never_told state config log c rep none shut = record {
   call_is = rw (rep.device.4.all c, no_entry log c state.device.waiting none rep.taken) refl;
   output_is = rw none refl;
   channel_is = sym shut;
-  requests_are = λ channel_log tells. rw (has_channel_told c (device_acts log) channel_log tells, shut) refl;
+  requests_are = λ channel_log tells. rw (channel_open_by_channel_log c (device_acts log) channel_log tells, shut) refl;
 }

@@ -1,5 +1,5 @@
 use Rattle.sv_explain.specs.Inside.Names.{left_line}
-use Rattle.sv_print.proofs.Taking.{prints_none, prints_more, prints_as}
+use Rattle.sv_print.proofs.Taking.{prints_none, prints_more, prints_equal_text}
 use Rattle.sv_explain.proofs.Printing.{line_unless, prints_all, without_lines}
 use Rattle.sv_explain.proofs.links.put_all_left.Goals as goal
 
@@ -13,6 +13,6 @@ loop-link-preserved g c =
 
 pub returns : goal.returns
 returns g c =
-    prints_as _ _ _ _ _ _ (without_lines (left_line c.args.of) c.args.new.now c.args.old.now)
+    prints_equal_text _ _ _ _ _ _ (without_lines (left_line c.args.of) c.args.new.now c.args.old.now)
     (prints_all (line_unless (left_line c.args.of) c.args.new.now) c.args.old.now c.loop-link.link-index _ _ _ _
     c.loop-link-test.false c.loop-link.invariant)

@@ -1,7 +1,7 @@
 use Rattle.std.proofs.Common.{◌≡◌, ◌∙◌, ap, sym, Ok, Err}
 use Rattle.sv_exchange.specs.Exchange.{UnitDue}
 use Rattle.sv_exchange.specs.Contents.{next_of}
-use Rattle.sv_exchange.proofs.Dues.{due_is}
+use Rattle.sv_exchange.proofs.Dues.{due_by_contents}
 use Rattle.sv_layers.specs.Act.{exchange_acts}
 use Rattle.sv_instrument.proofs.Units.{behaves_follows}
 use Rattle.sv_instrument.proofs.Dues.{unit_is_next}
@@ -11,7 +11,8 @@ pub returns-in-Ok-clause-behaves : goal.returns-in-Ok-clause-behaves
 returns-in-Ok-clause-behaves g c = λ start log h.
     let unit = c.requires.due.0 in
     let due : next_of c.exchange.result.now ≡ UnitDue unit = ap next_of c.exchange.ensures.value ∙ c.requires.due.1 in
-    let next = unit_is_next (exchange_acts log) unit (sym due ∙ due_is _ (exchange_acts log) (c.exchange.ensures.stands log h.stands)) in
+    let next = unit_is_next (exchange_acts log) unit
+        (sym due ∙ due_by_contents _ (exchange_acts log) (c.exchange.ensures.stands log h.stands)) in
     let read = c.in-Ok.ensures unit (c.lexed.ensures unit due) in
     (unit, next, behaves_follows unit _ _ (Ok c.in-Ok.order) log read (c.perform.ensures.behaves start log h))
 
@@ -19,7 +20,8 @@ pub returns-in-Err-clause-behaves : goal.returns-in-Err-clause-behaves
 returns-in-Err-clause-behaves g c = λ start log h.
     let unit = c.requires.due.0 in
     let due : next_of c.exchange.result.now ≡ UnitDue unit = ap next_of c.exchange.ensures.value ∙ c.requires.due.1 in
-    let next = unit_is_next (exchange_acts log) unit (sym due ∙ due_is _ (exchange_acts log) (c.exchange.ensures.stands log h.stands)) in
+    let next = unit_is_next (exchange_acts log) unit
+        (sym due ∙ due_by_contents _ (exchange_acts log) (c.exchange.ensures.stands log h.stands)) in
     let read = c.in-Err.ensures unit (c.lexed.ensures unit due) in
     (unit, next, behaves_follows unit _ _ (Err c.in-Err.code) log read (c.carry_out.ensures.behaves start log h))
 

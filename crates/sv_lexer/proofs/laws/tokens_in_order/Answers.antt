@@ -1,5 +1,5 @@
-use Rattle.sv_lexer.proofs.Order.{in_order}
+use Rattle.sv_lexer.proofs.Order.{tokens_come_in_order}
 use Rattle.sv_lexer.proofs.laws.tokens_in_order.Goals as goal
 
 pub returns : goal.returns
-returns c = in_order
+returns c = tokens_come_in_order

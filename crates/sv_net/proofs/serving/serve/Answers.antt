@@ -1,6 +1,6 @@
 use Rattle.std.proofs.Common.{◌≡◌, ◌+◌, ◌-◌, ◌∙◌, ap, sym, arith}
 use Rattle.sv_pace.specs.Pace.{Kept}
-use Rattle.sv_net.proofs.Running.{served_by, stopped_by, lost_after}
+use Rattle.sv_net.proofs.Running.{served_by, stopped_by, stopped_by_lost_event}
 use Rattle.sv_net.proofs.Pausing.{on_err}
 use Rattle.sv_net.proofs.serving.serve.Goals as goal
 
@@ -24,7 +24,7 @@ pub returns-then-is_lost-clause-err : goal.returns-then-is_lost-clause-err
 returns-then-is_lost-clause-err g c =
     let handed = c.stimulate.ensures.goes _ _ _ _ _ _ c.loop-made.invariant.ran in
     let ran = c.sweep.ensures.goes _ _ _ _ _ _ c.ticks.ensures.count handed in
-    lost_after g.J.Journal.lost g.M.Machine.fails (omega arith) (omega (arith, c.loop-made-test.true))
+    stopped_by_lost_event g.J.Journal.lost g.M.Machine.fails (omega arith) (omega (arith, c.loop-made-test.true))
     (rw c.journal.ensures at (sym c.is_lost.ensures ∙ c.if-is_lost.true)) ran
 
 pub returns-in_err-now-clause-err : goal.returns-in_err-now-clause-err

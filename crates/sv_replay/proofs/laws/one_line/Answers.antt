@@ -1,5 +1,5 @@
-use Rattle.sv_replay.proofs.Lines.{one_line}
+use Rattle.sv_replay.proofs.Lines.{line_meaning_unique}
 use Rattle.sv_replay.proofs.laws.one_line.Goals as goal
 
 pub returns : goal.returns
-returns c = one_line
+returns c = line_meaning_unique

@@ -1,6 +1,6 @@
 use Rattle.std.proofs.Common.{ℕ, subst, [], ◌++◌, ◌+◌, refl, arith}
 use Rattle.sv_print.proofs.Taking.{appends_none, appends_then}
-use Rattle.sv_replay.proofs.Printed.{ticks_none, ticks_more, ticks_stop, performs_stop}
+use Rattle.sv_replay.proofs.Printed.{ticks_none, ticks_more, ticks_stop, performs_fault}
 use Rattle.sv_replay.specs.Line.{Ticks}
 use Rattle.sv_replay.specs.Script.{events_of, Prints}
 use Rattle.sv_replay.proofs.perform.pass.Goals as goal
@@ -14,7 +14,7 @@ returns-in_err-apply g c = λ config history s.
     let (other, after, replays, now, more) = c.in_err-apply.ensures config middle stands in (
       text ++ other,
       after,
-      performs_stop c.args.mode config history _ c.in_err-apply.field-0.0 c.from_residual.result _ after c.from_residual.ensures.0
+      performs_fault c.args.mode config history _ c.in_err-apply.field-0.0 c.from_residual.result _ after c.from_residual.ensures.0
           c.from_residual.ensures.1
           (ticks_stop c.args.mode c.args.number config history c.loop.counter c.args.count c.in_err-apply.field-0.0 text other middle after
           c.loop-test.true prints

@@ -1,13 +1,13 @@
 -- Each turn of the loop reads one line.
 use Rattle.std.proofs.Common.{◌≡◌, ◌+◌, [], ◌∷◌, refl, arith, rules}
 use Rattle.sv_replay.specs.Script.{parts}
-use Rattle.sv_replay.proofs.Scenarios.{read_line, read_last, read_stop}
+use Rattle.sv_replay.proofs.Scenarios.{read_line, read_last, reading_passes_fault_on}
 use Rattle.sv_replay.proofs.scenario.read_scenario.Goals as goal
 
 pub returns-in_err-least : goal.returns-in_err-least
 returns-in_err-least g c =
     let cut = rw c.in_default-Some.is-1 at c.first_part.ensures.parts in
-    read_stop _ c.args.text.now c.loop-line.rest.now c.first_part.result.0.now _ c.loop-line.number (c.loop-line.number + 1)
+    reading_passes_fault_on _ c.args.text.now c.loop-line.rest.now c.first_part.result.0.now _ c.loop-line.number (c.loop-line.number + 1)
     c.loop-line.least c.loop-line.entries.items c.add.new.entries.items c.in_err-least.field-0.0 c.from_residual.result
     c.loop-line.invariant.0 cut refl c.in_err-least.ensures c.from_residual.ensures.0 c.from_residual.ensures.1
 
@@ -22,7 +22,8 @@ loop-line-preserved g c = rw c.in_default-Some.is-1 (
 pub returns-in_err-add : goal.returns-in_err-add
 returns-in_err-add g c =
     let last : parts c.loop-line.rest.now ≡ c.loop-line.rest.now ∷ [] = search rules in
-    read_stop _ c.args.text.now c.loop-line.rest.now c.loop-line.rest.now [] c.loop-line.number (c.loop-line.number + 1) c.loop-line.least
+    reading_passes_fault_on _ c.args.text.now c.loop-line.rest.now c.loop-line.rest.now [] c.loop-line.number (c.loop-line.number + 1)
+        c.loop-line.least
     c.loop-line.entries.items c.add-2.new.entries.items c.in_err-add.field-0.0 c.from_residual-in_err-add.result c.loop-line.invariant.0
     last refl c.in_err-add.ensures c.from_residual-in_err-add.ensures.0 c.from_residual-in_err-add.ensures.1
 

@@ -1,7 +1,7 @@
 use Rattle.std.proofs.Common.{rules, ℕ, map, take, drop, suc, arith, ap, length}
 use Rattle.sv_xdr.specs.Spelling.{spelling, Unsigned}
 use Rattle.std.proofs.lemmas.Result.{err_from_is_err_and}
-use Rattle.sv_rpc.proofs.Written.{one_more, cut_at, appends_stays}
+use Rattle.sv_rpc.proofs.Written.{appends_next_piece, split_at_piece, appends_stays}
 use Rattle.sv_rpc.proofs.reply.words.Goals as goal
 
 pub returns-in_err-u32-clause-writes : goal.returns-in_err-u32-clause-writes
@@ -17,7 +17,7 @@ returns-in_err-u32-clause-writes c =
       map f (take i words),
       map f (drop (suc i) words),
       _,
-      cut_at f words i c.loop-word-test.true,
+      split_at_piece f words i c.loop-word-test.true,
       written,
       omega (arith, ap length e.2.rest),
     )
@@ -27,6 +27,6 @@ loop-word-preserved c =
     record {
       same_buffer = search rules;
       written =
-          one_more (λ word. spelling (Unsigned word)) c.args.words.now c.loop-word.word-index c.args.writer.now c.loop-word.writer
+          appends_next_piece (λ word. spelling (Unsigned word)) c.args.words.now c.loop-word.word-index c.args.writer.now c.loop-word.writer
           c.u32.new.self c.loop-word-test.true c.loop-word.invariant.written c.in_ok-u32.ensures.exact;
     }

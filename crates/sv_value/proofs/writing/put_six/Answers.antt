@@ -1,7 +1,7 @@
 use Rattle.std.proofs.Common.{◌∙◌, ◌-◌, ◌++◌, List, ℕ, refl, ap, sym, length, take, drop, arith}
 use Rattle.std.specs.Prelude.{replicate}
 use Rattle.std.proofs.lemmas.List.{append_assoc, length-append, length-replicate}
-use Rattle.sv_value.proofs.Printed.{six_behind, six_zeros, zeros_are, six_short}
+use Rattle.sv_value.proofs.Printed.{six_digits_written, six_zeros, zeros_are, six_short}
 use Rattle.sv_value.proofs.writing.put_six.Goals as goal
 
 pub returns-clause-text : goal.returns-clause-text
@@ -15,5 +15,5 @@ returns-clause-text c text rest size e =
     let first = c.put-behind.ensures.text text rest size e ∙ simp append_assoc refl in
     let second = c.put.ensures.text (text ++ zeros) (drop (length zeros) rest)
     (length-append text zeros ∙ omega (arith, size, c.put-behind.ensures.place)) first in
-    six_behind text rest zeros c.as_bytes-digits.result.now c.put.new.out _ (omega (arith, count, few, short))
+    six_digits_written text rest zeros c.as_bytes-digits.result.now c.put.new.out _ (omega (arith, count, few, short))
     (ap (λ ds. replicate (6 - length ds) 48 ++ ds) (sym digits) ∙ ap (λ z. z ++ c.as_bytes-digits.result.now) (sym are)) second

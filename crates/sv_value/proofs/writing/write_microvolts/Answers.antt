@@ -3,7 +3,7 @@ use Rattle.std.proofs.lemmas.Int.{to_z-of_z}
 use Rattle.std.specs.Prelude.{decimal, unsigned_abs}
 use Rattle.std.proofs.lemmas.List.{append_assoc, length-append}
 use Rattle.sv_value.specs.PrintedVoltage.{six_digits, sign}
-use Rattle.sv_value.proofs.Printed.{length_six, all_behind, voltage_same, voltage_size}
+use Rattle.sv_value.proofs.Printed.{length_six, voltage_is_written, voltage_same, voltage_size}
 use Rattle.sv_value.proofs.writing.write_microvolts.Goals as goal
 
 below : (n : ℕ) → n % 1000000 < 1000000
@@ -33,7 +33,7 @@ returns-clause-text c =
     let four = c.put_six.ensures.text (((c.sign_of.result ∷ []) ++ volts) ++ 46 ∷ []) (drop 1 (drop (length volts) (drop 1 old)))
     (omega (arith, point, c.put-size.ensures.place, c.put-size-2.ensures.place, c.put-size-3.ensures.place))
     (three ∙ simp append_assoc refl) in
-    all_behind old c.put_six.new.out volts (six_digits (c.unsigned_abs-magnitude.result % 1000000)) c.sign_of.result
+    voltage_is_written old c.put_six.new.out volts (six_digits (c.unsigned_abs-magnitude.result % 1000000)) c.sign_of.result
     (length_six (c.unsigned_abs-magnitude.result % 1000000) (below c.unsigned_abs-magnitude.result)) four
     ∙ voltage_same old volts (decimal (unsigned_abs c.args.value / 1000000)) c.sign_of.result (sign c.args.value)
     (c.unsigned_abs-magnitude.result % 1000000) (unsigned_abs c.args.value % 1000000)

@@ -1,14 +1,14 @@
 use Rattle.std.proofs.Common.{rules, pos, ◌<◌, List, [], ◌∷◌, length, ℕ, subst}
 use Rattle.sv_xdr.specs.Spelling.{spelling, Signed, Opaque}
 use Rattle.sv_xdr.specs.Writer.{Appends, Writes}
-use Rattle.sv_xdr.proofs.Appended.{each_ends, each_first, each_last}
+use Rattle.sv_xdr.proofs.Appended.{each_stops_at_fault, each_first, each_last}
 use Rattle.sv_vxi.specs.ErrorCode.{unless_error}
 use Rattle.sv_vxi.specs.Reason.{reason_number}
 use Rattle.sv_vxi.specs.Results.{error_field}
 use Rattle.sv_vxi.proofs.results.write_read.Goals as goal
 
 pub returns-in_err-i32-2-clause-writes : goal.returns-in_err-i32-2-clause-writes
-returns-in_err-i32-2-clause-writes c = λ fits. search (rules, each_ends, each_first, c.in_ok-i32.ensures.exact)
+returns-in_err-i32-2-clause-writes c = λ fits. search (rules, each_stops_at_fault, each_first, c.in_ok-i32.ensures.exact)
 
 pub returns-clause-writes : goal.returns-clause-writes
 returns-clause-writes c = λ fits.

@@ -1,7 +1,7 @@
 use Rattle.std.proofs.Common.{◌≡◌, ◌+◌, ◌||◌, cond, nat_lt, drop, ◌++◌, length, arith}
 use Rattle.std.proofs.lemmas.Grind.{common_steps}
 use Rattle.sv_exchange.proofs.Stands.{accept_stands, not_true}
-use Rattle.sv_exchange.proofs.Fields.{accept_holds, open_end}
+use Rattle.sv_exchange.proofs.Fields.{contents_after_accept, open_message_end}
 use Rattle.sv_exchange.proofs.exchange.Exchange.accept.Goals as goal
 use Rattle.sv_exchange.proofs.exchange.Exchange.accept.Goals.{then-self, else-self}
 use Rattle.sv_exchange.specs.Limits.{max_message}
@@ -9,7 +9,7 @@ use Rattle.sv_exchange.specs.Limits.{max_message}
 pub returns-clause-value : goal.returns-clause-value
 returns-clause-value g c =
     let unended = not_true _ (rw (← c.self.view_is) at c.requires.«open») in
-    let all = open_end c.self.inside.ended _ _ _ _ unended c.self.invariant.0.bounds in
+    let all = open_message_end c.self.inside.ended _ _ _ _ unended c.self.invariant.0.bounds in
     let text_is : c.append.new.bytes.items ≡ drop c.self.inside.cursor c.self.inside.text.items ++ c.args.bytes.now =
     grind (arith, common_steps) in
     let before_is : c.len-before.result ≡ length (drop c.self.inside.cursor c.self.inside.text.items) = grind (arith, common_steps) in
@@ -18,7 +18,7 @@ returns-clause-value g c =
     elim c.if-self.branch [ then-self w ↦ rw w.if-self.true w.self-is | else-self w ↦ rw w.if-self.false w.self-is ] in
     let cut = c.first_message-cut.ensures in
     rw (← c.self.view_is)
-    (accept_holds c.self.inside.text.items _ c.args.bytes.now _ _ _ c.self.inside.next_start _ _ _ c.self.inside.ended _
+    (contents_after_accept c.self.inside.text.items _ c.args.bytes.now _ _ _ c.self.inside.next_start _ _ _ c.self.inside.ended _
     c.self.inside.end_pending _ c.self.inside.overlong c.self.inside.overrun_reported c.self.inside.answers_dropped
     c.self.inside.answering _
     c.self.inside.response.items c.self.inside.read c.self.inside.executed all text_is before_is cut.size cut.next_start cut.ended

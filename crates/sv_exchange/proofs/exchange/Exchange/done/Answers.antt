@@ -1,6 +1,6 @@
 use Rattle.std.proofs.Common.{arith}
 use Rattle.sv_exchange.proofs.Stands.{done_stands}
-use Rattle.sv_exchange.proofs.Fields.{done_holds}
+use Rattle.sv_exchange.proofs.Fields.{contents_after_unit}
 use Rattle.sv_exchange.proofs.exchange.Exchange.done.Goals as goal
 
 pub returns-in-Some-clause-stands : goal.returns-in-Some-clause-stands
@@ -8,7 +8,8 @@ returns-in-Some-clause-stands g c =
     let due = rw (← c.self.view_is) at c.requires in
     let first = rw c.deref.ensures.value at c.in-Some.ensures in
     let holds =
-    done_holds c.self.inside.text.items _ _ c.self.inside.next_start c.self.inside.ended c.self.inside.end_pending c.self.inside.overlong
+    contents_after_unit c.self.inside.text.items _ _ c.self.inside.next_start c.self.inside.ended c.self.inside.end_pending
+        c.self.inside.overlong
     c.self.inside.overrun_reported c.self.inside.answers_dropped c.self.inside.answering c.self.inside.response.items c.self.inside.read
     c.self.inside.executed c.in-Some.count
     c.self.invariant.0.order.0 (omega (arith, c.self.invariant.0.order)) first.within.1 in

@@ -1,8 +1,8 @@
 use Rattle.std.proofs.Common.{◌≤◌, length}
-use Rattle.sv_exchange.proofs.Dues.{at_finish}
+use Rattle.sv_exchange.proofs.Dues.{finish_due_has_ended}
 use Rattle.sv_exchange.proofs.Measures.{finish_measure}
 use Rattle.sv_exchange.proofs.Stands.{finish_stands}
-use Rattle.sv_exchange.proofs.Fields.{few_later, finish_fields}
+use Rattle.sv_exchange.proofs.Fields.{later_is_one_write, finish_fields}
 use Rattle.sv_exchange.proofs.exchange.Exchange.finish.Goals as goal
 use Rattle.sv_exchange.specs.Limits.{max_message}
 
@@ -18,8 +18,8 @@ returns-clause-value g c =
 
 pub returns-clause-stands : goal.returns-clause-stands
 returns-clause-stands g c =
-    let few : length c.args.self.now.later ≤ max_message = rw (← c.self.view_is) (few_later _ _ _ _ _ c.self.invariant.0.bounds) in
-    λ acts s. finish_stands c.args.self.now _ acts (at_finish c.args.self.now c.requires) few (returns-clause-value g c) s
+    let few : length c.args.self.now.later ≤ max_message = rw (← c.self.view_is) (later_is_one_write _ _ _ _ _ c.self.invariant.0.bounds) in
+    λ acts s. finish_stands c.args.self.now _ acts (finish_due_has_ended c.args.self.now c.requires) few (returns-clause-value g c) s
 
 pub returns-clause-measure : goal.returns-clause-measure
-returns-clause-measure g c = finish_measure c.args.self.now _ (at_finish c.args.self.now c.requires) (returns-clause-value g c)
+returns-clause-measure g c = finish_measure c.args.self.now _ (finish_due_has_ended c.args.self.now c.requires) (returns-clause-value g c)

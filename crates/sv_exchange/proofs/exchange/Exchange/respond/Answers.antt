@@ -1,6 +1,6 @@
 use Rattle.std.proofs.Common.{◌≡◌, ◌+◌, true, false, length, drop, sym, ◌∙◌, refl, arith}
 use Rattle.std.proofs.lemmas.Bool.{lt-ltb, le-ltb}
-use Rattle.sv_exchange.proofs.Fields.{size_with, with_all}
+use Rattle.sv_exchange.proofs.Fields.{output_size_with_answer, answers_are_unread}
 use Rattle.sv_exchange.proofs.Measures.{answer_measure}
 use Rattle.sv_exchange.proofs.Stands.{fits_is, answered_stands, dropped_stands}
 use Rattle.sv_exchange.proofs.exchange.Exchange.respond.Given.{Over}
@@ -14,7 +14,7 @@ size_is : (g : Over) (c : Joined-self g)
     → length (with_answer c.self.inside.answering (drop c.self.inside.read c.self.inside.response.items) c.args.answer.now)
     ≡ c.if-self.before + length c.args.answer.now
 size_is g c =
-    size_with c.self.inside.answering c.self.inside.response.items c.args.answer.now c.self.inside.read c.if-self.before
+    output_size_with_answer c.self.inside.answering c.self.inside.response.items c.args.answer.now c.self.inside.read c.if-self.before
     c.self.invariant.0.output
     (elim c.if-self.branch [ then-self w ↦ rw w.if-self.true (omega arith) | else-self w ↦ rw w.if-self.false w.before-is ])
 
@@ -36,7 +36,7 @@ returns-clause-stands g c =
       answered_stands _ _ acts c.args.answer.now may
           (rw (
             c.put_answer.ensures.items,
-            with_all c.self.inside.answering c.self.inside.response.items c.args.answer.now
+            answers_are_unread c.self.inside.answering c.self.inside.response.items c.args.answer.now
                 c.self.inside.read c.self.invariant.0.output,
           ) refl) s,
     ))
@@ -53,7 +53,7 @@ returns-clause-value g c =
     rw (← c.self.view_is)
     (rw (
       c.put_answer.ensures.items,
-      with_all c.self.inside.answering c.self.inside.response.items c.args.answer.now
+      answers_are_unread c.self.inside.answering c.self.inside.response.items c.args.answer.now
           c.self.inside.read c.self.invariant.0.output,
     ) refl)
 

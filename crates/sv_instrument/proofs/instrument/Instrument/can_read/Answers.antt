@@ -2,7 +2,7 @@ use Rattle.std.proofs.Common.{rules, ◌≡◌, ◌∙◌, sym, ap, refl, Bool, 
 use Rattle.std.specs.Prelude.{Option, Some, None}
 use Rattle.sv_exchange.specs.Exchange.{has_ended}
 use Rattle.sv_exchange.specs.Contents.{is_open}
-use Rattle.sv_exchange.proofs.Dues.{at_unit}
+use Rattle.sv_exchange.proofs.Dues.{unit_due_state}
 use Rattle.sv_layers.specs.declared.change.Awaited.{Awaited}
 use Rattle.sv_layers.specs.Act.{exchange_acts}
 use Rattle.sv_layers.specs.Inside.Representation.{LayerState}
@@ -15,7 +15,7 @@ use Rattle.sv_instrument.proofs.instrument.Instrument.can_read.Goals as goal
 held_after_end : (held : Option Awaited) (layers : LayerState) (ended : Bool) → IsHeldRight held layers
     → is_open layers.exchange ≡ not ended → not ended ≡ (not (is_held held) && not ended)
 held_after_end None layers ended right same = refl
-held_after_end (Some awaited) layers ended right same = sym same ∙ ap not (at_unit layers.exchange right).ended
+held_after_end (Some awaited) layers ended right same = sym same ∙ ap not (unit_due_state layers.exchange right).ended
 
 pub returns-then-readable-clause-value : goal.returns-then-readable-clause-value
 returns-then-readable-clause-value g c = search rules

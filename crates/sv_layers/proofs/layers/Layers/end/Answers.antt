@@ -3,7 +3,7 @@ use Rattle.sv_status.specs.declared.register_name.RegisterName.TheVariants.{Oper
 use Rattle.sv_status.specs.declared.standard_event.StandardAct.{StandardAct}
 use Rattle.sv_status.specs.StandardEvent.{StandsFor as Standards}
 use Rattle.sv_scan.specs.Condition as scan
-use Rattle.sv_logs.proofs.Since.{then_same}
+use Rattle.sv_logs.proofs.Since.{iff_transitive}
 use Rattle.sv_layers.specs.Act.{scan_acts}
 use Rattle.sv_layers.specs.Change.{act_of}
 use Rattle.sv_layers.specs.Condition.{effective_acts, summary}
@@ -31,9 +31,9 @@ returns-clause-stands g c = λ log act status_log same h.
     let limit = ended_stands Limit other act log _ _ limits (same.0 Limit) (c.change_register-2.ensures _ _
     (c.compare-2.ensures _ _ before (λ no. limits ∙ left.2 no ∙ sym (same_words Limit log).0))) in
     let stood : c.summary-stood.result ≡ summary Limit log = same_bool _ _ (c.summary-stood.ensures _ _ before)
-    (then_same (summary_is Limit (λ place. refl) log) (let is = same_summary Limit log in (is.1, is.0))) in
+    (iff_transitive (summary_is Limit (λ place. refl) log) (let is = same_summary Limit log in (is.1, is.0))) in
     let stands : c.summary-stands.result ≡ summary Limit (act ∷ log) = same_bool _ _ (c.summary-stands.ensures _ _ limit)
-    (then_same (summary_is Limit (λ place. refl) (act ∷ log)) (let is = same_summary Limit (act ∷ log) in (is.1, is.0))) in
+    (iff_transitive (summary_is Limit (λ place. refl) (act ∷ log)) (let is = same_summary Limit (act ∷ log) in (is.1, is.0))) in
     let word = questionable_is _ _ (effective_acts (act ∷ log)) (summary Limit (act ∷ log)) questions
     (c.summary_bit.ensures ∙ ap (scan.bit 9) stands) in
     let questionable = ended_stands Questionable other act log _ _ word (same.0 Questionable) (c.change_register-3.ensures _ _

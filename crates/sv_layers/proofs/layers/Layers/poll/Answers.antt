@@ -1,5 +1,5 @@
 use Rattle.std.proofs.Common.{refl}
-use Rattle.sv_logs.proofs.Since.{then_same}
+use Rattle.sv_logs.proofs.Since.{iff_transitive}
 use Rattle.sv_layers.specs.Act.{Polled}
 use Rattle.sv_layers.proofs.SameRequests.{same_status}
 use Rattle.sv_layers.proofs.layers.Layers.poll.Goals as goal
@@ -7,7 +7,7 @@ use Rattle.sv_layers.proofs.layers.Layers.poll.Goals as goal
 pub returns-clause-status : goal.returns-clause-status
 returns-clause-status g c = λ log h k.
     let j = rw (← c.self.view_is) at h.joined in
-    then_same (c.poll-status.ensures.answer h.status_log j.status k) (same_status log h.status_log h.are k).0
+    iff_transitive (c.poll-status.ensures.answer h.status_log j.status k) (same_status log h.status_log h.are k).0
 
 pub returns-clause-applied : goal.returns-clause-applied
 returns-clause-applied g c = λ log h.

@@ -2,7 +2,7 @@ use Rattle.std.proofs.Common.{◌≡◌, ◌++◌, ◌∷◌, [], length, refl, 
 use Rattle.std.proofs.lemmas.List.{length-append}
 use Rattle.sv_links.specs.declared.channel.Stage.TheVariants.{Closed}
 use Rattle.sv_links.specs.ChannelRepresentation.{Channel, opened_for}
-use Rattle.sv_links.proofs.Acts.{at_push}
+use Rattle.sv_links.proofs.Acts.{after_append}
 use Rattle.sv_links.proofs.intr.Intr.new.Goals as goal
 
 pub loop-preserved : goal.loop-preserved
@@ -13,7 +13,7 @@ loop-preserved g c =
     record {
       long = omega (arith, ap length grown, length-append items (one ∷ []), c.loop.invariant.long);
       closed = λ k other lt.
-          rw grown (at_push (λ kept. kept.stage ≡ Closed) items c.loop.counter k one other c.loop.invariant.long lt c.new.ensures
+          rw grown (after_append (λ kept. kept.stage ≡ Closed) items c.loop.counter k one other c.loop.invariant.long lt c.new.ensures
           (c.loop.invariant.closed k other));
     }
 

@@ -2,7 +2,7 @@ use Rattle.std.proofs.Common.{◌≡◌, Result, Ok, Err, true, arith, ap, subst
 use Rattle.std.specs.Prelude.{slice_index_or, OnOk, OnErr}
 use Rattle.std.proofs.lemmas.Result.{on_ok_weaker}
 use Rattle.sv_links.specs.ChannelRepresentation.{Channel, Channels, opened_for, is_prepared}
-use Rattle.sv_links.proofs.Acts.{are_channels_kept, at_set}
+use Rattle.sv_links.proofs.Acts.{are_channels_kept, after_slice_set}
 use Rattle.std.proofs.lemmas.Grind.{common_steps}
 use Rattle.sv_links.proofs.intr.Intr.prepare.Goals as goal
 
@@ -19,7 +19,7 @@ returns-clause-others g c =
     let old = c.index_mut.result.now in
     on_ok_weaker c.prepare.result
     (λ stays k ready other.
-    at_set (λ kept. is_prepared kept.stage ≡ true) items i k c.prepare.new.self other
+    after_slice_set (λ kept. is_prepared kept.stage ≡ true) items i k c.prepare.new.self other
     (omega (arith, c.requires, c.from.ensures, c.self.invariant.0))
     (λ same. stays (ap (λ (kept : Channel). is_prepared kept.stage) c.index_mut.ensures.value
     ∙ (subst (λ k. (other : Channel) → is_prepared (slice_index_or items k other).stage ≡ true) same (rw (← c.self.view_is) at ready)) old))

@@ -4,7 +4,7 @@ use Rattle.std.proofs.lemmas.List.{length-set}
 use Rattle.sv_links.specs.declared.enabled.Enabled.{Enabled}
 use Rattle.sv_links.specs.Channels.{Requested}
 use Rattle.sv_links.specs.ChannelRepresentation.{Channel, Channels, IsChannel, IsReady, is_prepared}
-use Rattle.sv_links.proofs.Acts.{is_channel_requested, at_set}
+use Rattle.sv_links.proofs.Acts.{is_channel_requested, after_slice_set}
 use Rattle.sv_links.proofs.intr.Intr.raise.Goals as goal
 
 pub loop-conn-preserved : goal.loop-conn-preserved
@@ -20,7 +20,7 @@ loop-conn-preserved g c =
       enabled = c.loop-conn.invariant.enabled;
       long = length-set items i new ∙ c.loop-conn.invariant.long;
       sent = λ k other acts lt is.
-          at_set (λ kept. IsChannel kept k (Requested ∷ acts)) items i k new other within
+          after_slice_set (λ kept. IsChannel kept k (Requested ∷ acts)) items i k new other within
           (λ same. subst (λ k. IsChannel new k (Requested ∷ acts)) (sym same)
           (is_channel_requested i old new c.as_slice.result.now acts (links ∙ is.enabled) c.request_each.ensures.stage
           c.request_each.ensures.queued
@@ -28,10 +28,10 @@ loop-conn-preserved g c =
           (is.each i old c.loop-conn-test.true))))
           (λ apart. c.loop-conn.invariant.sent k other acts (omega (arith, lt, apart)) is);
       rest = λ k other le.
-          at_set (λ kept. kept ≡ slice_index_or c.args.self.now.channels k other) items i k new other within
+          after_slice_set (λ kept. kept ≡ slice_index_or c.args.self.now.channels k other) items i k new other within
           (λ same. absurd (omega (arith, same, le))) (λ apart. c.loop-conn.invariant.rest k other (omega (arith, le)));
       ready = λ k other is.
-          at_set (λ kept. is_prepared kept.stage ≡ true) items i k new other within
+          after_slice_set (λ kept. is_prepared kept.stage ≡ true) items i k new other within
           (λ same. ap is_prepared c.request_each.ensures.stage ∙ ap (λ (kept : Channel). is_prepared kept.stage) c.index_mut.ensures.value
           ∙ c.loop-conn.invariant.ready i old (subst (IsReady c.args.self.now) same is))
           (λ apart. c.loop-conn.invariant.ready k other is);

@@ -5,7 +5,7 @@ use Rattle.std.proofs.lemmas.Iterator.Consumers.{YieldsList-from_first, YieldsLi
 use Rattle.slab.specs.Slab.{entries_from}
 use Rattle.sv_links.specs.declared.links.Link.{Link}
 use Rattle.sv_links.specs.Links.{live}
-use Rattle.sv_links.proofs.Named.{least_found, none_passes, after_found, after_lost}
+use Rattle.sv_links.proofs.Named.{least_found, none_passes, first_link_is_found, first_link_is_lost}
 use Rattle.sv_links.proofs.links.Links.after.Goals as goal
 
 pub returns-in-None : goal.returns-in-None
@@ -34,7 +34,7 @@ returns-in-Some-owner g c acts is =
     c.map.ensures.closure (λ x r q k. search rules)) in
     let first = sym (option_map_id c.min.result) ∙ least
     ∙ least_found (λ (link : Link). ltb c.args.lid link.lid) 0 c.self.inside.links.slots _ _ old.kept old.rising in
-    after_found (λ (link : Link). ltb c.args.lid link.lid) (live acts) _ c.in-Some.next c.in-Some-owner.conn old.rising
+    first_link_is_found (λ (link : Link). ltb c.args.lid link.lid) (live acts) _ c.in-Some.next c.in-Some-owner.conn old.rising
     (sym first ∙ c.in-Some.is) (c.in-Some-owner.ensures acts is)
 
 pub returns-in-None-owner : goal.returns-in-None-owner
@@ -49,5 +49,5 @@ returns-in-None-owner g c acts is =
     c.map.ensures.closure (λ x r q k. search rules)) in
     let first = sym (option_map_id c.min.result) ∙ least
     ∙ least_found (λ (link : Link). ltb c.args.lid link.lid) 0 c.self.inside.links.slots _ _ old.kept old.rising in
-    after_lost (λ (link : Link). ltb c.args.lid link.lid) (live acts) _ c.in-Some.next old.rising
+    first_link_is_lost (λ (link : Link). ltb c.args.lid link.lid) (live acts) _ c.in-Some.next old.rising
     (sym first ∙ c.in-Some.is) (c.in-None-owner.ensures acts is)

@@ -3,13 +3,14 @@ use Rattle.std.specs.Prelude.{not, None}
 use Rattle.std.proofs.lemmas.Bool.{eqb-true}
 use Rattle.sv_links.specs.Links.{is_locked_out, holder}
 use Rattle.sv_links.specs.Table.{Table}
-use Rattle.sv_links.proofs.Locks.{holder_is, may_lock, is_table_locked, is_table_locked_again}
+use Rattle.sv_links.proofs.Locks.{holder_is, own_number_not_locked_out, is_table_locked, is_table_locked_again}
 use Rattle.sv_links.proofs.links.Links.lock.Goals as goal
 
 pub returns-in-Some-clause-answer : goal.returns-in-Some-clause-answer
 returns-in-Some-clause-answer g c acts is =
     let held = holder_is c.args.self.now acts is ∙ sym (ap (λ (table : Table). table.holder) c.self.view_is) ∙ c.in-Some.is in
-    may_lock c.in-Some.holder c.args.lid ∙ ap (λ (holder : Option ℕ). not (is_locked_out holder (Some c.args.lid))) (sym held)
+    own_number_not_locked_out c.in-Some.holder c.args.lid ∙ ap (λ (holder : Option ℕ). not (is_locked_out holder (Some c.args.lid)))
+        (sym held)
 
 pub returns-in-Some-clause-stands : goal.returns-in-Some-clause-stands
 returns-in-Some-clause-stands g c e acts is =

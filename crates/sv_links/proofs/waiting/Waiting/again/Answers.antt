@@ -3,7 +3,7 @@ use Rattle.std.proofs.lemmas.List.Edits.{map_over_more}
 use Rattle.sv_links.specs.Limits.{max_connections}
 use Rattle.sv_links.specs.Queue.{anew}
 use Rattle.sv_links.proofs.Queues.{is_queue_anew, once_anew, below_anew, written}
-use Rattle.sv_links.proofs.Anew.{rank_anew, creations_anew}
+use Rattle.sv_links.proofs.Anew.{measure_after_anew, creations_anew}
 use Rattle.sv_links.proofs.waiting.Waiting.again.Goals as goal
 
 pub loop-entry-preserved : goal.loop-entry-preserved
@@ -47,7 +47,7 @@ returns-clause-measure g c =
     let f = anew c.args.conn c.args.wait c.args.deadline in
     let items = written f vec.len c.loop-entry.entry-index vec.items c.deref_mut-entry-items.result.now c.loop-entry.entry-items
     lent.value lent.len c.loop-entry.auto.entry-items c.loop-entry-test.false c.loop-entry.invariant in
-    rw (items, ← c.self.view_is) (rank_anew c.args.conn c.args.wait c.args.deadline vec.items c.self.invariant.0)
+    rw (items, ← c.self.view_is) (measure_after_anew c.args.conn c.args.wait c.args.deadline vec.items c.self.invariant.0)
 
 pub returns-clause-fewer : goal.returns-clause-fewer
 returns-clause-fewer g c other =

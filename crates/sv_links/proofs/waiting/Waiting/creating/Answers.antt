@@ -4,7 +4,7 @@ use Rattle.std.proofs.lemmas.Iterator.Consumers.{count_from_yields_List, YieldsL
 use Rattle.sv_links.specs.Limits.{max_connections, max_waiting}
 use Rattle.sv_links.specs.Queue.{creates, creations}
 use Rattle.sv_links.proofs.Counted.{length_filter_le}
-use Rattle.sv_links.proofs.Queues.{at_most}
+use Rattle.sv_links.proofs.Queues.{entries_at_most}
 use Rattle.sv_links.proofs.Creating.{creations_all}
 use Rattle.sv_links.proofs.waiting.Waiting.creating.Goals as goal
 use Rattle.sv_links.proofs.waiting.Waiting.creating.Given as given
@@ -23,7 +23,7 @@ few g c =
       arith,
       counted g c,
       length_filter_le creates items,
-      at_most max_connections items c.self.invariant.0 c.self.invariant.1,
+      entries_at_most max_connections items c.self.invariant.0 c.self.invariant.1,
     )
 
 pub overflow_cast-result : goal.overflow_cast-result

@@ -2,14 +2,14 @@ use Rattle.std.proofs.Common.{rules, arith, ap, ◌∙◌, List, ◌++◌, ◌�
 use Rattle.sv_links.specs.Limits.{max_connections}
 use Rattle.sv_links.specs.Queue.{IsFree}
 use Rattle.sv_links.specs.declared.waiting.Entry.{Entry}
-use Rattle.sv_links.proofs.Queues.{is_queue_entered, free_without, once_push, below_push, has_room}
+use Rattle.sv_links.proofs.Queues.{is_queue_entered, free_without, once_push, below_push, queue_has_room}
 use Rattle.sv_links.proofs.waiting.Waiting.enter.Goals as goal
 
 pub push_reserved-requires : goal.push_reserved-requires
 push_reserved-requires g c =
     let items = c.self.view_is ∙ c.leave.ensures.value in
     let free : IsFree c.args.entry.conn c.self.inside.entries.items = rw items (free_without c.args.entry.conn c.args.self.now) in
-    let room = has_room c.args.entry max_connections c.self.inside.entries.items free c.requires c.self.invariant.0
+    let room = queue_has_room c.args.entry max_connections c.self.inside.entries.items free c.requires c.self.invariant.0
     c.self.invariant.1 in
     search (rules, room, arith)
 

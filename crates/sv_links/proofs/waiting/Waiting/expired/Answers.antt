@@ -6,7 +6,7 @@ use Rattle.sv_links.specs.declared.waiting.Entry.{Entry}
 use Rattle.sv_links.specs.Limits.{max_connections}
 use Rattle.sv_links.specs.Queue.{IsEntry, is_past}
 use Rattle.sv_links.proofs.Queues.{oldest_expired}
-use Rattle.sv_links.proofs.Found.{found_each, found_within, found_rank}
+use Rattle.sv_links.proofs.Found.{found_each, found_within, measure_after_found}
 use Rattle.sv_links.proofs.waiting.Waiting.expired.Goals as goal
 use Rattle.sv_links.proofs.waiting.Waiting.expired.Given as given
 
@@ -37,4 +37,4 @@ returns-clause-within g c =
     c.self.invariant.1 c.self.invariant.0)
 
 pub returns-clause-measure : goal.returns-clause-measure
-returns-clause-measure g c = rw (result_is g c, ← c.self.view_is) (found_rank (passes c.args.clock) c.self.inside.entries.items)
+returns-clause-measure g c = rw (result_is g c, ← c.self.view_is) (measure_after_found (passes c.args.clock) c.self.inside.entries.items)

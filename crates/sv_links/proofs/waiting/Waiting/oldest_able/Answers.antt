@@ -7,7 +7,7 @@ use Rattle.sv_links.specs.Waiting.{is_there}
 use Rattle.sv_links.specs.Limits.{max_connections}
 use Rattle.sv_links.specs.Queue.{IsEntry}
 use Rattle.sv_links.proofs.Queues.{oldest_able}
-use Rattle.sv_links.proofs.Found.{found_each, found_within, found_rank, found_creations}
+use Rattle.sv_links.proofs.Found.{found_each, found_within, measure_after_found, creations_after_found}
 use Rattle.sv_links.proofs.waiting.Waiting.oldest_able.Goals as goal
 use Rattle.sv_links.proofs.waiting.Waiting.oldest_able.Given as given
 
@@ -44,9 +44,9 @@ returns-clause-within g c =
 pub returns-clause-measure : goal.returns-clause-measure
 returns-clause-measure g c =
     rw (result_is g c, ← c.self.view_is)
-    (found_rank (passes c.args.holder c.args.can_write c.args.can_read) c.self.inside.entries.items)
+    (measure_after_found (passes c.args.holder c.args.can_write c.args.can_read) c.self.inside.entries.items)
 
 pub returns-clause-fewer : goal.returns-clause-fewer
 returns-clause-fewer g c =
     rw (result_is g c, ← c.self.view_is)
-    (found_creations (passes c.args.holder c.args.can_write c.args.can_read) c.self.inside.entries.items)
+    (creations_after_found (passes c.args.holder c.args.can_write c.args.can_read) c.self.inside.entries.items)

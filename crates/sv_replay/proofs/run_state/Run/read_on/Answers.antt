@@ -1,5 +1,5 @@
 use Rattle.std.proofs.Common.{◌+◌, refl}
-use Rattle.sv_replay.proofs.Heard.{on_input, other_fault, not_going}
+use Rattle.sv_replay.proofs.Heard.{input_fault_passed_on, not_an_input_fault, while_going_after_fault}
 use Rattle.sv_replay.proofs.Going.{go_long, go_output, go_input, go_read, go_last_stop, go_last}
 use Rattle.sv_replay.proofs.run_state.Run.read_on.Goals as goal
 
@@ -59,8 +59,8 @@ pub returns-in_err-flush-clause-heard : goal.returns-in_err-flush-clause-heard
 returns-in_err-flush-clause-heard g c = λ first reads made as_many. (
   reads,
   made,
-  not_going c.from_residual.result _ c.from_residual.ensures.0,
-  on_input c.from_residual.result _ _ c.from_residual.ensures.0 c.from_residual.ensures.1 (rw c.in_err-flush.ensures.fault tt),
+  while_going_after_fault c.from_residual.result _ c.from_residual.ensures.0,
+  input_fault_passed_on c.from_residual.result _ _ c.from_residual.ensures.0 c.from_residual.ensures.1 (rw c.in_err-flush.ensures.fault tt),
 )
 
 pub returns-in_err-fill-clause-heard : goal.returns-in_err-fill-clause-heard
@@ -68,8 +68,9 @@ returns-in_err-fill-clause-heard g c = λ first reads made as_many.
     let (others, they, last) = c.in_err-fill.ensures.heard first reads made as_many in (
       others,
       they,
-      not_going c.from_residual-in_err-fill.result _ c.from_residual-in_err-fill.ensures.0,
-      on_input c.from_residual-in_err-fill.result _ _ c.from_residual-in_err-fill.ensures.0 c.from_residual-in_err-fill.ensures.1 last,
+      while_going_after_fault c.from_residual-in_err-fill.result _ c.from_residual-in_err-fill.ensures.0,
+      input_fault_passed_on c.from_residual-in_err-fill.result _ _ c.from_residual-in_err-fill.ensures.0
+          c.from_residual-in_err-fill.ensures.1 last,
     )
 
 pub returns-then-branch-clause-heard : goal.returns-then-branch-clause-heard
@@ -81,8 +82,8 @@ returns-in_err-do_line-clause-heard g c = λ first reads made as_many.
     let (others, they, count) = c.in_ok-fill.ensures.heard first reads made as_many in (
       others,
       they,
-      not_going c.from_residual-in_err-do_line.result _ c.from_residual-in_err-do_line.ensures.0,
-      other_fault c.from_residual-in_err-do_line.result _ (on_input c.from_residual-in_err-do_line.result _ _
+      while_going_after_fault c.from_residual-in_err-do_line.result _ c.from_residual-in_err-do_line.ensures.0,
+      not_an_input_fault c.from_residual-in_err-do_line.result _ (input_fault_passed_on c.from_residual-in_err-do_line.result _ _
           c.from_residual-in_err-do_line.ensures.0 c.from_residual-in_err-do_line.ensures.1 c.in_err-do_line.ensures.input),
     )
 

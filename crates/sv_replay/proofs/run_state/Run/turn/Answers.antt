@@ -1,7 +1,7 @@
 use Rattle.std.proofs.Common.{◌+◌, take, drop, refl, sym, ap, subst, ◌∙◌}
 use Rattle.sv_replay.specs.Text.{Held}
 use Rattle.sv_replay.specs.Stage.{IsStage}
-use Rattle.sv_replay.proofs.Heard.{on_input, other_fault, not_going}
+use Rattle.sv_replay.proofs.Heard.{input_fault_passed_on, not_an_input_fault, while_going_after_fault}
 use Rattle.sv_replay.proofs.Going.{go_line, go_line_stop}
 use Rattle.sv_replay.proofs.run_state.Run.turn.Goals as goal
 
@@ -33,8 +33,9 @@ pub returns-in_err-do_line-in-Some-clause-heard : goal.returns-in_err-do_line-in
 returns-in_err-do_line-in-Some-clause-heard g c = λ first reads made as_many. (
   reads,
   made,
-  not_going c.from_residual.result _ c.from_residual.ensures.0,
-  other_fault c.from_residual.result _ (on_input c.from_residual.result _ _ c.from_residual.ensures.0 c.from_residual.ensures.1
+  while_going_after_fault c.from_residual.result _ c.from_residual.ensures.0,
+  not_an_input_fault c.from_residual.result _
+      (input_fault_passed_on c.from_residual.result _ _ c.from_residual.ensures.0 c.from_residual.ensures.1
       c.in_err-do_line-in-Some.ensures.input),
 )
 

@@ -2,15 +2,15 @@ use Rattle.std.proofs.Common.{◌≡◌, ℕ, ◌-◌, List, [], ◌++◌, lengt
 use Rattle.std.proofs.lemmas.Bool.{eqb-true, eqb-false}
 use Rattle.std.proofs.lemmas.List.{take-append-drop}
 use Rattle.sv_rpc.specs.Representation.{InRoom}
-use Rattle.sv_rpc.proofs.Goes.{goes_on_all, goes_on_none, goes_on_then}
-use Rattle.sv_rpc.proofs.Keeping.{keeps_then}
+use Rattle.sv_rpc.proofs.Goes.{goes_on_whole_piece, goes_on_reflexive, goes_on_transitive}
+use Rattle.sv_rpc.proofs.Keeping.{keeps_transitive}
 use Rattle.sv_rpc.proofs.Rooms.{room_fits}
 use Rattle.sv_rpc.proofs.record_buf.RecordBuf.push.Goals as goal
 
 pub loop-rest-init : goal.loop-rest-init
 loop-rest-init g c = record {
   fits = λ some. room_fits c.args.self.now (length c.args.piece.now) c.requires some;
-  stands = ([], refl, goes_on_none c.args.self.now);
+  stands = ([], refl, goes_on_reflexive c.args.self.now);
   keeps = ([], sym (append-nil c.args.self.now.records));
 }
 
@@ -34,15 +34,15 @@ loop-rest-preserved g c =
       stands = (
         before.0 ++ take count rest,
         before.1 ∙ ap (λ (l : List ℕ). before.0 ++ l) parts ∙ sym (append_assoc before.0 (take count rest) c.split_at.result.1.now),
-        goes_on_then c.args.self.now c.loop-rest.self c.take_in-count.new.self before.0
+        goes_on_transitive c.args.self.now c.loop-rest.self c.take_in-count.new.self before.0
             (take count rest) before.2 c.take_in-count.ensures.stands,
       );
-      keeps = keeps_then c.args.self.now c.loop-rest.self c.take_in-count.new.self kept c.take_in-count.ensures.keeps;
+      keeps = keeps_transitive c.args.self.now c.loop-rest.self c.take_in-count.new.self kept c.take_in-count.ensures.keeps;
     }
 
 pub returns-clause-stands : goal.returns-clause-stands
 returns-clause-stands g c =
-    goes_on_all c.args.self.now c.loop-rest.self c.args.piece.now c.loop-rest.rest.now
+    goes_on_whole_piece c.args.self.now c.loop-rest.self c.args.piece.now c.loop-rest.rest.now
     (eqb-true (length c.loop-rest.rest.now) 0 (sym c.loop-rest-test.ensures)) c.loop-rest.invariant.stands
 
 pub returns-clause-keeps : goal.returns-clause-keeps

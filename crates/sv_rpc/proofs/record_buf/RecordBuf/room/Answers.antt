@@ -1,7 +1,7 @@
 use Rattle.std.proofs.Common.{◌≡◌, ◌+◌, ◌*◌, length, ◌∙◌, arith}
 use Rattle.sv_rpc.specs.RecordBuf.{room_of}
 use Rattle.sv_rpc.specs.Representation.{begun_of}
-use Rattle.sv_rpc.proofs.Records.{room_answer, room_by_parts}
+use Rattle.sv_rpc.proofs.Records.{room_is_of_stream, room_by_parts}
 use Rattle.sv_rpc.proofs.record_buf.RecordBuf.room.Given.{Over}
 use Rattle.sv_rpc.proofs.record_buf.RecordBuf.room.Goals as goal
 use Rattle.sv_rpc.proofs.record_buf.RecordBuf.room.Goals.{in-Header, in-Data, in-TooLong}
@@ -24,4 +24,4 @@ pub returns-clause-value : goal.returns-clause-value
 returns-clause-value g c = value g c
 
 pub returns-clause-answer : goal.returns-clause-answer
-returns-clause-answer g c = λ stream dropped s. room_answer c.args.self.now stream dropped _ (value g c) s
+returns-clause-answer g c = λ stream dropped s. room_is_of_stream c.args.self.now stream dropped _ (value g c) s

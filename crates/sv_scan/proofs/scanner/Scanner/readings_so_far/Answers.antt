@@ -1,5 +1,5 @@
 use Rattle.std.proofs.Common.{◌∙◌}
-use Rattle.sv_scan.proofs.Runs.{few_in}
+use Rattle.sv_scan.proofs.Runs.{readings_are_few}
 use Rattle.sv_scan.proofs.scanner.Scanner.readings_so_far.Goals as goal
 
 pub returns-clause-answer : goal.returns-clause-answer
@@ -8,7 +8,7 @@ returns-clause-answer g c acts is =
     c.as_slice.ensures.value ∙ h.readings
 
 pub returns-clause-few : goal.returns-clause-few
-returns-clause-few g c = rw (c.as_slice.ensures.value) (few_in _ _ c.self.invariant.run)
+returns-clause-few g c = rw (c.as_slice.ensures.value) (readings_are_few _ _ c.self.invariant.run)
 
 pub returns-clause-bounded : goal.returns-clause-bounded
 returns-clause-bounded g c = rw (c.as_slice.ensures.value) c.self.invariant.readings

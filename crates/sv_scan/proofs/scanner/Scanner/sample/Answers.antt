@@ -4,7 +4,7 @@ use mir.Val.{SFits}
 use Rattle.sv_scan.specs.declared.acts.ScanAct.TheVariants.{Sample}
 use Rattle.sv_scan.specs.Scan.{channel_at, reading_in}
 use Rattle.sv_scan.specs.Counted.{effective, is_scanning}
-use Rattle.sv_scan.proofs.Runs.{size_in, channel_in, run_in, has_room, turn_is, is_valid_sample}
+use Rattle.sv_scan.proofs.Runs.{scan_list_size, scanned_channel_exists, run_is_valid, has_room_for_reading, next_channel_exists, is_valid_sample}
 use Rattle.sv_scan.proofs.Stands.{stands_for_counted, stands_for_dropped, holds_sample}
 use Rattle.sv_scan.proofs.scanner.Scanner.sample.Goals as goal
 
@@ -29,13 +29,13 @@ returns-in_default-clause-stands g c acts is =
 
 pub channel-channel-requires : goal.channel-channel-requires
 channel-channel-requires g c =
-    let run = run_in _ _ c.in-Some.run' c.in-Some.is c.self.invariant in
-    omega (arith, (size_in c.in-Some.run'.channels run.channels).0)
+    let run = run_is_valid _ _ c.in-Some.run' c.in-Some.is c.self.invariant in
+    omega (arith, (scan_list_size c.in-Some.run'.channels run.channels).0)
 
 pub voltage-requires : goal.voltage-requires
 voltage-requires g c =
-    let run = run_in _ _ c.in-Some.run' c.in-Some.is c.self.invariant in
-    rw c.channel-channel.ensures (channel_in c.in-Some.run'.channels c.len.result run.channels)
+    let run = run_is_valid _ _ c.in-Some.run' c.in-Some.is c.self.invariant in
+    rw c.channel-channel.ensures (scanned_channel_exists c.in-Some.run'.channels c.len.result run.channels)
 
 pub reading_in-reading-requires : goal.reading_in-reading-requires
 reading_in-reading-requires g c =
@@ -46,7 +46,7 @@ pub push_reserved-requires : goal.push_reserved-requires
 push_reserved-requires g c =
     let scanning = rw (← c.self.view_is) at (ap is_scanning (sym c.state.ensures.value) ∙ sym c.is_scanning.ensures
     ∙ c.if-not-is_scanning.false) in
-    let room = has_room _ _ c.in-Some.run' c.in-Some.is c.self.invariant scanning in
+    let room = has_room_for_reading _ _ c.in-Some.run' c.in-Some.is c.self.invariant scanning in
     omega (arith, c.self.inside.readings.ok.0, room)
 
 pub invariant_of-self : goal.invariant_of-self
@@ -65,7 +65,7 @@ pub returns-clause-stands : goal.returns-clause-stands
 returns-clause-stands g c acts is =
     let h = rw (← c.self.view_is) at is in
     let counted = sym (returns-clause-answer g c acts is) in
-    let known = turn_is _ _ c.in-Some.run' c.in-Some.is c.self.invariant in
+    let known = next_channel_exists _ _ c.in-Some.run' c.in-Some.is c.self.invariant in
     let fits : SFits w64 c.self.inside.settings.range = search rules in
     let heard : SFits w64 c.voltage.result = search rules in
     let many = c.len.ensures ∙ c.self.inside.readings.ok.0 in

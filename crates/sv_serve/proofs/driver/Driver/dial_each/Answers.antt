@@ -1,8 +1,8 @@
 use Rattle.std.proofs.Common.{refl, arith, ◌+◌}
 use Rattle.sv_serve.specs.DriverView.{driver_view}
 use Rattle.sv_serve.specs.Steps.{Dials}
-use Rattle.sv_serve.proofs.Joined.{goes_more, goes_all}
-use Rattle.sv_serve.proofs.Unused.{goes_rest, dials_none}
+use Rattle.sv_serve.proofs.Joined.{steps_one_more, steps_equal}
+use Rattle.sv_serve.proofs.Unused.{steps_unused_rest, dials_none}
 use Rattle.sv_serve.proofs.driver.Driver.dial_each.Goals as goal
 
 pub loop-conn-init : goal.loop-conn-init
@@ -10,12 +10,12 @@ loop-conn-init g c = λ first config history stands. (history, stands, refl)
 
 pub loop-conn-preserved : goal.loop-conn-preserved
 loop-conn-preserved g c =
-    goes_more g.J.Journal.notes (Dials g.W.Wire.hears) c.loop-conn.conn (c.loop-conn.conn + 1) c.args.self.now c.loop-conn.self
+    steps_one_more g.J.Journal.notes (Dials g.W.Wire.hears) c.loop-conn.conn (c.loop-conn.conn + 1) c.args.self.now c.loop-conn.self
     c.dial.new.self (omega arith) c.loop-conn.invariant c.dial.ensures
 
 pub returns-then-is_past_dials : goal.returns-then-is_past_dials
 returns-then-is_past_dials g c =
-    goes_rest g.J.Journal.notes (Dials g.W.Wire.hears) c.loop-conn.conn 16 c.args.self.now c.loop-conn.self
+    steps_unused_rest g.J.Journal.notes (Dials g.W.Wire.hears) c.loop-conn.conn 16 c.args.self.now c.loop-conn.self
     (omega arith) c.loop-conn.invariant
     (λ first config history stands.
     let unused = c.is_past_dials.ensures c.if-is_past_dials.true config history stands.0 in
@@ -23,5 +23,5 @@ returns-then-is_past_dials g c =
 
 pub returns : goal.returns
 returns g c =
-    goes_all g.J.Journal.notes (Dials g.W.Wire.hears) c.loop-conn.conn 16 c.args.self.now c.loop-conn.self
+    steps_equal g.J.Journal.notes (Dials g.W.Wire.hears) c.loop-conn.conn 16 c.args.self.now c.loop-conn.self
     (omega arith) c.loop-conn.invariant

@@ -1,7 +1,7 @@
 use Rattle.sv_history.specs.declared.event.Port.TheVariants.{Conn, Intr}
 use Rattle.sv_history.specs.Event.{Close}
 use Rattle.sv_serve.specs.DriverView.{driver_view}
-use Rattle.sv_serve.proofs.Suited.{took_suits, channel_suits, handed_open, hung_same, still_suited}
+use Rattle.sv_serve.proofs.Suited.{took_suits, channel_suits, handed_means_open, closes_channel_same_history, still_suited}
 use Rattle.sv_serve.proofs.Branches.{write_failed}
 use Rattle.sv_serve.proofs.driver.Driver.leave.Goals as goal
 
@@ -14,7 +14,7 @@ returns-in-Got-default g c = λ first config history stands handed.
 
 pub returns-in-Failed-Conn : goal.returns-in-Failed-Conn
 returns-in-Failed-Conn g c = λ first config history stands handed.
-    let is_open = handed_open c.args.port c.in-Failed-Conn.conn c.args.answer config
+    let is_open = handed_means_open c.args.port c.in-Failed-Conn.conn c.args.answer config
     (driver_view c.args.self.now history) c.in-Failed-Conn.is-1
     c.requires.number handed in
     let (h0, s0, p0) = c.close.ensures _ config history stands is_open in (
@@ -30,7 +30,7 @@ returns-in-Failed-Intr g c = λ first config history stands handed.
     let suits = channel_suits c.args.port c.in-Failed-Intr.conn c.args.answer config
     (driver_view c.args.self.now history) c.in-Failed-Intr.is-1
     c.requires.number handed in
-    let same = hung_same g.W.Wire.hears c.in-Failed-Intr.conn config (driver_view c.args.self.now history)
+    let same = closes_channel_same_history g.W.Wire.hears c.in-Failed-Intr.conn config (driver_view c.args.self.now history)
     (driver_view c.close_channel.new.self h0) p0 in
     let still = still_suited (Close (Intr c.in-Failed-Intr.conn)) config (driver_view c.args.self.now history)
     (driver_view c.close_channel.new.self h0) same suits in

@@ -2,7 +2,7 @@ use Rattle.std.proofs.Common.{refl, arith, ℕ, ◌+◌}
 use Rattle.sv_serve.specs.DriverView.{driver_view}
 use Rattle.sv_serve.specs.DriverView.{◌then◌}
 use Rattle.sv_serve.specs.Sweep.{Plays, TicksOnce}
-use Rattle.sv_serve.proofs.Joined.{one_more, as_many}
+use Rattle.sv_serve.proofs.Joined.{for_each_one_more, for_each_equal}
 use Rattle.sv_serve.proofs.driver.Driver.pass.Goals as goal
 
 pub loop-init : goal.loop-init
@@ -15,7 +15,8 @@ loop-preserved g c = λ first config history stands.
     let (h2, s2, p2) = c.tick.ensures _ config h1 s1 in (
       h2,
       s2,
-      one_more (λ (i : ℕ). Plays then TicksOnce) config c.loop.counter (c.loop.counter + 1) _ (driver_view c.loop.self h0) _ (omega arith)
+      for_each_one_more (λ (i : ℕ). Plays then TicksOnce) config c.loop.counter (c.loop.counter + 1) _ (driver_view c.loop.self h0) _
+          (omega arith)
           p0 (driver_view c.play.new.self h1, p1, p2),
     )
 
@@ -27,7 +28,7 @@ returns g c = λ first config history stands.
       s1,
       (
         driver_view c.loop.self h0,
-        as_many (λ (i : ℕ). Plays then TicksOnce) config c.loop.counter c.args.ticks _ (driver_view c.loop.self h0) (omega arith) p0,
+        for_each_equal (λ (i : ℕ). Plays then TicksOnce) config c.loop.counter c.args.ticks _ (driver_view c.loop.self h0) (omega arith) p0,
         p1,
       ),
     )

@@ -1,6 +1,6 @@
 use Rattle.std.proofs.Common.{refl, rules, drop, ◌+◌, arith}
 use Rattle.std.proofs.lemmas.Option.{slice_get_read}
-use Rattle.sv_serve.proofs.Joined.{from_here}
+use Rattle.sv_serve.proofs.Joined.{drop_from_entry}
 use Rattle.sv_history.specs.Event.{plain}
 use Rattle.sv_history.specs.History.{history_after}
 use Rattle.sv_serve.proofs.driver.Driver.play_one.Goals as goal
@@ -22,7 +22,7 @@ returns-clause-goes g c = rw (← c.self.view_is) (λ first config history stand
           ahead = drop c.self.inside.next c.self.inside.scenario.items;
           ticks = c.self.inside.ticks;
         },
-        from_here c.self.inside.scenario.items c.self.inside.next (c.self.inside.next + 1) c.in-Some.entry.now (omega arith)
+        drop_from_entry c.self.inside.scenario.items c.self.inside.next (c.self.inside.next + 1) c.in-Some.entry.now (omega arith)
             (slice_get_read c.self.inside.scenario.items _ c.self.inside.next c.in-Some.entry.now refl seen.3.0 seen.1),
         search (rules, c.if-entry-self.false),
         rw (← c.event-event.ensures) (c.apply-answer.result, (log, is_log, answers, refl)),

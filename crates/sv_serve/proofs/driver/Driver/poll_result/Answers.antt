@@ -1,6 +1,6 @@
 use Rattle.std.proofs.Common.{refl, true, false, Some}
 use Rattle.sv_serve.specs.DriverView.{driver_view}
-use Rattle.sv_serve.proofs.Suited.{dialed_suits, hung_same, still_wants}
+use Rattle.sv_serve.proofs.Suited.{dialed_suits, closes_channel_same_history, still_wants}
 use Rattle.sv_serve.proofs.driver.Driver.poll_result.Goals as goal
 
 pub returns-in-Got : goal.returns-in-Got
@@ -12,7 +12,7 @@ returns-in-Got g c = λ first config history stands (dial, wants).
 pub returns-in-Failed : goal.returns-in-Failed
 returns-in-Failed g c = λ first config history stands (dial, wants).
     let (h0, s0, p0) = c.close_channel.ensures _ config history stands in
-    let same = hung_same g.W.Wire.hears c.args.conn config (driver_view c.args.self.now history)
+    let same = closes_channel_same_history g.W.Wire.hears c.args.conn config (driver_view c.args.self.now history)
     (driver_view c.close_channel.new.self h0) p0 in
     let still = still_wants c.args.conn (Some dial) (Some dial) config (driver_view c.args.self.now history)
     (driver_view c.close_channel.new.self h0) same refl wants in

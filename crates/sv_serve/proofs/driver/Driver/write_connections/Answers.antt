@@ -2,8 +2,8 @@ use Rattle.std.proofs.Common.{refl, arith, ℕ, ◌+◌}
 use Rattle.sv_serve.specs.DriverView.{driver_view}
 use Rattle.sv_history.specs.declared.event.Port.TheVariants.{Conn}
 use Rattle.sv_serve.specs.Steps.{WritesTo}
-use Rattle.sv_serve.proofs.Joined.{goes_more, goes_all}
-use Rattle.sv_serve.proofs.Unused.{goes_rest, writes_none}
+use Rattle.sv_serve.proofs.Joined.{steps_one_more, steps_equal}
+use Rattle.sv_serve.proofs.Unused.{steps_unused_rest, writes_none}
 use Rattle.sv_serve.proofs.driver.Driver.write_connections.Goals as goal
 
 pub loop-conn-init : goal.loop-conn-init
@@ -11,13 +11,13 @@ loop-conn-init g c = λ first config history stands. (history, stands, refl)
 
 pub loop-conn-preserved : goal.loop-conn-preserved
 loop-conn-preserved g c =
-    goes_more g.J.Journal.notes (λ (c : ℕ). WritesTo g.W.Wire.hears (Conn c)) c.loop-conn.conn
+    steps_one_more g.J.Journal.notes (λ (c : ℕ). WritesTo g.W.Wire.hears (Conn c)) c.loop-conn.conn
     (c.loop-conn.conn + 1) c.args.self.now c.loop-conn.self
     c.write.new.self (omega arith) c.loop-conn.invariant c.write.ensures
 
 pub returns-then-is_unused : goal.returns-then-is_unused
 returns-then-is_unused g c =
-    goes_rest g.J.Journal.notes (λ (c : ℕ). WritesTo g.W.Wire.hears (Conn c)) c.loop-conn.conn 16 c.args.self.now c.loop-conn.self
+    steps_unused_rest g.J.Journal.notes (λ (c : ℕ). WritesTo g.W.Wire.hears (Conn c)) c.loop-conn.conn 16 c.args.self.now c.loop-conn.self
     (omega arith) c.loop-conn.invariant
     (λ first config history stands.
     writes_none g.W.Wire.hears c.loop-conn.conn config (driver_view c.loop-conn.self history)
@@ -25,5 +25,5 @@ returns-then-is_unused g c =
 
 pub returns : goal.returns
 returns g c =
-    goes_all g.J.Journal.notes (λ (c : ℕ). WritesTo g.W.Wire.hears (Conn c)) c.loop-conn.conn 16 c.args.self.now c.loop-conn.self
+    steps_equal g.J.Journal.notes (λ (c : ℕ). WritesTo g.W.Wire.hears (Conn c)) c.loop-conn.conn 16 c.args.self.now c.loop-conn.self
     (omega arith) c.loop-conn.invariant

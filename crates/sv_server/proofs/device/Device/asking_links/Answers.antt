@@ -3,7 +3,7 @@ use Rattle.sv_links.specs.Channels.{ChannelAct, enabled_links}
 use Rattle.sv_links.specs.ChannelRepresentation.{AreChannels}
 use Rattle.sv_links.specs.Limits.{max_links}
 use Rattle.sv_history.specs.Act.{link_acts}
-use Rattle.sv_history.proofs.Telling.{tells_once}
+use Rattle.sv_history.proofs.Telling.{channel_log_unique}
 use Rattle.sv_links.proofs.Rising.{enabled_sorted}
 use Rattle.sv_server.specs.Device.Representation.{AreOwned}
 use Rattle.sv_server.proofs.OnShown.Lists.{all_found}
@@ -14,7 +14,7 @@ pub returns-in-None : goal.returns-in-None
 returns-in-None g c = λ config acts channel_log old heard.
     let is = rw (← c.self.view_is) at old in
     let are : AreChannels c.self.inside.intr channel_log =
-    subst (λ (l : List ChannelAct). AreChannels c.self.inside.intr l) (tells_once acts is.6.0 channel_log is.6.1 heard) is.6.2 in
+    subst (λ (l : List ChannelAct). AreChannels c.self.inside.intr l) (channel_log_unique acts is.6.0 channel_log is.6.1 heard) is.6.2 in
     asking_end (enabled_links channel_log) c.loop-index.index c.loop-index.found.items (c.in-None.ensures channel_log are)
     (c.loop-index.invariant.are config acts channel_log old heard)
 
@@ -24,7 +24,7 @@ loop-index-preserved g c = record {
   are = λ config acts channel_log old heard.
       let is = rw (← c.self.view_is) at old in
       let are : AreChannels c.self.inside.intr channel_log =
-      subst (λ (l : List ChannelAct). AreChannels c.self.inside.intr l) (tells_once acts is.6.0 channel_log is.6.1 heard) is.6.2 in
+      subst (λ (l : List ChannelAct). AreChannels c.self.inside.intr l) (channel_log_unique acts is.6.0 channel_log is.6.1 heard) is.6.2 in
       asking_more (enabled_links channel_log) c.loop-index.index c.in-Some.lid c.in-Some.conn c.loop-index.found.items
       c.push.new.self.items (c.in-Some.ensures channel_log are) c.push.ensures.items
       (c.loop-index.invariant.are config acts channel_log old heard);
@@ -34,7 +34,7 @@ pub returns : goal.returns
 returns g c = λ config acts channel_log old heard.
     let is = rw (← c.self.view_is) at old in
     let are : AreChannels c.self.inside.intr channel_log =
-    subst (λ (l : List ChannelAct). AreChannels c.self.inside.intr l) (tells_once acts is.6.0 channel_log is.6.1 heard) is.6.2 in
+    subst (λ (l : List ChannelAct). AreChannels c.self.inside.intr l) (channel_log_unique acts is.6.0 channel_log is.6.1 heard) is.6.2 in
     let owned : AreOwned (enabled_links channel_log) (link_acts acts) = rw (← are.enabled) is.6.3 in
     let few : length (enabled_links channel_log) ≤ max_links =
     asking_few (enabled_links channel_log) (link_acts acts) (enabled_sorted channel_log) owned (omega (arith, is.5.0)) in

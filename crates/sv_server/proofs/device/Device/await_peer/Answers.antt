@@ -4,7 +4,7 @@ use Rattle.sv_vxi.specs.Reading.{plain_arguments}
 use Rattle.sv_links.specs.declared.waiting.Wait.TheVariants.{Dial}
 use Rattle.sv_history.specs.Act.{wait_acts}
 use Rattle.sv_history.specs.CoreCall.{lid_of}
-use Rattle.sv_history.proofs.Telling.{has_channel_told}
+use Rattle.sv_history.proofs.Telling.{channel_open_by_channel_log}
 use Rattle.sv_server.proofs.OnDevice.Channeled.{device_same, device_dialing}
 use Rattle.sv_server.proofs.OnDevice.Parts.{entered_other}
 use Rattle.sv_server.proofs.OnDevice.Granted.{dials, dial_wants, on_err}
@@ -27,7 +27,7 @@ returns g c = record {
       let (none, other) = dials c.args.conn.number (plain_arguments c.args.args.now) acts c.args.timeout at in
       let prepared = device_same _ c.prepare.new.self config acts is c.prepare.ensures.stands c.prepare.ensures.enabled
       (λ d dials. c.in_ok-prepare.ensures.others d (is.7 d dials)) in
-      let ready = c.in_ok-prepare.ensures.ready is.6.0 is.6.2 (has_channel_told c.args.conn.number acts is.6.0 is.6.1 ∙ none) in
+      let ready = c.in_ok-prepare.ensures.ready is.6.0 is.6.2 (channel_open_by_channel_log c.args.conn.number acts is.6.0 is.6.1 ∙ none) in
       let less = entered_other
       (record { conn = c.args.conn.number; lid = c.lid_of.result; wait = Dial; deadline = c.deadline-deadline.result }) _
       c.enter.new.self c.enter.ensures.value refl in

@@ -1,11 +1,11 @@
 use Rattle.std.proofs.Common.{List, subst}
 use Rattle.sv_links.specs.Channels.{ChannelAct}
 use Rattle.sv_links.specs.ChannelRepresentation.{AreChannels}
-use Rattle.sv_history.proofs.Telling.{tells_once}
+use Rattle.sv_history.proofs.Telling.{channel_log_unique}
 use Rattle.sv_server.proofs.device.Device.channel_waiting.Goals as goal
 
 pub returns-clause-answer : goal.returns-clause-answer
 returns-clause-answer g c = λ config acts channel_log old tells.
     let is = rw (← c.self.view_is) at old in
     c.waiting.ensures.answer channel_log
-    (subst (λ (l : List ChannelAct). AreChannels c.self.inside.intr l) (tells_once acts is.6.0 channel_log is.6.1 tells) is.6.2)
+    (subst (λ (l : List ChannelAct). AreChannels c.self.inside.intr l) (channel_log_unique acts is.6.0 channel_log is.6.1 tells) is.6.2)

@@ -1,6 +1,6 @@
 use Rattle.std.proofs.Common.{◌≡◌, ℕ, true, refl, sym, subst, ◌∙◌, arith}
 use Rattle.sv_links.specs.ChannelRepresentation.{AreChannels}
-use Rattle.sv_history.proofs.Telling.{requests, requests_one}
+use Rattle.sv_history.proofs.Telling.{requests, requests_and_one_more}
 use Rattle.sv_server.proofs.OnDevice.Raising.{Tolls, device_raised}
 use Rattle.sv_server.proofs.device.Device.raise.Goals as goal
 
@@ -18,7 +18,7 @@ loop-init g c = rw (← c.self.view_is) (record {
 
 pub loop-preserved : goal.loop-preserved
 loop-preserved g c = record {
-  tolls = λ channel_log are. subst (λ l. AreChannels c.raise.new.self l) (sym (requests_one c.loop.counter true channel_log))
+  tolls = λ channel_log are. subst (λ l. AreChannels c.raise.new.self l) (sym (requests_and_one_more c.loop.counter true channel_log))
       (c.raise.ensures.stands (requests c.loop.counter channel_log) (c.loop.invariant.tolls channel_log are));
   enabled = c.raise.ensures.enabled ∙ c.loop.invariant.enabled;
   ready = λ d ready. c.raise.ensures.ready d (c.loop.invariant.ready d ready);

@@ -1,12 +1,12 @@
 use Rattle.std.proofs.Common.{rules, sym, ap, ◌∙◌}
 use Rattle.sv_xdr.specs.Reader.{unsigned_at, opaque_at}
-use Rattle.sv_xdr.proofs.Fields.{opaque_takes, opaque_one, pair_parts}
+use Rattle.sv_xdr.proofs.Fields.{opaque_takes, opaque_length_decides, ok_pair_parts}
 use Rattle.sv_xdr.proofs.reader.Reader.opaque.Goals as goal
 
 pub returns-in_err-text-clause-only : goal.returns-in_err-text-clause-only
 returns-in_err-text-clause-only c = λ text after b short.
     let first = ap unsigned_at (sym c.self.view_is) ∙ c.in_ok-size.ensures.exact in
-    let e = opaque_one c.args.max c.in_ok-size.size c.args.self.now c.u32.new.self text after _ first c.if-max-size.false
+    let e = opaque_length_decides c.args.max c.in_ok-size.size c.args.self.now c.u32.new.self text after _ first c.if-max-size.false
     c.in_err-text.ensures.0 b short in absurd cc
 
 pub returns-clause-found : goal.returns-clause-found
@@ -18,9 +18,9 @@ returns-clause-found c =
 pub returns-clause-only : goal.returns-clause-only
 returns-clause-only c = λ text after b short.
     let first = ap unsigned_at (sym c.self.view_is) ∙ c.in_ok-size.ensures.exact in
-    let e = opaque_one c.args.max c.in_ok-size.size c.args.self.now c.u32.new.self text after _ first c.if-max-size.false
+    let e = opaque_length_decides c.args.max c.in_ok-size.size c.args.self.now c.u32.new.self text after _ first c.if-max-size.false
     c.in_ok-text.ensures b short in
-    let parts = pair_parts c.in_ok-text.text.now text c.padded.new.self after e in
+    let parts = ok_pair_parts c.in_ok-text.text.now text c.padded.new.self after e in
     (parts.0, rw c.ahead.view_is parts.1)
 
 pub returns-clause-exact : goal.returns-clause-exact
