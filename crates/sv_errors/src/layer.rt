@@ -26,7 +26,7 @@ pub trait Layer {
         ensures answer { (log : List Self.Act) → stands_for self.old log → gives log act result };
 }
 
-/// Performs acts in order, and discards the answers.
+/// Performs acts in order, and discards the answers. Tests bring a layer to a state by it.
 pub fn act_each<L: Layer>(layer: &mut L, acts: &[L::Act])
 where
     L::Act: Copy,

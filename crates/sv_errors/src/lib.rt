@@ -1,5 +1,5 @@
-//! What all layers of the instrument share: the error codes, the error queue, the trait of a layer,
-//! the ranges of numbers, and the sources of triggers.
+//! The error queue, and what else the instrument's crates share: the error codes, the trait of a
+//! layer, the ranges of numbers, and the sources of triggers.
 //!
 //! Only [`ErrorQueue::new`] allocates.
 #![tactic(auto)]

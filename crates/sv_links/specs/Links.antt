@@ -41,10 +41,6 @@ is_of conn owner = option_map_or (λ other. other == conn) owner false
 abbrev pub links_of : ℕ → List LinkAct → List ℕ
 links_of conn acts = map (λ link. link.lid) (filter (λ link. link.conn == conn) (live acts))
 
--- the lowest number of a connection's live links; `None` if the connection has no live link
-abbrev pub lowest : ℕ → List LinkAct → Option ℕ
-lowest conn acts = find (λ lid. true) (links_of conn acts)
-
 -- whether a number remains for a further link: the highest number of a link is 2,147,483,647
 abbrev pub lids_left : List LinkAct → Bool
 lids_left acts = nat_lt (links_made acts) 2147483647

@@ -2,7 +2,7 @@
 
 ghost use Rattle.std.specs.Prelude.{◌≡◌, ◌+◌, ◌<◌, ◌≤◌, ◌^◌, ◌↔◌, not, ℕ, List, [], ◌∷◌, ◌++◌, length, find, nat_lt, IfOk, OnOk, OnErr, IsOk, Some, Err, true, false};
 ghost use Rattle.sv_links.specs.Limits.{max_links};
-ghost use Rattle.sv_links.specs.Links.{LinkAct, Made, Destroyed, Locked, Unlocked, closing, links_made, live, lids_left, owner, may_make, lowest, holder, is_locked_out, is_this};
+ghost use Rattle.sv_links.specs.Links.{LinkAct, Made, Destroyed, Locked, Unlocked, closing, links_made, live, lids_left, owner, may_make, holder, is_locked_out, is_this};
 ghost use Rattle.sv_links.specs.Table.{IsTable, count_of};
 
 use crate::limits::MAX_LINKS;
@@ -150,17 +150,6 @@ impl<A: Allocator> Links<A> {
     {
         let (_key, link) = self.links.iter().find(|(_key, link)| link.lid == lid)?;
         Some(link.conn)
-    }
-
-    /// The lowest number of a connection's links; `None` if the connection has no link.
-    pub fn lowest(&self, conn: u8) -> Option<u32>
-        ensures { (acts : List LinkAct) → IsTable self.now acts → result ≡ lowest conn acts }
-    {
-        self.links
-            .iter()
-            .filter(|(_key, link)| link.conn == conn)
-            .map(|(_key, link)| link.lid)
-            .min()
     }
 
     /// The link with the lowest number above `lid`; `None` if no link has a number above `lid`.

@@ -39,6 +39,7 @@ pub(crate) fn put_bytes<W: Write>(writer: &mut W, bytes: &[u8]) -> Result<(), Wr
     ensures { IsTakenByWriter (W.contents writer.old) (W.contents writer.new) result bytes.now }
 {
     let mut rest = bytes;
+    // The tries are counted, since a writer may be interrupted any number of times.
     for _ in 0..u64::MAX {
         if rest.is_empty() {
             return Ok(());

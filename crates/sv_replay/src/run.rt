@@ -195,6 +195,7 @@ impl<A: Allocator> Run<A> {
         ensures end { OnOk result (IsAtEnd (R.remaining reader.new)) }
         ensures reads { IsReadOut R.gives reader.old reader.new result }
     {
+        // The tries are counted, since a reader may be interrupted any number of times.
         for _ in 0..u64::MAX {
             if !self.turn(reader, writer)? {
                 return Ok(());
