@@ -1,8 +1,6 @@
--- A call of `take_turn`, for the walk of `allocate`: what it is given, and what is left of that. Assumes `Logic`.
---     Left             the row of the cell that counts down
---     Asks, asks_at    the contract of `take_turn`, and what a caller picks for it
--- asks, answers_bool     from a `&` to the cell and its lifetime's token to what the call wants, and from what it leaves to the token and a
--- `bool`
+-- A call of `take_turn` in the proof of `allocate`. `Left` is the row of its cell, `Asks` its
+-- contract, and `asks_at` what the caller passes. `asks` and `answers_bool` give what the call
+-- requires, and use what it returns. Assumes `Logic`.
 use Rattle.std.proofs.Common.{◌≡◌, ℕ, Bool, List, [], ◌∷◌, refl, ap}
 use seplogic.Ra.Ura.{Ura}
 use mir.Val.{Val, vptr, vbool}

@@ -1,4 +1,4 @@
--- No mnemonics match two rows of the table.
+-- No header fits two rows of the table: a test of all pairs of rows shows this.
 use Rattle.std.proofs.Common.{◌≡◌, ℕ, zero, suc, ◌<◌, ◌&&◌, ◌||◌, ◌==◌, not, Bool, true, false, List, [], ◌∷◌, length, map, refl, sym, ap, ◌∙◌, subst, inl, inr, slice_index_or, arith, eq-eqb}
 use Rattle.std.specs.List.{list_all}
 use Rattle.std.specs.Char.{to_ascii_lowercase}
@@ -10,12 +10,10 @@ use Rattle.sv_header.specs.Resolve.{FitsRow}
 use Rattle.sv_header.specs.Laws.{OneCommand, OnePattern}
 use Rattle.sv_header.proofs.Fitting.{passes}
 
--- a second test is asked where the first holds
 where_both : (a b : Bool) → a ≡ true → b ≡ true → (elim a [ true ↦ b | false ↦ false ]) ≡ true
 where_both true b h e = e
 where_both false b h e = absurd cc
 
--- whether two lists are the same
 same : List ℕ → List ℕ → Bool
 same [] [] = true
 same [] (b ∷ bs) = false
@@ -27,7 +25,7 @@ unfolding same
 same_self [] = refl
 same_self (x ∷ xs) = rw (eq-eqb x x refl, same) (same_self xs)
 
--- whether a mnemonic may be a form of each
+-- Whether one mnemonic may be spelled as both forms, apart from upper and lower case.
 shares_form : List ℕ → List ℕ → Bool
 shares_form a b = same (map to_ascii_lowercase a) (map to_ascii_lowercase b)
 
@@ -45,13 +43,13 @@ is_shared sent p q (inl f) (inr g) = or_left _ _ (or_right _ _ (form_shared sent
 is_shared sent p q (inr f) (inl g) = or_right _ _ (or_left _ _ (form_shared sent p.long q.short f g))
 is_shared sent p q (inr f) (inr g) = or_right _ _ (or_right _ _ (form_shared sent p.long q.long f g))
 
--- whether all may be absent
+-- Whether all nodes are optional.
 all_absent : List Part → Bool
 all_absent [] = true
 all_absent (q ∷ qs) = elim q.optional [ true ↦ all_absent qs | false ↦ false ]
 
--- whether mnemonics may fit both, a first part being given and what the others of its list say of a
--- list
+-- Whether the same mnemonics may fit two lists of nodes. One list begins with `p`, and `others`
+-- tells this of the nodes after it.
 clash_with : Part → (List Part → Bool) → List Part → Bool
 clash_with p others [] = elim p.optional [ true ↦ others [] | false ↦ false ]
 clash_with p others (q ∷ qs) =
@@ -83,13 +81,12 @@ with_fit p ps others (mnemonic ∷ sent) (q ∷ qs) (inl f) (inl g) =
 with_fit p ps others sent (q ∷ qs) (inl f) (inr g) =
     or_right _ _ (where_both q.optional (clash_with p (clash ps) qs) g.0 (with_fit p ps others sent qs (inl f) g.1))
 
--- what fits two lists of nodes makes them clash
+-- Two lists of nodes clash if the same mnemonics fit both.
 both_fit : (ps : List Part) (sent : List (List ℕ)) (qs : List Part) → Fits sent ps → Fits sent qs → clash ps qs ≡ true
 unfolding clash
 both_fit [] sent qs f g = absent_fit qs (subst (λ s. Fits s qs) f g)
 both_fit (p ∷ ps) sent qs f g = with_fit p ps (both_fit ps) sent qs f g
 
--- whether two tests tell the same
 agree : Bool → Bool → Bool
 agree true b = b
 agree false b = not b
@@ -101,7 +98,7 @@ agree_same a true false f g = absurd cc
 agree_same a false true f g = absurd cc
 agree_same a false false f g = refl
 
--- whether a header may fit both rows
+-- Whether one header may fit both rows.
 rows_clash : Row → Row → Bool
 rows_clash r s =
     elim (agree r.common s.common) [
@@ -116,7 +113,7 @@ rows_all_clash path header r s f g =
     where_both _ _ (agree_same _ r.common s.common f.0 g.0)
     (where_both _ _ (agree_same _ r.query s.query f.1 g.1) (both_fit r.parts _ s.parts f.2 g.2))
 
--- whether no row clashes with one behind it
+-- Whether no two rows of the list clash.
 apart : List Row → Bool
 apart [] = true
 apart (r ∷ rows) = list_all (λ s. not (rows_clash r s)) rows && apart rows
@@ -125,7 +122,7 @@ table_apart : apart table ≡ true
 unfolding apart rows_clash agree clash clash_with all_absent shares shares_form same
 table_apart = refl
 
--- a row stands apart from each behind it
+-- A row that is tested against all later rows clashes with none of them.
 apart_behind : (rows : List Row) (r s : Row) (k : ℕ) → list_all (λ t. not (rows_clash r t)) rows ≡ true → k < length rows
     → slice_index_or rows k s ≡ s → rows_clash r s ≡ true → ⊥
 apart_behind rows r s k all lt e clashes =
@@ -133,7 +130,7 @@ apart_behind rows r s k all lt e clashes =
     let b : not true ≡ true = ap not (sym clashes) ∙ a in
     cc
 
--- rows at two places don't clash
+-- Rows at different places of the list don't clash.
 apart_places : (rows : List Row) (j k : ℕ) (r s : Row) → apart rows ≡ true → j < k → k < length rows → slice_index_or rows j r ≡ r
     → slice_index_or rows k s ≡ s
     → rows_clash r s ≡ true → ⊥
@@ -145,7 +142,7 @@ apart_places (row ∷ rows) zero (suc k) r s a lt in_bounds e f =
 apart_places (row ∷ rows) (suc j) (suc k) r s a lt in_bounds e f =
     apart_places rows j k r s (and_parts _ _ a).1 (omega arith) (omega arith) e f
 
--- two rows that a header fits are one
+-- So a header fits at most one row of the table.
 pub one_pattern : OnePattern
 one_pattern path header r s a b f g =
     elim (cases_lt a.0 b.0) [
@@ -159,7 +156,7 @@ one_pattern path header r s a b f g =
           ]
     ]
 
--- so a header names at most one command
+-- So a header names at most one command.
 pub one_command : OneCommand
 one_command path header first second a b =
     sym a.2 ∙ ap (λ row. row.command) (one_pattern path header a.0 b.0 a.1 b.1 a.3 b.3) ∙ b.2

@@ -1,4 +1,4 @@
--- What fits the table is small: it has few mnemonics, and none is long.
+-- A header that fits the table has at most five mnemonics, each of at most 12 characters.
 use Rattle.std.proofs.Common.{◌≡◌, ℕ, zero, suc, ◌+◌, ◌<◌, ◌≤◌, ◌&&◌, Bool, true, List, [], ◌∷◌, ◌++◌, length, refl, sym, ap, ◌∙◌, inl, inr, slice_index_or, arith, leb-true, length-append, subst}
 use Rattle.std.proofs.lemmas.Bool.{and_parts}
 use Rattle.std.specs.Prelude.{nat_le}
@@ -13,15 +13,15 @@ use Rattle.sv_header.specs.Plain.{is_short}
 use Rattle.sv_header.specs.Table.{table}
 use Rattle.sv_header.specs.Resolve.{Resolves, path_before, full, but_last}
 
--- forms of at most 12 characters
+-- Whether both forms of a node have at most 12 characters.
 abbrev is_small : Part → Bool
 is_small part = nat_le (length part.short) 12 && nat_le (length part.long) 12
 
--- at most five of them
+-- Whether a row has at most five nodes, all of them with short enough forms.
 abbrev is_small_row : Row → Bool
 is_small_row row = nat_le (length row.parts) 5 && list_all is_small row.parts
 
--- a mnemonic that has as many characters as one of at most 12
+-- A mnemonic has as many characters as the form that it matches.
 short_same : (sent form : List ℕ) → nat_le (length form) 12 ≡ true → Same sent form → is_short sent ≡ true
 short_same sent form h same =
     let e : length sent ≡ length form = sym (length-map sent _) ∙ ap length same ∙ length-map form _ in
@@ -34,7 +34,7 @@ form_short sent part s (inr h) = short_same sent part.long (and_parts _ _ s).1 h
 at_most : (n m : ℕ) → nat_le n m ≡ true → n ≤ m
 at_most n m h = leb-true n m h
 
--- what fits has no more mnemonics than nodes, and none of more than 12 characters
+-- Mnemonics that fit are no more than the nodes, and none has more than 12 characters.
 pub fits_small : (sent : List (List ℕ)) (parts : List Part) → list_all is_small parts ≡ true → Fits sent parts
     → (length sent ≤ length parts) × (list_all is_short sent ≡ true)
 fits_small sent [] s e = rw e (omega arith, refl)
@@ -48,7 +48,6 @@ fits_small sent (part ∷ parts) s (inr f) =
     let rest : (length sent ≤ length parts) × (list_all is_short sent ≡ true) = fits_small sent parts b.1 f.1 in
     (omega (arith, rest.0), rest.1)
 
--- each row of a table that passes a test passes it
 pub passes : (test : Row → Bool) (rows : List Row) (k : ℕ) (row : Row) → list_all test rows ≡ true → k < length rows
     → slice_index_or rows k row ≡ row → test row ≡ true
 passes test [] k row all lt e = absurd (omega arith)
@@ -58,7 +57,8 @@ passes test (r ∷ rows) (suc k) row all lt e = passes test rows k row (and_part
 table_small : list_all is_small_row table ≡ true
 table_small = refl
 
--- what names a command is small
+-- If a header names a command, path and header together have at most five mnemonics, each of at
+-- most 12 characters.
 pub resolves_small : (path : List (List ℕ)) (header : List ℕ) (command : CommandId) → Resolves path header command
     → (length (full path header) ≤ 5) × (list_all is_short (full path header) ≡ true)
 resolves_small path header command h =
@@ -68,18 +68,16 @@ resolves_small path header command h =
     let l = at_most _ _ b.0 in
     (omega (arith, l, f.0), f.1)
 
--- a list without its last
 pub but_last_push : (path : List (List ℕ)) (last : List ℕ) → but_last (path ++ last ∷ []) ≡ path
 but_last_push [] last = refl
 but_last_push (part ∷ []) last = refl
 but_last_push (part ∷ other ∷ others) last = ap (λ ps. part ∷ ps) (but_last_push (other ∷ others) last)
 
--- what is so of each of two lists together is so of each of the second
 all_behind : (test : List ℕ → Bool) (front behind : List (List ℕ)) → list_all test (front ++ behind) ≡ true → list_all test behind ≡ true
 all_behind test [] behind h = h
 all_behind test (part ∷ front) behind h = all_behind test front behind (and_parts _ _ h).1
 
--- a path and mnemonics are small together
+-- A path and a header's mnemonics are few enough together, and each of these mnemonics is short.
 abbrev AreSmall : List (List ℕ) → List (List ℕ) → Type 0
 AreSmall path sent = (length path + length sent ≤ 5) × (list_all is_short sent ≡ true)
 
@@ -88,7 +86,7 @@ small_at : (l : Lead) (path sent : List (List ℕ))
     → AreSmall (path_before l path) sent
 small_at l path sent h = (omega (arith, h.0, length-append (path_before l path) sent), all_behind is_short (path_before l path) sent h.1)
 
--- what names a command from the root is small
+-- A header that names a command from the root is small enough by itself.
 pub root_small : (path : List (List ℕ)) (header : List ℕ) (command : CommandId) → lead header ≡ Root → Resolves path header command
     → AreSmall [] (mnemonics header)
 root_small path header command e h =
@@ -96,7 +94,7 @@ root_small path header command e h =
     small_at (lead header) path (mnemonics header) (resolves_small path header command h) in
     subst (λ l. AreSmall (path_before l path) (mnemonics header)) e s
 
--- what names one behind the path is so with the path
+-- A header that names a command relative to a path is small enough together with the path.
 pub onward_small : (path : List (List ℕ)) (header : List ℕ) (command : CommandId) → lead header ≡ Onward → Resolves path header command
     → AreSmall path (mnemonics header)
 onward_small path header command e h =

@@ -1,4 +1,4 @@
--- Mnemonics lead to the command that they name by a row of the tree.
+-- The walk of the tree finds exactly the commands that the rows of the table name.
 use Rattle.std.proofs.Common.{◌≡◌, ℕ, zero, suc, Bool, true, false, not, List, [], ◌∷◌, ◌++◌, length, map, take, drop, Option, Some, None, refl, sym, ap, ◌∙◌, subst, inl, inr}
 use Rattle.std.specs.Prelude.{MatchResult, ok_or}
 use Rattle.std.specs.List.{list_all}
@@ -16,7 +16,7 @@ use Rattle.sv_header.specs.Inside.Tree.{ending_rows, below, rows_of, tree_rows, 
 use Rattle.sv_header.specs.Inside.Walk.{LeadsBelow, Leads, IsFound}
 use Rattle.sv_header.proofs.Rows.{SomeNames, some_left, some_right, some_cases, some_from_contains, contains_from_some, some_there, some_absent, some_below, some_ending_rows, ending_rows_cases}
 
--- what leads on below a node names its command by a row there
+-- Mnemonics that lead to a command at a node or below it fit a row of this command there.
 names_below : (c q : Bool) (branch : Branch) (rows : List Row) (Below : List (List ℕ) → CommandId → Type 0)
     → ((left : List (List ℕ)) (command : CommandId) → Below left command → SomeNames c q left command rows)
     → (left : List (List ℕ)) (command : CommandId) → LeadsBelow q branch (λ rest. Below rest command) left command
@@ -25,7 +25,7 @@ names_below c q branch rows Below names left command (inl ends) = some_ending_ro
 names_below c q branch rows Below names left command (inr on) =
     some_right c q left command (ending_rows c branch) rows (names left command on)
 
--- what leads to a command names it by a row
+-- Mnemonics that lead to a command in the tree fit a row of this command.
 pub names_from_leads : (fuel : ℕ) (c q : Bool) (branches : List Branch) (left : List (List ℕ)) (command : CommandId)
     → Leads fuel q branches left command → SomeNames c q left command (rows_of fuel c branches)
 names_from_leads zero c q branches left command h = absurd h
@@ -49,7 +49,7 @@ names_from_leads (suc fuel) c q (branch ∷ behind) left command (inr siblings) 
     (rows_of fuel c (drop branch.below behind))
     (names_from_leads fuel c q (drop branch.below behind) left command siblings)
 
--- a row at or below a node is one to which what is left leads
+-- Mnemonics that fit a row at a node or below it lead to the row's command there.
 leads_below : (c q d : Bool) (branch : Branch) (rows : List Row) (Below : List (List ℕ) → CommandId → Type 0)
     → ((left : List (List ℕ)) (command : CommandId) → SomeNames c q left command rows → Below left command)
     → (left : List (List ℕ)) (command : CommandId) → SomeNames c q left command (ending_rows d branch ++ rows)
@@ -57,7 +57,7 @@ leads_below : (c q d : Bool) (branch : Branch) (rows : List Row) (Below : List (
 leads_below c q d branch rows Below leads left command h =
     elim (ending_rows_cases c q d branch rows left command h) [ inl ends ↦ inl ends.1 | inr on ↦ inr (leads left command on) ]
 
--- what names a command by a row leads to it
+-- Mnemonics that fit a row of a command lead to this command in the tree.
 pub leads_from_names : (fuel : ℕ) (c q d : Bool) (branches : List Branch) (left : List (List ℕ)) (command : CommandId)
     → SomeNames c q left command (rows_of fuel d branches) → Leads fuel q branches left command
 leads_from_names zero c q d branches left command h = absurd h
@@ -77,8 +77,8 @@ leads_from_names (suc fuel) c q d (branch ∷ behind) left command h =
       | inr siblings ↦ inr (leads_from_names fuel c q d (drop branch.below behind) left command siblings)
     ]
 
--- no row of common commands is named by a header of another form, and none of the others by one of
--- theirs
+-- No header without an asterisk fits a row of the common commands, and none with an asterisk fits
+-- any other row.
 not_common : (q : Bool) (left : List (List ℕ)) (command : CommandId) (rows : List Row) → list_all (λ row. row.common) rows ≡ true
     → SomeNames false q left command rows → ⊥
 not_common q left command [] all h = h
@@ -95,7 +95,6 @@ only_common q left command (row ∷ rows) all (inl h) =
     absurd cc
 only_common q left command (row ∷ rows) all (inr h) = only_common q left command rows (and_parts _ _ all).1 h
 
--- the table is its two parts
 table_parts : table ≡ common_commands ++ other_commands
 table_parts = refl
 
@@ -105,7 +104,7 @@ common_common = refl
 others_other : list_all (λ row. not row.common) other_commands ≡ true
 others_other = refl
 
--- so what names a command by the table does by the part of its form
+-- So a header is looked up in only one part of the table: the common commands, or all others.
 part_of_table : (c q : Bool) (left : List (List ℕ)) (command : CommandId) → SomeNames c q left command (common_commands ++ other_commands)
     → SomeNames c q left command (rows_with c)
 part_of_table true q left command h =
@@ -124,13 +123,13 @@ table_of_part : (c q : Bool) (left : List (List ℕ)) (command : CommandId) → 
 table_of_part true q left command h = some_left true q left command common_commands other_commands h
 table_of_part false q left command h = some_right false q left command common_commands other_commands h
 
--- what the code asks about stands for a header behind a path
+-- The code's value `sent` stands for this header, read relative to this path.
 pub record StandsFor (path : List (List ℕ)) (header : List ℕ) (sent : Sent) : Type 0 where
   pub common : sent.common ≡ leads_common (lead header)
   pub query : sent.query ≡ is_query header
   pub mnemonics : left_of sent.mnemonics ≡ full path header
 
--- a header that leads to a command names it
+-- A header whose mnemonics lead to a command names this command.
 pub resolves_from_leads : (path : List (List ℕ)) (header : List ℕ) (sent : Sent) (roots : List Branch) (command : CommandId)
     → StandsFor path header sent → tree_rows sent.common roots ≡ rows_with sent.common
     → Leads (length roots) sent.query roots (left_of sent.mnemonics) command → Resolves path header command
@@ -144,7 +143,7 @@ resolves_from_leads path header sent roots command s whole h =
     let names = found.2 in
     (found.0, found.1, names.0, (sym s.common ∙ names.1, sym s.query ∙ names.2, rw (← s.mnemonics) names.3))
 
--- a header that names a command leads to it
+-- The mnemonics of a header that names a command lead to this command.
 pub leads_from_resolves : (path : List (List ℕ)) (header : List ℕ) (sent : Sent) (roots : List Branch) (command : CommandId)
     → StandsFor path header sent → tree_rows sent.common roots ≡ rows_with sent.common → Resolves path header command
     → Leads (length roots) sent.query roots (left_of sent.mnemonics) command
@@ -157,7 +156,7 @@ leads_from_resolves path header sent roots command s whole h =
     let by_part = part_of_table c q left command (subst (λ rows. SomeNames c q left command rows) table_parts by_table) in
     leads_from_names (length roots) c q c roots left command (subst (λ rows. SomeNames c q left command rows) (sym whole) by_part)
 
--- so what the walk found is the command that the header names
+-- So the walk finds the command that the header names, or the error is -113.
 pub resolved : (path : List (List ℕ)) (header : List ℕ) (sent : Sent) (roots : List Branch) (found : Option CommandId)
     → StandsFor path header sent → tree_rows sent.common roots ≡ rows_with sent.common
     → IsFound found (λ command. Leads (length roots) sent.query roots (left_of sent.mnemonics) command)

@@ -1,4 +1,4 @@
--- Rows that stand at and below a node.
+-- The rows of the commands at a node of the tree and below it.
 use Rattle.std.proofs.Common.{◌≡◌, ℕ, zero, suc, ◌<◌, Bool, true, false, List, [], ◌∷◌, ◌++◌, length, map, Option, Some, None, refl, sym, subst, ◌⊎◌, inl, inr, slice_index_or, arith}
 use Rattle.std.specs.List.{Contains}
 use Rattle.sv_header.specs.declared.command.CommandId.{CommandId}
@@ -7,17 +7,17 @@ use Rattle.sv_header.specs.Pattern.{Part, Row, Fits}
 use Rattle.sv_header.specs.Inside.Tree.{command_of, ending_row, ending_rows, below}
 use Rattle.sv_header.specs.Inside.Walk.{Takes, Ends}
 
--- Mnemonics name a command by a row: it is the row's, and they fit it.
+-- The row is one of this command, and a header of this kind with these mnemonics fits it.
 abbrev pub Names : Bool → Bool → List (List ℕ) → CommandId → Row → Type 0
 Names common query left command row =
     (row.command ≡ command) × (common ≡ row.common) × (query ≡ row.query) × Fits left row.parts
 
--- They name it by one of some rows.
+-- One of these rows is one of this command, and such a header fits it.
 abbrev pub SomeNames : Bool → Bool → List (List ℕ) → CommandId → List Row → Type 0
 SomeNames common query left command [] = ⊥
 SomeNames common query left command (row ∷ rows) = Names common query left command row ⊎ SomeNames common query left command rows
 
--- one of joined rows
+-- A header fits a row of joined lists exactly if it fits a row of one of them.
 pub some_left : (c q : Bool) (left : List (List ℕ)) (command : CommandId) (rows more : List Row) → SomeNames c q left command rows
     → SomeNames c q left command (rows ++ more)
 some_left c q left command [] more h = absurd h
@@ -36,7 +36,7 @@ some_cases c q left command (row ∷ rows) more (inl h) = inl (inl h)
 some_cases c q left command (row ∷ rows) more (inr h) =
     elim (some_cases c q left command rows more h) [ inl front ↦ inl (inr front) | inr behind ↦ inr behind ]
 
--- between a row that the table has and one of some rows
+-- `SomeNames` holds exactly if some row of the list names the command.
 pub some_from_contains : (c q : Bool) (left : List (List ℕ)) (command : CommandId) (rows : List Row) (k : ℕ) (row : Row) → k < length rows
     → slice_index_or rows k row ≡ row → Names c q left command row → SomeNames c q left command rows
 some_from_contains c q left command [] k row lt e h = absurd (omega arith)
@@ -52,7 +52,8 @@ contains_from_some c q left command (first ∷ rows) (inr h) =
     let found = contains_from_some c q left command rows h in
     (found.0, (suc found.1.0, omega (arith, found.1.1), found.1.2), found.2)
 
--- a node that takes the first mnemonic stands in front of what the others fit
+-- If a node takes the first mnemonic and the others fit a row, all fit the row with this node in
+-- front.
 pub some_there : (c q : Bool) (left others : List (List ℕ)) (part : Part) (command : CommandId) (rows : List Row) → Takes left part others
     → SomeNames c q others command rows → SomeNames c q left command (map (below part) rows)
 some_there c q [] others part command rows takes h = absurd takes
@@ -62,21 +63,21 @@ some_there c q (first ∷ behind) others part command (row ∷ rows) takes (inl 
 some_there c q (first ∷ behind) others part command (row ∷ rows) takes (inr h) =
     inr (some_there c q (first ∷ behind) others part command rows takes h)
 
--- so does one that may be absent
+-- Mnemonics that fit a row fit it with an optional node in front.
 pub some_absent : (c q : Bool) (left : List (List ℕ)) (part : Part) (command : CommandId) (rows : List Row) → part.optional ≡ true
     → SomeNames c q left command rows → SomeNames c q left command (map (below part) rows)
 some_absent c q left part command [] may h = absurd h
 some_absent c q left part command (row ∷ rows) may (inl h) = inl (h.0, h.1, h.2, inr (may, h.3))
 some_absent c q left part command (row ∷ rows) may (inr h) = inr (some_absent c q left part command rows may h)
 
--- what fits a node and others: the node is there, or absent
+-- The first node takes the first mnemonic, or it is optional and is omitted.
 fits_cases : (left : List (List ℕ)) (part : Part) (parts : List Part) → Fits left (part ∷ parts)
     → ((others : List (List ℕ)) × Takes left part others × Fits others parts) ⊎ ((part.optional ≡ true) × Fits left parts)
 fits_cases [] part parts (inl h) = absurd h
 fits_cases (first ∷ behind) part parts (inl h) = inl (behind, (h.0, refl), h.1)
 fits_cases left part parts (inr h) = inr h
 
--- a row behind a node: the node is there, or absent
+-- The same for rows that all have this node in front.
 pub some_below : (c q : Bool) (left : List (List ℕ)) (part : Part) (command : CommandId) (rows : List Row)
     → SomeNames c q left command (map (below part) rows)
     → ((others : List (List ℕ)) × Takes left part others × SomeNames c q others command rows)
@@ -93,7 +94,7 @@ some_below c q left part command (row ∷ rows) (inr h) =
       | inr absent ↦ inr (absent.0, inr absent.1)
     ]
 
--- the row that ends at a node
+-- Mnemonics fit the row that ends at a node exactly if they end there.
 some_ending_row : (c q : Bool) (left : List (List ℕ)) (command : CommandId) (ending : Option CommandId) → Ends left ending command
     → SomeNames c q left command (ending_row c q ending)
 some_ending_row c q left command None h = let e : None ≡ Some command = h.1 in absurd cc
@@ -111,7 +112,7 @@ ends_ending_row c q d s left command (Some own) (inl h) =
     (h.1, h.2, (h.3, found))
 ends_ending_row c q d s left command (Some own) (inr h) = absurd h
 
--- the rows that end at a node, and others
+-- The same for both rows that end at a node, with and without a question mark, among other rows.
 pub some_ending_rows : (c q : Bool) (branch : Branch) (rows : List Row) (left : List (List ℕ)) (command : CommandId)
     → Ends left (command_of q branch) command → SomeNames c q left command (ending_rows c branch ++ rows)
 some_ending_rows c false branch rows left command h =

@@ -1,4 +1,4 @@
--- Steps of the walk: what it found at a node, or behind it.
+-- Steps of the walk: the command that it finds at a node, below it, or at a later sibling.
 use Rattle.std.proofs.Common.{◌≡◌, ℕ, zero, suc, ◌<◌, ◌≤◌, Bool, true, false, List, [], ◌∷◌, length, take, drop, Option, Some, None, is_some, sym, ap, ◌∙◌, subst, inl, inr, arith, length-take, length-drop}
 use Rattle.sv_header.specs.declared.command.CommandId.{CommandId}
 use Rattle.sv_header.specs.declared.left.Mnemonics.{Mnemonics}
@@ -8,7 +8,7 @@ use Rattle.sv_header.specs.Plain.{part, left_of}
 use Rattle.sv_header.specs.Inside.Tree.{command_of, IsParted}
 use Rattle.sv_header.specs.Inside.Walk.{Takes, Ends, LeadsBelow, Leads, IsFound, OnLeft, IsBehind, IsAllOf}
 
--- fewer nodes stand below the first of siblings, and behind these
+-- The nodes below the first sibling, and the later siblings, are each fewer than all nodes.
 pub parted_fewer : (branches : List Branch) (branch : Branch) (children siblings : List Branch) → IsParted branches branch children siblings
     → (length children < length branches) × (length siblings < length branches)
 parted_fewer [] branch children siblings p = absurd p
@@ -17,13 +17,12 @@ parted_fewer (first ∷ behind) branch children siblings p =
     let back : length siblings ≡ length (drop first.below behind) = ap length p.2 in
     (omega (arith, front, length-take first.below behind), omega (arith, back, length-drop first.below behind))
 
--- a node takes the first mnemonic in one way
 one_takes : (left : List (List ℕ)) (part : Part) (first second : List (List ℕ)) → Takes left part first → Takes left part second
     → first ≡ second
 one_takes [] part first second a b = absurd a
 one_takes (mnemonic ∷ behind) part first second a b = a.1 ∙ sym b.1
 
--- what leads on below the first of siblings, and below it as it was parted
+-- The mnemonics that remain after a node lead to this command at the node or below it.
 abbrev LeadsFrom : ℕ → Bool → Branch → List Branch → List (List ℕ) → CommandId → Type 0
 LeadsFrom fuel query branch children left command = LeadsBelow query branch (λ rest. Leads fuel query children rest command) left command
 
@@ -41,12 +40,13 @@ from_first fuel query first behind branch children siblings p left command h =
     subst (λ place. LeadsFrom fuel query place children left command) (sym p.0)
     (subst (λ nodes. LeadsFrom fuel query first nodes left command) (sym p.1) h)
 
--- what was found below a node, of what is left there
+-- The walk found this command, or none, at a node or below it, with the mnemonics that remain after
+-- the node.
 abbrev pub FoundBelow : Bool → Branch → List Branch → Option Mnemonics → Option CommandId → Type 0
 FoundBelow query branch children way found = (fuel : ℕ) → length children ≤ fuel
     → IsFound found (λ command. OnLeft way (λ left. LeadsFrom fuel query branch children left command))
 
--- a command below a node that takes the first mnemonic
+-- The walk found a command after the node took the first mnemonic.
 pub found_there : (query : Bool) (branches : List Branch) (branch : Branch) (children siblings : List Branch) (left : List (List ℕ))
     (way : Option Mnemonics) (found : Option CommandId) → IsParted branches branch children siblings → IsBehind left (part branch.node) way
     → FoundBelow query branch children way found → is_some found ≡ true
@@ -63,7 +63,7 @@ found_there query (first ∷ behind) branch children siblings left (Some others)
     let on = to_first fuel query first behind branch children siblings p (left_of others) command (below fuel (omega (arith, fewer.0))) in
     inl (inl (left_of others, takes, on))
 
--- a command below a node that is absent
+-- The walk found a command after the optional node was omitted.
 pub found_absent : (query : Bool) (branches : List Branch) (branch : Branch) (children siblings : List Branch) (left : List (List ℕ))
     (way : Option Mnemonics) (found : Option CommandId) → IsParted branches branch children siblings → IsAllOf left (part branch.node) way
     → FoundBelow query branch children way found → is_some found ≡ true
@@ -80,7 +80,8 @@ found_absent query (first ∷ behind) branch children siblings left (Some all) (
     let on = to_first fuel query first behind branch children siblings p (left_of all) command (below fuel (omega (arith, fewer.0))) in
     inl (inr (may, subst (λ rest. LeadsFrom fuel query first (take first.below behind) rest command) w.1 on))
 
--- nothing below the first of siblings, and nothing behind it
+-- No command is found at the first sibling or below it, nor at a later sibling. So none is found at
+-- all.
 nothing_here : (fuel : ℕ) (query : Bool) (first : Branch) (behind : List Branch) (branch : Branch) (children siblings : List Branch)
     (left : List (List ℕ)) (there absent : Option Mnemonics) (command : CommandId)
     → IsParted (first ∷ behind) branch children siblings → IsBehind left (part branch.node) there → IsAllOf left (part branch.node) absent
@@ -105,7 +106,8 @@ nothing_here fuel query first behind branch children siblings left there (Some a
 nothing_here fuel query first behind branch children siblings left there absent command p w v a b c (inr h) =
     c (subst (λ nodes. Leads fuel query nodes left command) (sym p.2) h)
 
--- what was found among the siblings behind a node, where nothing is found at it
+-- If no command is found at the first sibling or below it, the result is the one for the later
+-- siblings.
 pub found_behind : (query : Bool) (branches : List Branch) (branch : Branch) (children siblings : List Branch) (left : List (List ℕ))
     (there absent : Option Mnemonics) (first second found : Option CommandId) → IsParted branches branch children siblings
     → IsBehind left (part branch.node) there → IsAllOf left (part branch.node) absent
@@ -132,7 +134,8 @@ found_behind query (node ∷ behind) branch children siblings left there absent 
     λ command h. nothing_here fuel query node behind branch children siblings left there absent command p w v (a fuel few command)
     (b fuel few command) (c fuel few_behind command) h
 
--- what was found below it, where it has none
+-- If the node itself names no command for these mnemonics, the result is the one for the nodes
+-- below.
 below_node : (query : Bool) (branch : Branch) (children : List Branch) (left : Mnemonics) (found : Option CommandId)
     → ((command : CommandId) → Ends (left_of left) (command_of query branch) command → ⊥)
     → ((fuel : ℕ) → length children ≤ fuel → IsFound found (λ command. Leads fuel query children (left_of left) command))

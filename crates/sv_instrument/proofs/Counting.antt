@@ -1,4 +1,4 @@
--- Requests for service are counted act by act.
+-- The layers count the requests for service that a step raises, act by act, up to 255.
 use Rattle.std.proofs.Common.{◌≡◌, ℕ, ◌+◌, ◌≤◌, min, Bool, true, false, List, [], ◌∷◌, length, length-append, refl, ap, subst, ◌∙◌, arith}
 use Rattle.sv_scan.specs.Condition.{bit}
 use Rattle.sv_layers.specs.Act.{Act, Polled}
@@ -8,7 +8,6 @@ use Rattle.sv_instrument.specs.RequestCount.{Raise, Raises}
 use Rattle.sv_instrument.specs.Representation.{Kept, StandsFor}
 use Rattle.sv_instrument.specs.Inside.Acted.{Counts, IsCountable, Runs}
 
--- nothing happened yet
 pub raises_none : (log : List Act) → Raises log log 0
 raises_none log = record { acts = []; new_is = refl; count_is = refl }
 
@@ -19,7 +18,7 @@ runs_none {kept} {log} s = record {
   path = s.path;
 }
 
--- one act more
+-- Saturating after each addend gives the same as saturating once at the end.
 still_most : (n more : ℕ) → min (min n max_count + more) max_count ≡ min (n + more) max_count
 still_most n more = grind arith
 
@@ -42,19 +41,19 @@ counted {start} {log} {before} {after} {act} applied h = record {
   count = applied.count ∙ ap (λ (n : ℕ). min (n + bit 0 applied.raised) max_count) h.count ∙ still_most h.raised (bit 0 applied.raised);
 }
 
--- what a call does, wherever the count began
+-- A call that adds an act to every log that the layers stand for also counts this act.
 pub counts : {start log : List Act} {before after : LayerState} {act : Act}
     → ((log : List Act) → Layers before log → IsApplied before.requests after (act ∷ log)) → Counts start before log
     → Counts start after (act ∷ log)
 counts {start} {log} applied h = counted (applied log h.stands) h
 
--- an act raises one at most
+-- Each act raises at most one request for service.
 raise_few : (acts log : List Act) (n : ℕ) → Raise acts log n → n ≤ length acts
 raise_few [] log n none = omega arith
 raise_few (act ∷ acts) log n (true, before, up, others, is) = let few = raise_few acts log before others in omega arith
 raise_few (act ∷ acts) log n (false, before, up, others, is) = let few = raise_few acts log before others in omega arith
 
--- so the count of few acts is exact
+-- After at most 255 acts the counter, which saturates at 255, is exact.
 pub count_exact : {start log : List Act} {layers : LayerState} → Counts start layers log → IsCountable start log
     → Raises start log layers.requests
 count_exact {start} {log} {layers} h few =
@@ -63,7 +62,6 @@ count_exact {start} {log} {layers} h few =
     let is = h.count in
     subst (λ (n : ℕ). Raises start log n) (grind arith) h.raises
 
--- a poll raises none
 none_raised : (raised : Bool) → (raised ≡ true → ⊥) → bit 0 raised ≡ 0
 none_raised true never = absurd (never refl)
 none_raised false never = refl

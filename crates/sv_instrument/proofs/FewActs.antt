@@ -1,4 +1,5 @@
--- A step makes a few acts, so no request for service that one of them raises goes uncounted.
+-- A step adds few acts to the log, so the counter of requests for service, which saturates at 255,
+-- is exact.
 use Rattle.std.proofs.Common.{ℕ, ◌+◌, ◌≤◌, Bool, true, false, List, ◌∷◌, length, arith}
 use Rattle.std.specs.Prelude.{Option, Some, None, Result, Ok, Err, codes, if◌then◌else◌}
 use Rattle.sv_errors.specs.declared.code.Code.{Code}
@@ -23,7 +24,7 @@ use Rattle.sv_instrument.specs.CommandEffect.{Performs, Replies, after_action, a
 use Rattle.sv_instrument.specs.Step.{Does, IsStep, Starts, StepOf, after_interrupt, after_release}
 use Rattle.sv_instrument.specs.Inside.Acted.{IsCountable}
 
--- So many acts are between, at most.
+-- The new log has at most so many acts more than the old one.
 abbrev IsWithin : ℕ → List Act → List Act → Type 0
 IsWithin most log new = length new ≤ length log + most
 

@@ -1,4 +1,4 @@
--- The first parameter of a unit, as it is found.
+-- The first parameter, made from the unit's first token, is the one that the specification reads.
 use Rattle.std.proofs.Common.{arith, ◌≡◌, ◌≤◌, ◌<◌, ℕ, List, refl, ap, ◌∙◌}
 use Rattle.std.proofs.lemmas.Bool.{eq-eqb, ne_eqb}
 use Rattle.std.specs.Prelude.{Option, Some, None, Result, MatchOption, nat_lt, false}
@@ -12,7 +12,7 @@ use Rattle.sv_instrument.specs.declared.command.order.Order.{Order}
 use Rattle.sv_instrument.specs.Command.Order.{parameter_of, order_of}
 use Rattle.sv_instrument.specs.Command.Unit.{first_parameter, order_of_unit}
 
--- The first token of a unit, if there is one.
+-- The first token of a unit's parameters; `None` if the unit has no parameter.
 abbrev pub IsFirst : List ℕ → Option Token → Type 0
 IsFirst unit first =
     MatchOption first (count unit ≤ 0) (λ token. (0 < count unit) × IsToken unit (parameter_place unit 0) (parameter unit 0) token)
@@ -22,7 +22,8 @@ first_is unit None none = let few : count unit ≤ 0 = none in rw (eq-eqb (count
 first_is unit (Some token) some =
     let many : 0 < count unit = some.0 in rw (ne_eqb (count unit) 0 (λ e. omega (arith, many, e)), some.1.kind, some.1.text) refl
 
--- What a unit asks for whose parameters are spelled as such, and are no more than there may be.
+-- If the parameters are well-formed and not too many, the command and the first parameter determine
+-- the unit's order.
 pub asked_is : (command : CommandId) (unit : List ℕ) (first : Option Token) (outcome : Result Order Code) → parameters_fault unit ≡ None
     → nat_lt (most_parameters command) (count unit) ≡ false → IsFirst unit first → outcome ≡ order_of command (parameter_of first)
     → outcome ≡ order_of_unit command unit

@@ -20,7 +20,7 @@ use Rattle.sv_instrument.specs.Inside.Acted.{Behaves, Follows, StartsUnit}
 use Rattle.sv_instrument.proofs.Paths.{started_path}
 use Rattle.sv_instrument.proofs.Dues.{unit_is_next}
 
--- the step that is due, by what is held and what is due of the exchange
+-- A step that fits the held unit and what is due in message exchange is the step that is due.
 pub step_of : (log new : List Act) (kept : Option Awaited) (next : Due) → kept ≡ held_unit log → next ≡ due (exchange_acts log)
     → StepOf kept next log new → IsStep log new
 step_of log new kept next is next_is step =
@@ -29,19 +29,19 @@ step_of log new kept next is next_is step =
 differ : false ≡ true → ⊥
 differ same = absurd cc
 
--- none is due where nothing is
+-- No step is due if no unit is held and nothing is due in message exchange.
 pub nothing_due : (log new : List Act) → None ≡ held_unit log → NothingDue ≡ due (exchange_acts log) → IsStep log new → ⊥
 nothing_due log new free is step =
     subst (λ (d : Due). StepOf None d log new) (sym is)
     (subst (λ (h : Option Awaited). StepOf h (due (exchange_acts log)) log new) (sym free) step)
 
--- none is due where a unit is held and a measurement is under way
+-- No step is due while a unit is held and a measurement is under way.
 pub none_while_busy : (log new : List Act) (awaited : Awaited) → Some awaited ≡ held_unit log → false ≡ is_idle log → IsStep log new → ⊥
 none_while_busy log new awaited is busy step =
     let ended = subst (λ (h : Option Awaited). StepOf h (due (exchange_acts log)) log new) (sym is) step in
     differ (busy ∙ ended.0)
 
--- no unit is held, and nothing is due: no step is
+-- `IsNoneDue` holds if no unit is held and nothing is due in message exchange.
 pub none_while_free : (log : List Act) → None ≡ held_unit log → NothingDue ≡ due (exchange_acts log) → IsNoneDue log
 none_while_free log free is step.Release (held, idle) =
     differ (ap (λ (h : Option Awaited). is_held h) free ∙ held)
@@ -51,7 +51,7 @@ none_while_free log free is (step.Interrupt place unit) (none, so, more, placed)
 none_while_free log free is (step.Unit place unit) (none, so, more) = absurd (let z : NothingDue ≡ UnitDue unit.now = is ∙ so in cc)
 none_while_free log free is step.Finish (none, so) = absurd (let z : NothingDue ≡ FinishDue = is ∙ so in cc)
 
--- a unit is held, and a measurement is under way: no step is due
+-- `IsNoneDue` holds while a unit is held and a measurement is under way.
 pub none_while_held : (log : List Act) (awaited : Awaited) → Some awaited ≡ held_unit log → false ≡ is_idle log → IsNoneDue log
 none_while_held log awaited is busy step.Release (held, idle) = differ (busy ∙ idle)
 none_while_held log awaited is busy step.Overrun (none, so) = absurd (let z : Some awaited ≡ None = is ∙ none in cc)
@@ -60,14 +60,13 @@ none_while_held log awaited is busy (step.Interrupt place unit) (none, so, more,
 none_while_held log awaited is busy (step.Unit place unit) (none, so, placed) = absurd (let z : Some awaited ≡ None = is ∙ none in cc)
 none_while_held log awaited is busy step.Finish (none, so) = absurd (let z : Some awaited ≡ None = is ∙ none in cc)
 
--- a trigger that is refused is not waited for
 pub refused_none : {fault : Option Code} {code : Code} → fault ≡ Some code → fault ≡ None → ⊥
 refused_none {fault} {code} is none = absurd cc
 
 same_unit : (next : Option (List ℕ)) (unit text : List ℕ) → next ≡ Some unit → next ≡ Some text → unit ≡ text
 same_unit next unit text is same = cc
 
--- the unit that is due is the next one
+-- The unit that is due is the next unit of the message, so the step that is due starts it.
 pub unit_step : (log new : List Act) (unit text : List ℕ) → None ≡ held_unit log → UnitDue text ≡ due (exchange_acts log)
     → next_unit (exchange_acts log) ≡ Some unit → Starts unit log new → IsStep log new
 unit_step log new unit text free is next starts =
@@ -75,7 +74,7 @@ unit_step log new unit text free is next starts =
     (subst (λ (bytes : List ℕ). Starts bytes log new)
     (same_unit (next_unit (exchange_acts log)) unit text next (unit_is_next (exchange_acts log) text is)) starts)
 
--- a unit started
+-- After a unit started, the state of the instrument stands for the log.
 pub started : (start log : List Act) (unit : List ℕ) (path : List (List ℕ)) (kept : Kept) → None ≡ held_unit log
     → next_unit (exchange_acts log) ≡ Some unit → IsPath log path
     → Behaves (Follows unit path kept.path log) start kept.layers kept.held log → StartsUnit start log kept
@@ -93,7 +92,8 @@ started start log unit path kept free next here b =
       };
     }
 
--- a trigger that was waited for leaves less
+-- An immediate trigger ends the wait for a trigger, so the measure of the remaining steps
+-- decreases.
 pub fired_less : (new old : LayerState) (kept : Option Awaited) → new.exchange ≡ old.exchange → state_by old ≡ Waiting
     → state_by new ≡ Scanning
     → 2 * (2 * exchange_measure new.exchange + one_if_unheld kept) + waits (state_by new)
@@ -104,7 +104,8 @@ fired_less new old kept exchange waiting scanning =
     let after : waits (state_by new) ≡ 0 = ap waits scanning in
     omega (arith, work, before, after)
 
--- where a unit is due there is no response, so reading it changes nothing
+-- A read takes no bytes from an empty response. So it changes nothing while a unit is held, since a
+-- unit is due only if there is no response.
 shown_nothing : (bytes : List ℕ) (count : ℕ) → is_something bytes ≡ false → count ≤ length bytes → count ≡ 0
 shown_nothing [] count nothing within = omega (arith, within)
 shown_nothing (b ∷ bytes) count nothing within = absurd cc

@@ -1,4 +1,4 @@
--- A unit behind a path asks for one thing, and leaves one path.
+-- A unit that is read relative to a path gives one order or error, and leaves one path.
 use Rattle.std.proofs.Common.{◌≡◌, ℕ, List, sym, ap, ◌∙◌, inl, inr}
 use Rattle.std.specs.Prelude.{Result, Err, Some}
 use Rattle.sv_errors.specs.declared.code.Code.{Code}

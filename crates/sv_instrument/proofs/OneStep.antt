@@ -18,7 +18,6 @@ use Rattle.sv_instrument.specs.Path.{Leaves}
 use Rattle.sv_instrument.specs.Step.{StepOf, Starts, Does, after_interrupt}
 use Rattle.sv_instrument.specs.Laws.{OneStep}
 
--- what two are
 pub both_are : {A : Type 0} {a b it : A} → a ≡ it → b ≡ it → a ≡ b
 both_are first second = first ∙ sym second
 

@@ -1,5 +1,5 @@
--- The path in front of the next unit: the root where no unit of the message began, whatever that
--- is; what a unit leaves that starts; the same where none does.
+-- Until a unit of a message begins, the path is the root. A unit that starts changes the path; more
+-- program text and the end of a held unit don't.
 use Rattle.std.proofs.Common.{◌≡◌, ℕ, zero, suc, ◌+◌, Bool, true, false, List, [], ◌∷◌, ◌++◌, Option, Some, None, Result, length, take, ap, refl, sym, subst, ◌∙◌, IsTrue, arith, cond}
 use Rattle.std.proofs.lemmas.List.{reverse-append}
 use Rattle.std.specs.Prelude.{reverse, slice_get}
@@ -24,18 +24,18 @@ same_root : (n : ℕ) (us vs : List (List ℕ)) (path : List (List ℕ)) → n �
 same_root n us vs path e =
     subst (λ (m : ℕ). Leaves (reverse (take m us)) path → Leaves (reverse (take m vs)) path) (sym e) (λ p. p)
 
--- a message that hasn't ended had no units done
+-- No unit of a message is done before the message has ended.
 none_done : (contents : Contents) (acts : List ExchangeAct) → Exchanges contents acts → contents.ended ≡ false
     → units_done (current acts) ≡ 0
 none_done contents acts s unended = sym s.count ∙ ap length (s.unbegun unended)
 
--- and none of it is held
+-- No unit is held before the message has ended.
 none_held : (kept : Option Awaited) (layers : LayerState) → IsHeldRight kept layers → layers.exchange.ended ≡ false → one_if_held kept ≡ 0
 none_held None layers right unended = refl
 none_held (Some awaited) layers right unended =
     let z : true ≡ false = sym (unit_due_state layers.exchange right).ended ∙ unended in absurd cc
 
--- so none of it began
+-- So no unit of a message begins before the message has ended.
 pub none_begun : (kept : Kept) (log : List Act) → StandsFor kept log → IsHeldRight kept.held kept.layers
     → IsTrue (is_open kept.layers.exchange)
     → units_begun log ≡ 0
@@ -47,19 +47,18 @@ none_begun kept log s right open_now =
     let held_now : one_if_held (held_unit log) ≡ 0 = ap one_if_held (sym s.held) ∙ none_held kept.held kept.layers right unended in
     omega (arith, done, held_now)
 
--- more text leaves the path
+-- More program text leaves the path unchanged.
 pub accepted_path : (kept : Kept) (log : List Act) (bytes : List ℕ) (ended : Bool) → StandsFor kept log → IsHeldRight kept.held kept.layers
     → IsTrue (is_open kept.layers.exchange) → IsPath (Exchanged (Accepted bytes ended) ∷ log) kept.path
 accepted_path kept log bytes ended s right open_now =
     same_root (units_begun log) _ _ kept.path (none_begun kept log s right open_now) s.path
 
--- a message that is finished leaves the root
+-- After a message is finished, the path is the root.
 pub finished_path : (log : List Act) → None ≡ held_unit log → IsPath (Exchanged Finished ∷ log) []
 finished_path log free =
     let none : units_begun (Exchanged Finished ∷ log) ≡ 0 = ap (λ (n : ℕ). 0 + n) (ap one_if_held (sym free)) in
     subst (λ (n : ℕ). Leaves (reverse (take n (units (message (exchange_acts (Exchanged Finished ∷ log)))))) []) (sym none) refl
 
--- so many units, and one more
 taken_more : (us : List (List ℕ)) (n : ℕ) (unit : List ℕ) → slice_get us n ≡ Some unit → take (suc n) us ≡ take n us ++ unit ∷ []
 taken_more [] n unit is = absurd cc
 taken_more (u ∷ us) zero unit is = cc
@@ -73,7 +72,7 @@ of_cond : (b : Bool) (next : Option (List ℕ)) (unit : List ℕ) → cond b nex
 of_cond true next unit is = is
 of_cond false next unit is = absurd cc
 
--- a unit that starts leaves what it was read with
+-- After a unit starts, the path is the one that reading the unit leaves.
 pub started_path : (log new : List Act) (unit : List ℕ) (front behind : List (List ℕ)) (outcome : Result Order Code) → None ≡ held_unit log
     → BeginsOne log new → next_unit (exchange_acts log) ≡ Some unit → IsPath log front → IsReadAs front unit outcome behind
     → IsPath new behind
@@ -89,7 +88,7 @@ started_path log new unit front behind outcome free begins next before read =
     let all = subst (λ (k : ℕ). Leaves (reverse (take k us)) front) none before in
     subst (λ (list : List (List ℕ)). Leaves list behind) (sym are) (front, outcome, all, read)
 
--- a unit that was held leaves what it left when it started
+-- The end of a held unit leaves the path as it was since the unit started.
 pub released_path : (log new : List Act) (awaited : Awaited) (path : List (List ℕ)) → Some awaited ≡ held_unit log → BeginsOne log new
     → IsPath log path → IsPath new path
 released_path log new awaited path is begins before =

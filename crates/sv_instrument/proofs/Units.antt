@@ -1,4 +1,4 @@
--- What a unit makes of the message that it is of.
+-- The acts of a unit: exactly one unit of the message begins, and it is done or held.
 use Rattle.std.proofs.Common.{◌≡◌, ℕ, ◌+◌, Bool, true, false, List, ◌∷◌, refl, ap, sym, ◌∙◌, subst, arith}
 use Rattle.std.specs.Prelude.{Option, Some, None, Result, if◌then◌else◌}
 use Rattle.sv_errors.specs.declared.code.Code.{Code}
@@ -20,12 +20,12 @@ use Rattle.sv_instrument.specs.QueryResponse.{Says}
 use Rattle.sv_instrument.specs.Step.{Does}
 use Rattle.sv_instrument.specs.Inside.Acted.{Counts, IsApart, BeginsOne, Behaves, Follows}
 
--- the exchange doesn't see a change
+-- A change adds no act of message exchange.
 pub change_apart : (change : Change) (log : List Act) → IsApart log (act_of change ∷ log)
 change_apart (changes.Scan act) log = refl
 change_apart _ log = refl
 
--- nor what a query takes or clears
+-- A query that removes an error or clears a register adds no act of message exchange by this.
 pub taken_apart : (asked : Question) (log : List Act) → IsApart log (after_query asked log)
 taken_apart question.Identification log = refl
 taken_apart _ log = refl
@@ -34,7 +34,7 @@ pub configured_apart : (list : Option (List ℕ)) (log : List Act) → IsApart l
 configured_apart None log = refl
 configured_apart (Some channels) log = refl
 
--- what a unit makes behind acts that the exchange doesn't see
+-- Acts outside message exchange may come before the unit's own acts.
 pub behaves_apart : {Makes : List Act → Type 0} {start log behind : List Act} {layers : LayerState} {awaited : Option Awaited}
     → IsApart log behind → Behaves Makes start layers awaited behind → Behaves Makes start layers awaited log
 behaves_apart apart b = record {
@@ -48,15 +48,13 @@ behaves_apart apart b = record {
   };
 }
 
--- a unit that is done
 done_begins : (log : List Act) → BeginsOne log (done log)
 done_begins log = record { message = refl; begun = omega arith }
 
--- one that is held
 held_begins : (awaited : Awaited) (log : List Act) → BeginsOne log (Held awaited ∷ log)
 held_begins awaited log = record { message = refl; begun = refl }
 
--- one that answered, whether its answer had room or not
+-- The log after an answer, which is added or, if it doesn't fit, dropped with error -430.
 abbrev told : Bool → List ℕ → List Act → List Act
 told fits text log = if fits then Exchanged (Answered text) ∷ log else Reported QueryDeadlocked ∷ Exchanged AnswersDropped ∷ log
 
@@ -95,14 +93,12 @@ behaves_answered start log text layers counts =
       begins = told_begins fits text log;
     }
 
--- what the state may refuse
 pub behaves_unless : {start : List Act} {layers : LayerState} {awaited : Option Awaited} {fault given : Option Code} {log : List Act}
     (acts : List Act) → fault ≡ given → Behaves (λ new. new ≡ unless given acts log) start layers awaited log
     → Behaves (λ new. new ≡ unless fault acts log) start layers awaited log
 behaves_unless {start} {layers} {awaited} {fault} {given} {log} acts is =
     subst (λ (f : Option Code). Behaves (λ new. new ≡ unless f acts log) start layers awaited log) (sym is)
 
--- an answer
 pub behaves_replied : {start : List Act} {layers : LayerState} {awaited : Option Awaited} {fault : Option Code} (asked : Question)
     (text : List ℕ) (log : List Act) → fault ≡ None → Says asked log text
     → Behaves (λ new. new ≡ after_answering text (done (after_query asked log))) start layers awaited log
@@ -116,7 +112,6 @@ behaves_replied {start} {layers} {awaited} {fault} asked text log is says b =
       begins = b.begins;
     })
 
--- a unit that was read
 pub behaves_follows : {start : List Act} {layers : LayerState} {awaited : Option Awaited} (unit : List ℕ) (front behind : List (List ℕ))
     (outcome : Result Order Code) (log : List Act) → IsReadAs front unit outcome behind
     → Behaves (Does outcome log) start layers awaited log
@@ -124,7 +119,6 @@ pub behaves_follows : {start : List Act} {layers : LayerState} {awaited : Option
 behaves_follows unit front behind outcome log read b =
     record { new = b.new; makes = (outcome, read, b.makes); counts = b.counts; held = b.held; begins = b.begins }
 
--- what it made, said otherwise
 pub behaves_made : {start log made wanted : List Act} {layers : LayerState} {awaited : Option Awaited} → made ≡ wanted
     → Behaves (λ new. new ≡ made) start layers awaited log → Behaves (λ new. new ≡ wanted) start layers awaited log
 behaves_made {start} {log} {made} {wanted} {layers} {awaited} =

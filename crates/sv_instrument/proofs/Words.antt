@@ -1,10 +1,10 @@
--- Words that are printed.
+-- An answer that is printed into an empty buffer is the text of its value.
 use Rattle.std.proofs.Common.{◌≡◌, ℕ, ◌<◌, ◌++◌, List, [], ◌∙◌, ap}
 use Rattle.std.specs.Prelude.{◌↔◌, decimal}
 use Rattle.std.specs.Int.{bit_at}
 use Rattle.sv_instrument.specs.QueryResponse.{IsWord}
 
--- where nothing was, a word as a number of more bits
+-- A 16-bit word that is printed as a wider integer.
 pub word_printed : (Bit : ℕ → Type 0) (word wide : ℕ) (before text : List ℕ) → word < 65536 → before ≡ [] → wide ≡ word
     → text ≡ before ++ decimal wide → ((k : ℕ) → (bit_at word k ≡ 1) ↔ Bit k) → IsWord Bit text
 word_printed Bit word wide before text fits empty same is bits = record {
@@ -14,11 +14,10 @@ word_printed Bit word wide before text fits empty same is bits = record {
   bits = bits;
 }
 
--- the same of a number that is told as such
+-- A number that is printed as a wider integer.
 pub number_printed : (number wide : ℕ) (before text : List ℕ) → before ≡ [] → wide ≡ number → text ≡ before ++ decimal wide
     → text ≡ decimal number
 number_printed number wide before text empty same is = is ∙ ap (λ (front : List ℕ). front ++ decimal wide) empty ∙ ap decimal same
 
--- what is put where nothing was
 pub alone : {before piece text : List ℕ} → before ≡ [] → text ≡ before ++ piece → text ≡ piece
 alone {before} {piece} {text} empty is = is ∙ ap (λ (front : List ℕ). front ++ piece) empty

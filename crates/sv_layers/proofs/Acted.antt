@@ -1,5 +1,4 @@
--- The exchange has acted, and the other layers are as they were: so an act of the instrument
--- begins.
+-- An act of message exchange begins: this layer has changed, the other layers haven't yet.
 use Rattle.std.proofs.Common.{List, ◌∷◌}
 use Rattle.sv_exchange.specs.Exchange.{ExchangeAct}
 use Rattle.sv_exchange.specs.Contents.{Contents, StandsFor as Exchanges}

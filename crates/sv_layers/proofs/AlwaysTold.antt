@@ -20,7 +20,7 @@ use Rattle.sv_layers.specs.Laws.{OneAccount, SameRaising}
 use Rattle.sv_layers.proofs.OneStatus.{one_status}
 use Rattle.sv_layers.proofs.SameRequests.{told_raised}
 
--- what a register keeps behind its acts
+-- For each log of a register there are latches that stand for it.
 register_kept : (start : ℕ) (acts : List RegisterAct) → (latches : register.Latches) × register.StandsFor start latches acts
 register_kept start [] = (
   record { condition = 0; rise = 32767; fall = 0; event = 0; enable = start; start = start },
@@ -49,7 +49,7 @@ standard_kept (standard.Read ∷ acts) = let h = standard_kept acts in (_, event
 standard_kept (standard.SetEnable word ∷ acts) = let h = standard_kept acts in (_, events.stands_for_enable h.0 acts word h.1)
 standard_kept (standard.Clear ∷ acts) = let h = standard_kept acts in (_, events.stands_for_cleared h.0 acts h.1)
 
--- a test whether an enabled bit stands
+-- Whether some event bit is set and enabled can be decided.
 register_test : (start : ℕ) (acts : List RegisterAct) → (stands : Bool) × ((stands ≡ true) ↔ register.Summary start acts)
 register_test start acts = let h = register_kept start acts in
     (not (eqb (bit_and h.0.event h.0.enable) 0), some_enabled_bit _ _ _ h.1.enable h.1.event)
@@ -58,7 +58,7 @@ standard_test : (acts : List StandardAct) → (stands : Bool) × ((stands ≡ tr
 standard_test acts = let h = standard_kept acts in
     (not (eqb (bit_and h.0.event h.0.enable) 0), some_enabled_bit _ _ _ h.1.enable h.1.event)
 
--- a word has the summary bits
+-- For all logs of the layers there is a status byte with exactly their summary bits.
 some_summary : (at : LayerLogs) → (word : ℕ) × IsSummary word at
 some_summary at = (
   _,

@@ -7,7 +7,6 @@ use Rattle.std.proofs.lemmas.Nat.Bits.{bit_at-pow_same, bit_at-pow_other, bit_at
 use Rattle.sv_scan.specs.Condition.{bit}
 use Rattle.sv_layers.proofs.Either.{unchanged, either_same}
 
--- one bit
 pub bit_of : (place : ℕ) (b : Bool) (k : ℕ) → (bit_at (bit place b) k ≡ 1) ↔ ((k ≡ place) × (b ≡ true))
 bit_of place true k = (
   (λ h. elim (cases_eq k place) [
@@ -22,7 +21,7 @@ pub bit_le : (place : ℕ) (b : Bool) → bit place b ≤ 2 ^ place
 bit_le place true = omega arith
 bit_le place false = omega arith
 
--- the bit above those of a word
+-- Adding a bit above a word sets this bit and keeps the bits of the word.
 above_word : (place w k : ℕ) → w < 2 ^ place → (bit_at (2 ^ place + w) k ≡ 1) ↔ ((k ≡ place) ⊎ (bit_at w k ≡ 1))
 above_word place w k fits =
     let once = one-mul (2 ^ place) in

@@ -1,4 +1,4 @@
--- Small facts of booleans.
+-- Lemmas about booleans and one-bit words.
 use Rattle.std.proofs.Common.{◌≡◌, ℕ, suc, ◌^◌, Bool, true, false, cond, List, [], ◌∷◌, length, refl, sym, nat_lt, arith}
 use Rattle.std.specs.Prelude.{◌↔◌, not, ◌&&◌, ◌||◌}
 use Rattle.std.proofs.lemmas.Bool.{lt-ltb, and_parts, and_from}
@@ -6,14 +6,12 @@ use Rattle.std.specs.Int.{from_bool}
 use Rattle.sv_exchange.specs.Exchange.{is_something}
 use Rattle.sv_scan.specs.Condition.{bit}
 
--- booleans that say the same are the same
 pub same_bool : {P : Type 0} (a b : Bool) → (a ≡ true) ↔ P → (b ≡ true) ↔ P → a ≡ b
 same_bool true true p q = refl
 same_bool true false p q = sym (q.1 (p.0 refl))
 same_bool false true p q = p.1 (q.0 refl)
 same_bool false false p q = refl
 
--- a bit of a word, by a test
 pub bit_is : (k : ℕ) (b : Bool) → cond b (2 ^ k) 0 ≡ bit k b
 bit_is k true = refl
 bit_is k false = refl
@@ -22,22 +20,18 @@ pub byte_is : (b : Bool) → from_bool b ≡ bit 0 b
 byte_is true = refl
 byte_is false = refl
 
--- whether there is any place, by how many there are
 pub any_is : (places : List ℕ) → nat_lt 0 (length places) ≡ is_something places
 any_is [] = refl
 any_is (place ∷ places) = lt-ltb 0 (suc (length places)) (omega arith)
 
--- both of two
 pub and_both : (a b : Bool) → ((a && b) ≡ true) ↔ ((b ≡ true) × (a ≡ true))
 and_both a true = ((λ h. (refl, (and_parts a true h).0)), (λ h. and_from a true h.1 refl))
 and_both a false = ((λ h. absurd (let none = (and_parts a false h).1 in cc)), (λ h. absurd (let none = h.0 in cc)))
 
--- one and not the other
 pub and_not : (a b : Bool) → ((a && not b) ≡ true) ↔ ((b ≡ false) × (a ≡ true))
 and_not a true = ((λ h. absurd (let none = (and_parts a false h).1 in cc)), (λ h. absurd (let none = h.0 in cc)))
 and_not a false = ((λ h. (refl, (and_parts a true h).0)), (λ h. and_from a true h.1 refl))
 
--- neither of two
 pub neither : (a b : Bool) → (a || b) ≡ false → (a ≡ false) × (b ≡ false)
 neither true b e = absurd cc
 neither false b e = (refl, e)

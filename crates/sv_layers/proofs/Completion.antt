@@ -1,4 +1,4 @@
--- Whether an `*OPC` waits, and whether it completes at an act, as it is seen and as the log tells.
+-- The layers' logs and the instrument's log agree on whether an `*OPC` is pending or completes.
 use Rattle.std.proofs.Common.{◌≡◌, Bool, true, false, List, ◌∷◌, refl, ap, ◌∙◌, sym, ◌⊎◌, inl, inr}
 use Rattle.std.specs.Prelude.{◌↔◌, not, ◌&&◌}
 use Rattle.sv_logs.proofs.Since.{since_unique, step_kept, step_same, step_ended, iff_transitive}
@@ -15,13 +15,13 @@ use Rattle.sv_layers.proofs.Either.{unchanged}
 use Rattle.sv_layers.proofs.Booleans.{and_both, and_not}
 use Rattle.sv_layers.proofs.Projected.{begun_scanner}
 
--- a reset cancels an `*OPC`, and no other act of the scanner does
+-- `*RST` cancels a pending `*OPC`; no other act of the scanner does.
 scanned_waits : (act : ScanAct) (log : List Act) (b : Bool)
     → ((b && not (resets act)) ≡ true) ↔ ((cancels (Scanned act) ≡ false) × (IsAsked (Scanned act ∷ log) ⊎ (b ≡ true)))
 scanned_waits Reset log b = step_ended (λ e. absurd cc) (λ e. absurd (let h = (and_not b true).0 e in cc))
 scanned_waits _ log b = step_same refl (λ none. none) (iff_transitive (and_not b false) ((λ h. h.1), (λ e. (refl, e))))
 
--- where an act began; and an `*OPC` cancels none
+-- Whether an `*OPC` is pending after the first part of an act. An `*OPC` itself cancels none.
 begun_waits : (act : Act) (log : List Act) (at : LayerLogs)
     → (((after_begin act at).waits ≡ true) ↔ ((cancels act ≡ false) × (IsAsked (act ∷ log) ⊎ (at.waits ≡ true))))
     × (IsAsked (act ∷ log) → cancels act ≡ false)
@@ -31,7 +31,7 @@ begun_waits Cleared log at = (step_ended (λ e. absurd cc) (λ e. absurd cc), λ
 begun_waits OpcAsked log at = (step_kept refl ((λ e. inl tt), (λ h. refl)), λ asked. refl)
 begun_waits _ log at = (step_same refl (λ none. none) unchanged, λ asked. refl)
 
--- whether no measurement is under way where an act began
+-- The first part of an act decides whether a measurement is under way after the act.
 begun_idle : (act : Act) (log : List Act) → idles (after_begin act (layer_logs log)) ≡ is_idle (act ∷ log)
 begun_idle act log = ap (λ (acts : List ScanAct). idle_state (state (effective acts))) (begun_scanner act log)
 
@@ -51,7 +51,7 @@ waits_step act log =
 pub same_waiting : SameWaiting
 same_waiting = since_unique IsAsked IsPending (λ log. (layer_logs log).waits ≡ true) ((λ e. absurd cc), (λ h. absurd h.0)) waits_step
 
--- whether an `*OPC` completes at an act
+-- Whether an `*OPC` completes at an act, by the logs of the layers.
 abbrev pub completes : Act → List Act → Bool
 completes act before = (after_begin act (layer_logs before)).waits && idles (after_begin act (layer_logs before))
 

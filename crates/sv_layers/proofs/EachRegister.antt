@@ -18,7 +18,7 @@ start_small Operation = omega arith
 start_small Questionable = omega arith
 start_small Limit = omega arith
 
--- with the same acts of the scanner and the same summaries a condition is the same
+-- Equal acts of the scanner and equal summaries give equal conditions.
 pub condition_same : (name : RegisterName) (log other : List Act) → effective_acts log ≡ effective_acts other
     → ((below : RegisterName) → summary below log ≡ summary below other) → condition name log ≡ condition name other
 condition_same Questionable log other same summaries =

@@ -5,7 +5,6 @@ use Rattle.std.specs.Prelude.{◌↔◌}
 pub unchanged : {P : Type 0} → P ↔ P
 unchanged = ((λ p. p), (λ p. p))
 
--- one of two, and what each of them is
 pub either_same : {P A B Q R : Type 0} → P ↔ (A ⊎ Q) → A ↔ B → Q ↔ R → P ↔ (B ⊎ R)
 either_same law a q = (
   (λ p. elim (law.0 p) [ inl x ↦ inl (a.0 x) | inr y ↦ inr (q.0 y) ]),
@@ -18,6 +17,5 @@ both_same same = ((λ h. (h.0, same.0 h.1)), (λ h. (h.0, same.1 h.1)))
 pub equal_same : (a b : Bool) → a ≡ b → (a ≡ true) ↔ (b ≡ true)
 equal_same a b same = ((λ e. sym same ∙ e), (λ e. same ∙ e))
 
--- one of four, in another order
 pub four_same : {A B C Q R S T : Type 0} → T ↔ (C ⊎ S) → S ↔ (B ⊎ R) → R ↔ (A ⊎ Q) → T ↔ ((A ⊎ B ⊎ C) ⊎ Q)
 four_same t s r = ((λ h. grind (arith, t.0, s.0, r.0, h)), (λ h. grind (arith, t.1, s.1, r.1, h)))

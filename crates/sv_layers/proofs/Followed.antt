@@ -1,4 +1,4 @@
--- A condition that isn't touched was told before, and need not be told again.
+-- A register whose condition isn't touched by an act keeps its condition, so it needs no update.
 use Rattle.std.proofs.Common.{◌≡◌, ℕ, ◌+◌, Bool, true, false, List, ◌∷◌, refl, ap, ◌∙◌, sym, subst, bit_or}
 use Rattle.std.proofs.lemmas.Bool.{cond_both}
 use Rattle.sv_logs.proofs.Since.{iff_transitive}
@@ -22,7 +22,7 @@ use Rattle.sv_layers.specs.Inside.LayerLogs.{own, after_begin, register_acts, la
 use Rattle.sv_layers.proofs.Projected.{begun_scanner, begun_register}
 use Rattle.sv_layers.proofs.Registered.{seen_register}
 
--- the condition that a register was told last
+-- An update with the present condition changes nothing in a register.
 pub stands_told : (start : ℕ) (latches : Latches) (acts : List RegisterAct) (word : ℕ) → word ≡ register.condition acts
     → StandsFor start latches acts → StandsFor start latches (Condition word ∷ acts)
 stands_told start latches acts word same is = record {
@@ -34,7 +34,7 @@ stands_told start latches acts word same is = record {
   event = λ k. let step = event_unchanged k word acts same in iff_transitive (is.event k) ((step.1, step.0));
 }
 
--- words of the scanner that aren't touched are what they were
+-- Each condition word of the scanner that isn't touched is unchanged.
 abbrev pub Leaves : Touched → List ScanAct → List ScanAct → Type 0
 Leaves touched after before = (touched.operation ≡ false → scan.operation after ≡ scan.operation before)
     × (touched.questionable ≡ false → scan.questionable after ≡ scan.questionable before)
@@ -53,7 +53,8 @@ counted_leaves touched (Scanned act) log is = scanned_leaves touched act (scan_a
 counted_leaves touched (Exchanged act) log is = ((λ no. refl), (λ no. refl), (λ no. refl))
 counted_leaves touched _ log is = ((λ no. refl), (λ no. refl), (λ no. refl))
 
--- where an act began, the scanner stands for its acts, and each register for those that it saw
+-- After the first part of an act the scanner stands for its new log, and each register for its old
+-- log.
 pub begun_scans : (contents : Contents) (act : Act) (log : List Act) → Scans contents (after_begin act (layer_logs log)).scanner
     → Scans contents (scan_acts (act ∷ log))
 begun_scans contents act log = subst (λ (acts : List ScanAct). Scans contents acts) (begun_scanner act log)
@@ -63,7 +64,8 @@ pub begun_stands : (name : RegisterName) (act : Act) (log : List Act) (latches :
     → StandsFor (start name) latches (register_acts name (layer_logs log))
 begun_stands name act log latches = subst (λ (acts : List RegisterAct). StandsFor (start name) latches acts) (begun_register name act log)
 
--- a register that was told its condition, and ended the act as another one ends, has ended it
+-- A register that got its new condition, and then the direct effect of an act that changes
+-- registers as this act does, stands for its log after this act.
 pub ended_stands : (name : RegisterName) (other act : Act) (log : List Act) (latches : Latches) (word : ℕ)
     → word ≡ condition name (act ∷ log)
     → ((acts : List RegisterAct) → own name other acts ≡ own name act acts)
@@ -74,7 +76,7 @@ ended_stands name other act log latches word told same =
     (same (Condition word ∷ register_acts name (layer_logs log))
     ∙ ap (λ (w : ℕ). own name act (Condition w ∷ register_acts name (layer_logs log))) told ∙ sym (seen_register name act log))
 
--- bit 9 beside bit 0
+-- Bits 0 and 9 don't overlap, so `or` adds them.
 or_is : (low high : Bool) → bit_or (scan.bit 0 low) (scan.bit 9 high) ≡ scan.bit 0 low + scan.bit 9 high
 or_is true true = refl
 or_is true false = refl

@@ -1,4 +1,4 @@
--- A layer that is lent stands for what the log has of it.
+-- In a state that stands for a log, each layer stands for its own acts of the log.
 use Rattle.std.proofs.Common.{List, subst}
 use Rattle.sv_errors.specs.declared.error_queue.QueueAct.{QueueAct}
 use Rattle.sv_errors.specs.ErrorQueue.{StandsFor as Queues}

@@ -1,5 +1,5 @@
--- The limit register's summary, as the search over its bits finds it and as the general definition
--- of a register states it.
+-- The search for the limit register's summary finds what the general definition of a summary
+-- states.
 use Rattle.std.proofs.Common.{◌≡◌, ℕ, ◌<◌, ◌^◌, Bool, true, false, List, [], ◌∷◌, refl, ap, ◌∙◌, sym, arith, inl, inr, get_or}
 use Rattle.std.specs.Prelude.{◌↔◌, ◌&&◌, ◌||◌, Some, None, unwrap_or, if◌then◌else◌}
 use Rattle.std.specs.Int.{bit_at}
@@ -22,7 +22,6 @@ use Rattle.sv_layers.specs.Event.{EventStands, Summary}
 use Rattle.sv_layers.proofs.EachRegister.{start_small}
 use Rattle.sv_layers.proofs.Transitions.{has_is}
 
--- one of these numbers is such
 found_of : (ks : List ℕ) (is_such : ℕ → Bool) → list_any is_such ks ≡ true → (k : ℕ) × (is_such k ≡ true)
 found_of [] is_such e = absurd cc
 found_of (k ∷ ks) is_such e = elim ((either_true (is_such k) (list_any is_such ks)).0 e) [
@@ -35,7 +34,7 @@ below_found k is_such lt e =
     let at : get_or (range_with_len 0 16) k 0 ≡ k = (let found = get_or-range_with_len 0 16 k 0 lt in omega (arith, found)) in
     list_any_at is_such (range_with_len 0 16) k 0 lt (ap is_such at ∙ e)
 
--- a mask has no bit 15
+-- A mask is set without bit 15, so it fits in 16 bits.
 small_of : (b : Bool) (mask word : ℕ) → word < 2 ^ 16 → unwrap_or (if b then Some (without_top_bit mask) else None) word < 2 ^ 16
 small_of true mask word small = let below = mod_below mask (2 ^ 15) (omega arith) in omega (arith, below)
 small_of false mask word small = small
@@ -47,18 +46,18 @@ enable_small name (StatusChanged (Register other (Enable mask)) ∷ log) =
 enable_small name (Preset ∷ log) = start_small name
 enable_small name (_ ∷ log) = enable_small name log
 
--- an enabled bit is below 16
 enabled_below : (name : RegisterName) (log : List Act) (k : ℕ) → bit_at (enable name log) k ≡ 1 → k < 16
 enabled_below name log k e = elim (cases_lt k 16) [
   | inl lt ↦ lt
   | inr le ↦ absurd (let none = bit_at_above (enable name log) 16 k (enable_small name log) le in omega (arith, none, e))
 ]
 
--- what is told is all of the condition
+-- The word is the whole condition of the register. This holds for each register that has no nested
+-- register.
 abbrev pub IsOf : (List Act → ℕ) → RegisterName → Type 0
 IsOf word name = (log : List Act) → word log ≡ condition name log
 
--- what passes there passes by the condition of the register
+-- The word and the condition have the same transitions, so the same event bits are set.
 same_passing : (word : List Act → ℕ) (name : RegisterName) → IsOf word name → (k : ℕ) (log : List Act)
     → passes word name k log ≡ passes (condition name) name k log
 same_passing word name is k [] = refl
@@ -95,7 +94,6 @@ nested_summary_is word name same log =
 pub summary_is : (name : RegisterName) → IsOf (word name) name → (log : List Act) → (summary name log ≡ true) ↔ Summary name log
 summary_is name whole log = nested_summary_is (word name) name whole log
 
--- two tests that say the same of each number
 pub some_same : (ks : List ℕ) (p q : ℕ → Bool) → ((k : ℕ) → p k ≡ q k) → list_any p ks ≡ list_any q ks
 some_same [] p q same = refl
 some_same (k ∷ ks) p q same = ap (λ (b : Bool). b || list_any p ks) (same k) ∙ ap (λ (b : Bool). q k || b) (some_same ks p q same)

@@ -1,5 +1,4 @@
--- A serial poll gives no new reason for service: it changes no summary bit, ends a request, and
--- raises none.
+-- A serial poll sets no summary bit and raises no request for service; it ends a pending request.
 use Rattle.std.proofs.Common.{◌≡◌, ℕ, Bool, true, List, [], ◌∷◌, ◌⊎◌, inl, inr, arith, refl, ap, sym, ◌∙◌}
 use Rattle.std.specs.Prelude.{◌&&◌, ◌||◌}
 use Rattle.std.specs.List.{range_with_len}
@@ -17,7 +16,7 @@ use Rattle.sv_layers.proofs.Transitions.{Passes, NotCleared, changes, no_change}
 use Rattle.sv_layers.proofs.EachRegister.{condition_same}
 use Rattle.sv_layers.proofs.LimitSummary.{some_same}
 
--- it passes no filter, and leaves the summaries
+-- A poll changes no condition. So no transition passes a filter, and the summaries stay.
 stays : (name : RegisterName) (log : List Act) → summary name (Polled ∷ log) ≡ summary name log
 stays name log = some_same (range_with_len 0 16) _ _ (λ k.
     ap (λ (b : Bool). (b || is_since (passes (word name) name k) (leaves name) log) && has_bit (enable name log) k)
@@ -38,7 +37,7 @@ no_pass name k log passed =
 polled_summary : (name : RegisterName) (log : List Act) → Summary name (Polled ∷ log) → Summary name log
 polled_summary name log s = (s.0, (since_same (Passes name s.0) (NotCleared name) Polled log refl (no_pass name s.0 log)).0 s.1, s.2)
 
--- an `*OPC` that waits isn't at an idle place
+-- A poll completes no `*OPC`: one is pending only during a measurement, which a poll doesn't end.
 no_completion : (log : List Act) → Completes (Polled ∷ log) → ⊥
 no_completion [] c = elim c.1 [ inl asked ↦ asked | inr waited ↦ ((since_empty IsAsked IsPending).0 waited.0).0 ]
 no_completion (act ∷ log) c = elim c.1 [
@@ -49,11 +48,10 @@ no_completion (act ∷ log) c = elim c.1 [
 polled_standard : (log : List Act) → StandardSummary (Polled ∷ log) → StandardSummary log
 polled_standard log s = (s.0, (since_same (Occurs s.0) StandardNotCleared Polled log tt (λ occurs. no_completion log occurs.1)).0 s.1, s.2)
 
--- one of five
 some_of_five : {A B C D E P Q R : Type 0} → (A → P) → (B → Q) → (D → R) → A ⊎ B ⊎ C ⊎ D ⊎ E → P ⊎ Q ⊎ C ⊎ R ⊎ E
 some_of_five a b d h = grind (arith, a, b, d, h)
 
--- What asks behind a poll asked before it.
+-- A summary bit that is set and enabled after a poll was set and enabled before it.
 pub polled_asks : (k : ℕ) (log : List Act) → ServiceRequested k (Polled ∷ log) → ServiceRequested k log
 polled_asks k log asks =
     let bit = some_of_five (λ h. (h.0, polled_summary Operation log h.1)) (λ h. (h.0, polled_standard log h.1))

@@ -1,4 +1,4 @@
--- The status byte is told the same by each account of a log.
+-- A log of the instrument determines at most one log of the status byte.
 use Rattle.std.proofs.Common.{◌≡◌, ℕ, ◌+◌, Bool, List, [], ◌∷◌, sym, ap, ◌∙◌}
 use Rattle.sv_errors.specs.ErrorQueue.{entries}
 use Rattle.sv_status.specs.declared.status_byte.StatusAct.{StatusAct}
@@ -10,7 +10,7 @@ use Rattle.sv_layers.specs.Inside.LayerLogs.{LayerLogs, layer_logs}
 use Rattle.sv_layers.specs.Inside.Representation.{IsSummary, IsStatus, own_status}
 use Rattle.sv_layers.proofs.Booleans.{same_bool}
 
--- the word of the summary bits
+-- The status byte with these summary bits.
 abbrev summary_word : LayerLogs → Bool → Bool → Bool → ℕ
 summary_word at operates happened questioned = bit 7 operates + bit 5 happened + bit 4 (is_something (response at.exchange))
     + bit 3 questioned + bit 2 (is_something (entries at.errors))

@@ -1,4 +1,4 @@
--- An act that does nothing to a register itself leaves what a register was told.
+-- A plain act has no direct effect on the status registers or the standard events.
 use Rattle.std.proofs.Common.{◌≡◌, true, List, refl}
 use Rattle.sv_status.specs.declared.register_name.RegisterName.{RegisterName}
 use Rattle.sv_status.specs.declared.register.RegisterAct.{RegisterAct}

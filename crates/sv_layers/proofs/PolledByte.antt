@@ -20,7 +20,7 @@ bit_small : (k : ℕ) (b : Bool) (most : ℕ) → bit k true ≤ most → bit k 
 bit_small k true most le = le
 bit_small k false most le = omega arith
 
--- the summary bits have room in a byte
+-- The summary bits fit in a byte.
 summary_small : (word : ℕ) (at : LayerLogs) → IsSummary word at → word < 256
 summary_small word at s =
     let seven : bit 7 s.operates ≤ 128 = bit_small 7 s.operates 128 (omega arith) in
@@ -31,7 +31,7 @@ summary_small word at s =
     let is = s.word_is in
     omega (arith, is, seven, five, four, three, two)
 
--- so have those that the status byte was told last
+-- The summary bits of the last update fit in a byte.
 told_small : (log : List Act) (status_log : List StatusAct) → IsStatus log status_log → bits status_log < 256
 told_small [] status_log is = rw is (omega arith)
 told_small (act ∷ log) status_log (word, before, summary, earlier, is) = rw is (summary_small word (layer_logs (act ∷ log)) summary)
@@ -51,7 +51,6 @@ same_bit a b k same =
     let second = bit_at-lt b k in
     grind (arith, first, second, same.0, same.1)
 
--- two words whose bits say the same are one
 pub one_word : (P : ℕ → Type 0) (a b : ℕ) → ((k : ℕ) → (bit_at a k ≡ 1) ↔ P k) → ((k : ℕ) → (bit_at b k ≡ 1) ↔ P k) → a ≡ b
 one_word P a b first second =
     same_from_bits a b (λ k. same_bit a b k ((λ h. (second k).1 ((first k).0 h)), (λ h. (first k).1 ((second k).0 h))))

@@ -1,4 +1,4 @@
--- The acts of each layer, taken from the instrument's log.
+-- The logs of message exchange, error queue and scanner are their acts of the instrument's log.
 use Rattle.std.proofs.Common.{◌≡◌, List, [], ◌∷◌, refl, ap}
 use Rattle.sv_errors.specs.declared.error_queue.QueueAct.{QueueAct}
 use Rattle.sv_errors.specs.declared.error_queue.QueueAct.TheVariants as queue
@@ -12,12 +12,12 @@ use Rattle.sv_layers.specs.StatusByte.{service}
 use Rattle.sv_layers.specs.Inside.LayerLogs.{LayerLogs, after_begin, register_acts, layer_logs}
 use Rattle.sv_layers.specs.Laws.{OwnActs}
 
--- these layers see what is theirs of the log
+-- The logs of these layers are their acts of the instrument's log.
 abbrev Projects : LayerLogs → List Act → Type 0
 Projects at log = (at.exchange ≡ exchange_acts log) × (at.errors ≡ queue_acts log) × (at.scanner ≡ scan_acts log)
     × (at.service ≡ service log)
 
--- It begins in these layers, and in no register.
+-- The first part of an act updates the logs of these layers, and no register's log.
 abbrev Begins : Act → List Act → LayerLogs → Type 0
 Begins act log at = Projects at log → Projects (after_begin act at) (act ∷ log)
     × ((after_begin act at).registers ≡ at.registers)
@@ -36,7 +36,8 @@ pub projected : OwnActs
 projected [] = (refl, refl, refl, refl)
 projected (act ∷ log) = (begins act log (layer_logs log) (projected log)).0
 
--- where an act began
+-- After the first part of an act the scanner's log is complete, and each register's log is
+-- unchanged.
 pub begun_scanner : (act : Act) (log : List Act) → (after_begin act (layer_logs log)).scanner ≡ scan_acts (act ∷ log)
 begun_scanner act log = (begins act log (layer_logs log) (projected log)).0.2
 

@@ -1,5 +1,4 @@
--- What a status register sees of an act: the condition behind it, and then what the act does to the
--- register itself.
+-- At each act a status register gets its new condition, and then the direct effect of the act.
 use Rattle.std.proofs.Common.{◌≡◌, List, ◌∷◌, refl}
 use Rattle.sv_status.specs.declared.register_name.RegisterName.{RegisterName}
 use Rattle.sv_status.specs.declared.register.RegisterAct.TheVariants as register

@@ -1,4 +1,4 @@
--- Which bits of a status register stand, as it is seen and as the log tells.
+-- A register's own log and the instrument's log agree on which bits of its event register are set.
 use Rattle.std.proofs.Common.{◌≡◌, ℕ, Bool, true, false, List, [], ◌∷◌, refl, ◌⊎◌}
 use Rattle.std.specs.Prelude.{◌↔◌, not, if◌then◌else◌}
 use Rattle.sv_logs.proofs.Since.{since_unique, step_kept, step_ended, iff_transitive}
@@ -22,7 +22,8 @@ use Rattle.sv_layers.proofs.SameWords.{same_words}
 flip : {P Q : Type 0} → P ↔ Q → Q ↔ P
 flip same = (same.1, same.0)
 
--- the condition behind an act
+-- After a new condition an event bit is set if a transition passes its filter, or if it was set
+-- before.
 at_condition : (name : RegisterName) (k : ℕ) (act : Act) (log : List Act)
     → stands.EventStands k (register.Condition (condition name (act ∷ log)) ∷ register_acts name (layer_logs log))
     ↔ (Passes name k (act ∷ log) ⊎ stands.EventStands k (register_acts name (layer_logs log)))
@@ -32,14 +33,14 @@ at_condition name k act log =
     let is = changes_is k (condition name log) (condition name (act ∷ log)) (rise name log) (fall name log) in
     either_same told (flip is) unchanged
 
--- an act of the register that is named changes none, or the register is the other
+-- An act of a register that neither sets nor clears event bits may be left out.
 where_event : {R : Type 0} (b : Bool) (k : ℕ) (act : RegisterAct) (acts : List RegisterAct)
     → stands.EventStands k (act ∷ acts) ↔ stands.EventStands k acts → stands.EventStands k acts ↔ R
     → stands.EventStands k (if b then act ∷ acts else acts) ↔ R
 where_event true k act acts same h = iff_transitive same h
 where_event false k act acts same h = h
 
--- it is read, or the other
+-- A read clears the event register that it names, and no other.
 where_read : {F Q : Type 0} (b : Bool) (k : ℕ) (acts : List RegisterAct) → stands.EventStands k acts ↔ (F ⊎ Q)
     → stands.EventStands k (if b then register.ReadEvent ∷ acts else acts) ↔ ((not b ≡ true) × (F ⊎ Q))
 where_read true k acts h = step_ended (λ e. absurd cc) (event_read k acts)

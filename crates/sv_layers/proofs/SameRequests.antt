@@ -1,4 +1,5 @@
--- Requests for service and the bits of the status byte, as they are told and as the log tells.
+-- The status byte's own log and the instrument's log agree on requests for service and on the bits
+-- of the status byte.
 use Rattle.std.proofs.Common.{◌≡◌, ◌≢◌, ℕ, List, [], ◌∷◌, refl, ap, sym, ◌∙◌, ◌⊎◌, inl, inr, arith}
 use Rattle.std.specs.Prelude.{◌↔◌}
 use Rattle.std.specs.Int.{bit_at}
@@ -16,18 +17,18 @@ use Rattle.sv_layers.proofs.Projected.{projected}
 use Rattle.sv_layers.proofs.SameSummaries.{same_summaries, no_summary}
 use Rattle.sv_layers.proofs.NothingAtPoll.{polled_asks, polled_ended}
 
--- an act that is no poll: it isn't told of itself, and a request lasts at it by the master summary
--- alone
+-- The act isn't a poll: it adds no poll to the status byte's log, and a pending request lasts
+-- exactly if the master summary is set after it.
 abbrev IsOther : Act → Type 0
 IsOther act = ((status_log : List StatusAct) → own_status act status_log ≡ status_log)
     × ((log : List Act) → Lasts (act ∷ log) ↔ Master (act ∷ log))
 
--- what is so of a poll and of every other act is so
+-- A proof for all acts, by case: a poll, or any other act.
 by_kind : (P : Act → Type 0) → P Polled → ((act : Act) → IsOther act → P act) → (act : Act) → P act
 by_kind P polled other Polled = polled
 by_kind P polled other _ = other _ ((λ status_log. refl), (λ log. ((λ m. m), (λ m. m))))
 
--- the summary bits and the enable that were told last
+-- The last update has the summary bits and the enable that the instrument's log determines.
 told_bits : (log : List Act) (status_log : List StatusAct) → IsStatus log status_log → (k : ℕ)
     → (bit_at (status.bits status_log) k ≡ 1) ↔ SummaryBit k log
 told_bits [] status_log is k = rw is (same_summaries 0 [] no_summary k)
@@ -37,7 +38,7 @@ told_enable : (log : List Act) (status_log : List StatusAct) → IsStatus log st
 told_enable [] status_log is = rw is refl
 told_enable (act ∷ log) status_log (word, before, summary, is, made) = rw made (projected (act ∷ log)).3
 
--- bit 6 is no summary bit
+-- Bit 6 isn't a summary bit.
 not_six : (k : ℕ) (log : List Act) → SummaryBit k log → k ≢ 6
 not_six k log bit six = grind (arith, bit, six)
 
@@ -54,7 +55,7 @@ told_master : (log : List Act) (status_log : List StatusAct) → IsStatus log st
 told_master log status_log is =
     ((λ m. (m.0, (told_asks log status_log is m.0).0 m.1)), (λ m. (m.0, (told_asks log status_log is m.0).1 m.1)))
 
--- the request behind an act by that before it
+-- If the logs agree on whether a request is pending before the act, they agree after it.
 abbrev RequestStep : Act → Type 0
 RequestStep act = (log : List Act) (word : ℕ) (before : List StatusAct) → IsSummary word (layer_logs (act ∷ log)) → IsStatus log before
     → status.Request before ↔ Request log
@@ -103,7 +104,8 @@ same_requests [] status_log is =
 same_requests (act ∷ log) status_log (word, before, summary, is, made) =
     rw made (by_kind RequestStep polled_step other_step act log word before summary is (same_requests log before is))
 
--- whether it is raised, by whether it stood before
+-- If the logs agree on whether a request is pending before the act and after it, they agree on
+-- whether the act raises one.
 abbrev RaisedStep : Act → Type 0
 RaisedStep act = (log : List Act) (now : StatusAct) (before : List StatusAct)
     → status.Request (now ∷ own_status act before) ↔ Request (act ∷ log)
@@ -126,7 +128,7 @@ told_raised (act ∷ log) status_log (word, before, summary, is, made) =
     rw made (by_kind RaisedStep polled_raised other_raised act log _ before
     (same_requests (act ∷ log) _ (word, before, summary, is, refl)) (same_requests log before is))
 
--- the status byte, where bit 6 tells a fact
+-- Equivalent summary bits and an equivalent bit 6 give equivalent bits of the status byte.
 shown : {B P Q : Type 0} (k : ℕ) (log : List Act) → B ↔ SummaryBit k log → P ↔ Q
     → (((k ≢ 6) × B) ⊎ ((k ≡ 6) × P)) ↔ (SummaryBit k log ⊎ ((k ≡ 6) × Q))
 shown k log bit same = (

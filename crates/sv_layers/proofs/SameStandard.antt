@@ -1,4 +1,4 @@
--- Which standard events stand, and their enable, as they are seen and as the log tells.
+-- The log of the standard events and the instrument's log agree on the event bits and the enable.
 use Rattle.std.proofs.Common.{◌≡◌, ℕ, List, [], ◌∷◌, refl, ap, ◌⊎◌}
 use Rattle.std.specs.Prelude.{◌↔◌}
 use Rattle.sv_errors.specs.declared.code.Code.{Code}
@@ -21,13 +21,14 @@ use Rattle.sv_layers.proofs.Either.{unchanged, either_same, both_same, equal_sam
 use Rattle.sv_layers.proofs.Projected.{projected}
 use Rattle.sv_layers.proofs.Completion.{completes, completes_is}
 
--- an operation may complete
+-- An act that completes an `*OPC` sets bit 0.
 completed : (k : ℕ) (act : Act) (log : List Act) (acts : List StandardAct)
     → stands.Stands k (standard.Occur (bit 0 (completes act log)) ∷ acts) ↔ (((k ≡ 0) × Completes (act ∷ log)) ⊎ stands.Stands k acts)
 completed k act log acts = either_same (stands_occurred k (bit 0 (completes act log)) acts)
     (iff_transitive (bit_of 0 (completes act log) k) (both_same (completes_is act log))) unchanged
 
--- an error is reported: its class, an overflow, and the completion of an operation
+-- A reported error sets the bit of its class, bit 3 if the queue overflows, and bit 0 if an `*OPC`
+-- completes.
 reported : (k : ℕ) (code : Code) (log : List Act)
     → stands.Stands k (standard.Occur (bit 0 (completes (Reported code) log))
     ∷ report_bits code (is_full (layer_logs log).errors) (layer_logs log).standard)
@@ -41,7 +42,8 @@ reported k code log =
     (either_same (stands_occurred k (bit 3 full) (standard.Occur event ∷ (layer_logs log).standard)) overflow unchanged)
     (stands_occurred k event (layer_logs log).standard)
 
--- what stands behind an act, and the enable
+-- After an act, a bit is set if the act doesn't clear it, and it occurs at the act or was set
+-- before. If the enables agreed before the act, they agree after it.
 abbrev StandardStep : ℕ → Act → List Act → Type 0
 StandardStep k act log = (stands.Stands k (layer_logs (act ∷ log)).standard
     ↔ (NotCleared (act ∷ log) × (Occurs k (act ∷ log) ⊎ stands.Stands k (layer_logs log).standard)))

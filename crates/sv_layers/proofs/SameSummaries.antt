@@ -27,7 +27,7 @@ use Rattle.sv_layers.proofs.SameWords.{same_words}
 use Rattle.sv_layers.proofs.SameEvents.{same_events}
 use Rattle.sv_layers.proofs.SameStandard.{same_enable, same_standard_events}
 
--- whether an enabled bit stands
+-- The logs agree on whether some event bit is set and enabled.
 pub same_summary : (name : RegisterName) (log : List Act)
     → register.Summary (start name) (register_acts name (layer_logs log)) ↔ Summary name log
 same_summary name log = same_enabled _ _ (same_words name log).3 (λ k. same_events name k log)
@@ -58,7 +58,7 @@ same_summaries word log is k =
     (either_same (top_bit 3 is.questioned _ k (omega arith)) questionable
     (iff_transitive (bit_of 2 errors k) (both_same (equal_same errors _ queue)))))))
 
--- before all acts no summary bit stands
+-- Before all acts no summary bit is set.
 pub no_summary : IsSummary 0 (layer_logs [])
 no_summary = record {
   operates = false;

@@ -1,4 +1,4 @@
--- Condition, filters and enables, as they are seen and as the log has them.
+-- A register's own log and the instrument's log agree on its condition, filters and enable.
 use Rattle.std.proofs.Common.{◌≡◌, ℕ, Bool, true, false, List, [], ◌∷◌, refl, ◌∙◌, subst, sym}
 use Rattle.std.specs.Prelude.{◌^◌, Some, None, unwrap_or, if◌then◌else◌}
 use Rattle.std.proofs.Math.Nat.{mod-mod}
@@ -18,7 +18,7 @@ use Rattle.sv_layers.specs.Laws.{SameWords}
 use Rattle.sv_layers.proofs.EachRegister.{first_condition}
 use Rattle.sv_layers.proofs.Registered.{seen_register}
 
--- the words that a register has behind its acts
+-- These acts give the register this condition, these filters and this enable.
 abbrev Words : ℕ → List RegisterAct → ℕ → ℕ → ℕ → ℕ → Type 0
 Words s acts c r f e = (register_words.condition acts ≡ c) × (register_words.rise acts ≡ r) × (register_words.fall acts ≡ f)
     × (register_words.enable s acts ≡ e)
@@ -26,7 +26,7 @@ Words s acts c r f e = (register_words.condition acts ≡ c) × (register_words.
 abbrev WordsOf : RegisterName → List RegisterAct → List Act → Type 0
 WordsOf name acts log = Words (start name) acts (condition name log) (rise name log) (fall name log) (enable name log)
 
--- a filter has no bit 15
+-- A filter never has bit 15.
 filters_masked : (acts : List RegisterAct) → (without_top_bit (register_words.rise acts) ≡ register_words.rise acts)
     × (without_top_bit (register_words.fall acts) ≡ register_words.fall acts)
 filters_masked [] = (refl, refl)
@@ -37,7 +37,7 @@ filters_masked (ReadEvent ∷ acts) = filters_masked acts
 filters_masked (register.Preset ∷ acts) = (refl, refl)
 filters_masked (Clear ∷ acts) = filters_masked acts
 
--- an act of the register that is named, or of the other
+-- An act changes only the register that it names.
 read_words : (s : ℕ) (b : Bool) (acts : List RegisterAct) (c r f e : ℕ) → Words s acts c r f e
     → Words s (if b then ReadEvent ∷ acts else acts) c r f e
 read_words s true acts c r f e h = h
@@ -60,7 +60,7 @@ fall_words : (s : ℕ) (b : Bool) (mask : ℕ) (acts : List RegisterAct) (c r f 
 fall_words s true mask acts c r f e h = (h.0, (filters_masked acts).0 ∙ h.1, refl, h.3)
 fall_words s false mask acts c r f e h = h
 
--- what a register has behind a condition, and behind what an act does to the register itself
+-- After the direct effect of an act, a register's words are those of the instrument's log.
 own_words : (name : RegisterName) (act : Act) (log : List Act) (acts : List RegisterAct)
     → Words (start name) acts (condition name (act ∷ log)) (rise name log) (fall name log) (enable name log)
     → WordsOf name (own name act acts) (act ∷ log)

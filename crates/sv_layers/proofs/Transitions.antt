@@ -1,5 +1,5 @@
--- A condition bit's transition passes its filter: as the search computes it, and as the definition
--- of a register states it.
+-- The search's test for a transition that passes its filter agrees with the definition of a
+-- register.
 use Rattle.std.proofs.Common.{◌≡◌, ℕ, Bool, true, false, List, refl, ◌⊎◌, arith, eq-eqb}
 use Rattle.std.specs.Prelude.{◌↔◌, not, ◌&&◌, ◌||◌}
 use Rattle.std.specs.Int.{bit_at}
@@ -33,7 +33,7 @@ lacks_is word k = (
   (λ e. rw (ne_eqb (bit_at word k) 1 (λ one. absurd (omega (arith, e, one)))) refl),
 )
 
--- the test of `passes`
+-- Whether bit k changes from `old` to `new`, and the filter `up` or `down` passes the change.
 abbrev pub changes : ℕ → ℕ → ℕ → ℕ → ℕ → Bool
 changes k old new up down = (not (has_bit old k) && (has_bit new k && has_bit up k))
     || (has_bit old k && (not (has_bit new k) && has_bit down k))
@@ -70,7 +70,7 @@ changes_is k old new up down =
     )
     (rises_is k old new up) (falls_is k old new down)
 
--- a bit that doesn't change passes no filter
+-- A bit that doesn't change passes no filter.
 pub no_change : (b r f : Bool) → ((not b && (b && r)) || (b && (not b && f))) ≡ false
 no_change true r f = refl
 no_change false r f = refl

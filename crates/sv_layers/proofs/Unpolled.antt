@@ -1,4 +1,4 @@
--- A change is no poll: the status byte is told no more than it was before.
+-- A change isn't a poll, so it adds no poll to the status byte's log.
 use Rattle.std.proofs.Common.{◌≡◌, List, refl}
 use Rattle.sv_status.specs.declared.status_byte.StatusAct.{StatusAct}
 use Rattle.sv_layers.specs.declared.change.Change.{Change}

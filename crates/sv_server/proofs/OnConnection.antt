@@ -1,3 +1,3 @@
--- Lemmas of a connection, over what is kept of it.
+-- Lemmas about the state of a connection.
 pub mod Replies
 pub mod Connections

@@ -1,4 +1,4 @@
--- Lemmas of the device, over what is kept of it.
+-- Lemmas about the state of the device.
 pub mod Effects
 pub mod Owned
 pub mod Raising

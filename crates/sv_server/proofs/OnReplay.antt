@@ -1,4 +1,4 @@
--- Lemmas of the replay: what is written and told.
+-- Lemmas about what a replay and `explain` write.
 pub mod Ports
 pub mod Shown
 pub mod Replayed

@@ -1,4 +1,4 @@
--- Lemmas of the server: logs, turns, steps that are due.
+-- Lemmas about the server: its logs, its Turns, and the steps that are due.
 pub mod Taken
 pub mod Used
 pub mod Aborting

@@ -1,4 +1,4 @@
--- Lemmas of what is told of a server.
+-- Lemmas about the state that `explain` shows.
 pub mod Lists
 pub mod Links
 pub mod Calls

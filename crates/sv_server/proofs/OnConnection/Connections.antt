@@ -1,4 +1,4 @@
--- What is kept of a connection tells what its acts say.
+-- Each value that is computed from a connection's state is the one that its acts determine.
 use Rattle.std.proofs.Common.{◌≡◌, ◌≢◌, ℕ, zero, suc, ◌≤◌, Bool, true, false, cond, eqb, List, [], ◌∷◌, ◌++◌, length, drop, Option, Some, None, refl, sym, ap, ◌∙◌, arith, inl, inr, eq-eqb}
 use Rattle.std.specs.Prelude.{◌||◌, ◌&&◌, ◌-◌, slice_get, is_some, is_none, not, option_map, Result, Ok, Err}
 use Rattle.std.proofs.lemmas.Bool.{ne_eqb, cases_eq}
@@ -28,21 +28,19 @@ eqb_suc n m = elim (cases_eq n m) [
       rw (ne_eqb n m ne, ne_eqb (suc n) (suc m) (λ e. ne (omega arith))) refl
 ]
 
--- nothing is left behind all of a list
 all_dropped : (xs : List (List ℕ)) (n : ℕ) → n ≤ length xs → none_left (drop n xs) ≡ eqb n (length xs)
 all_dropped [] zero h = refl
 all_dropped [] (suc n) h = absurd (omega arith)
 all_dropped (x ∷ xs) zero h = sym (ne_eqb 0 (length (x ∷ xs)) (λ e. absurd (omega arith)))
 all_dropped (x ∷ xs) (suc n) h = all_dropped xs n (omega arith) ∙ eqb_suc n (length xs)
 
--- the first of what is left
 first_left : (xs : List (List ℕ)) (n : ℕ) → slice_get (drop n xs) 0 ≡ slice_get xs n
 first_left [] zero = refl
 first_left [] (suc n) = refl
 first_left (x ∷ xs) zero = refl
 first_left (x ∷ xs) (suc n) = first_left xs n
 
--- more behind a list that isn't empty
+-- Appending to a list that isn't empty keeps its first element.
 pub first_stays : (xs ys : List (List ℕ)) → xs ≢ [] → slice_get (xs ++ ys) 0 ≡ slice_get xs 0
 first_stays [] ys some = absurd (some refl)
 first_stays (x ∷ xs) ys some = refl
@@ -65,7 +63,6 @@ few_ended : (kept : Connection) (acts : List ConnAct) → IsConnection kept acts
 few_ended kept acts is =
     omega (arith, is.input.bounded, ap length (read_alone (stream acts) is.input.all kept.input.tail is.input.splits).0)
 
--- the call to take next
 pub next_is : (kept : Connection) (acts : List ConnAct) → IsConnection kept acts → kept_next kept ≡ next_call acts
 next_is kept acts is =
     ap (λ (b : Bool). cond (b || kept.busy) None (slice_get kept.input.records 0)) is.faulted
@@ -73,7 +70,7 @@ next_is kept acts is =
     ∙ ap (cond (took_no_call acts || is_busy acts) None)
     (ap (λ (rs : List (List ℕ)). slice_get rs 0) (records_are kept acts is) ∙ first_left (records_of (stream acts)) (records_ended acts))
 
--- a fault that the buffer tells
+-- Whether the buffer returns a fault.
 abbrev pub is_fault : Result (Option (List ℕ)) RpcFault → Bool
 is_fault (Ok found) = false
 is_fault (Err RecordTooLong) = true
@@ -92,7 +89,7 @@ turned true false = refl
 turned false true = refl
 turned false false = refl
 
--- whether it is faulted
+-- A connection is faulted if its buffer returns a fault, or if it took a record that isn't a call.
 pub faulted_is : (kept : Connection) (acts : List ConnAct) → IsConnection kept acts
     → (is_fault (next_among kept.input.records kept.input.tail) || kept.faulted) ≡ is_faulted acts
 faulted_is kept acts is =
@@ -104,7 +101,7 @@ faulted_is kept acts is =
     ∙ ap (λ (b : Bool). ends_overlong kept.input.tail && b) left
     ∙ ap (λ (t : Tail). ends_overlong t && eqb (records_ended acts) (length (records_of (stream acts)))) (tail_is kept acts is))
 
--- the one fault there is
+-- A record that is too long is the only fault of the buffer.
 one_fault : (fault : RpcFault) (answer : Result (Option (List ℕ)) RpcFault) → answer ≡ Err fault → is_fault answer ≡ true
 one_fault RecordTooLong answer e = ap is_fault e
 
@@ -113,11 +110,10 @@ pub faulted_told : (kept : Connection) (acts : List ConnAct) → IsConnection ke
 faulted_told kept acts is fault e =
     sym (ap (λ (b : Bool). b || kept.faulted) (one_fault fault _ e)) ∙ faulted_is kept acts is
 
--- whether a record is too long
 pub overlong_is : (kept : Connection) (acts : List ConnAct) → IsConnection kept acts → ends_overlong kept.input.tail ≡ is_overlong acts
 overlong_is kept acts is = ap ends_overlong (tail_is kept acts is)
 
--- how many bytes may come, where it is open
+-- How many bytes may come: none if the connection isn't open.
 pub room_is : (kept : Connection) (acts : List ConnAct) → IsConnection kept acts → is_some kept.role ≡ true → room_of kept.input ≡ room acts
 room_is kept acts is opened =
     let open_now : is_open acts ≡ true = ap is_some (sym is.role) ∙ opened in
@@ -146,7 +142,7 @@ took_call kept acts call is next = record {
   call = λ busy. not_none (kept.faulted || kept.busy) _ call (next_is kept acts is ∙ next);
 }
 
--- no call is told as none
+-- No call is found exactly if the connection is idle.
 pub idle_told : (found : Option (Bor (List ℕ))) (none : Bool) (acts : List ConnAct) → is_some found ≡ not none
     → option_map (λ call. call.now) found ≡ next_call acts → none ≡ is_idle acts
 idle_told None true acts told e = ap is_none e

@@ -1,4 +1,4 @@
--- A reply has room in the text that it is written into.
+-- A reply fits in the buffer into which it is written.
 use Rattle.std.proofs.Common.{◌≡◌, ℕ, ◌+◌, ◌*◌, ◌≤◌, List, [], ◌∷◌, ◌++◌, length, Result, refl, sym, ap, ◌∙◌, arith}
 use Rattle.std.specs.Prelude.{map, replicate}
 use Rattle.std.specs.List.{concat}
@@ -17,16 +17,16 @@ use Rattle.sv_server.specs.declared.connection.reply.Answer.TheVariants as answe
 use Rattle.sv_server.specs.Connection.Inside.Replies.{HasAtMost, answer_text}
 use Rattle.sv_vxi.specs.Results.{Outcome, plain_result, Read, Data, result_fields, data_of}
 
--- the header of a reply is at most eight words
+-- The header of a reply has at most eight words.
 pub reply_is_short : (xid : ℕ) (reply : Reply) → length (concat (map spelling (reply_fields xid reply))) ≤ 32
 reply_is_short xid Success = omega arith
 reply_is_short xid _ = omega arith
 
--- that of a reply with a result is six
+-- The header of a reply with a result has six words.
 pub success_is_short : (xid : ℕ) → length (concat (map spelling (reply_fields xid Success))) ≡ 24
 success_is_short xid = refl
 
--- data of so many words and one are spelled in one word more
+-- Opaque data are spelled as one word with the length, and the data padded to whole words.
 text_is_short : (words : ℕ) (bytes : List ℕ) → length bytes ≤ 4 * words + 4 → length (spelling (Opaque bytes)) ≤ 4 * words + 8
 text_is_short words bytes h = omega (
   arith,
@@ -34,8 +34,8 @@ text_is_short words bytes h = omega (
   length-replicate {A = ℕ} (pad_len (length bytes)) 0,
 )
 
--- a result with data is error, reason, length and the data's words; one without has four words at
--- most
+-- A result with data has error, reason, length and the data's words; one without data has at most
+-- four words.
 result_is_short : (words : ℕ) (outcome : Outcome) → length (data_of outcome) ≤ 4 * words + 4
     → length (concat (map spelling (result_fields outcome))) ≤ 4 * words + 16
 result_is_short words (Read error reason bytes) h =
@@ -46,7 +46,7 @@ result_is_short words (Data error bytes) h =
     omega (arith, text_is_short words text h, length-append (spelling (Opaque text)) [])
 result_is_short words _ h = omega arith
 
--- the header of a reply and the fields behind it are all written where they have room
+-- The header of a reply and its fields are both written completely if they fit.
 pub both_are_written : (xid : ℕ) (fields : List Field) (r s : Result Unit XdrFault) (old mid new : Writer) → text_of old ≡ []
     → length (concat (map spelling (reply_fields xid Success ++ fields))) ≤ length (rest_of old)
     → WritesEach (map spelling (reply_fields xid Success)) r old mid
@@ -71,15 +71,15 @@ reply_fits xid most fields short =
     let body = map spelling fields in
     omega (arith, ap length (concat-append header body), length-append (concat header) (concat body), success_is_short xid)
 
--- what was written is this answer
+-- The writer has exactly the reply with this answer.
 abbrev pub Written : ℕ → Writer → Answer → Type 0
 Written xid writer answer = text_of writer ≡ answer_text xid answer
 
--- a reply with this answer has room in what is left to write into
+-- The reply with this answer fits in the rest of the buffer.
 abbrev pub HasRoom : ℕ → Writer → Answer → Type 0
 HasRoom xid writer answer = length (answer_text xid answer) ≤ length (rest_of writer)
 
--- an answer has room in 36 bytes more than its data
+-- A reply is at most 36 bytes longer than the limit for its data.
 pub answer_is_short : (words xid : ℕ) (answer : Answer) → HasAtMost (4 * words + 4) answer
     → length (answer_text xid answer) ≤ 4 * words + 40
 answer_is_short words xid (answers.Header reply) short =

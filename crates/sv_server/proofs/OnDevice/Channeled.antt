@@ -1,4 +1,4 @@
--- What all connections share, over acts of interrupt channels.
+-- After an act of an interrupt channel, the device has the state that its acts determine.
 use Rattle.std.proofs.Common.{◌≡◌, ℕ, Bool, true, List, [], ◌∷◌, ◌++◌, Option, Some, None, refl, sym, ap, subst, ◌∙◌, inl, inr, arith}
 use Rattle.std.specs.Prelude.{map, filter, not, ◌==◌}
 use Rattle.std.proofs.lemmas.Bool.{cases_Bool, cases_eq, eqb-true, ne_eqb}
@@ -19,7 +19,7 @@ use Rattle.sv_history.proofs.Projections.{wait_acts_links}
 use Rattle.sv_server.proofs.OnDevice.Parts.{dials_left}
 use Rattle.sv_server.proofs.OnDevice.Owned.{room_for, owned_enabled}
 
--- an act of a channel
+-- A channel acts, and the rest of the device stays.
 pub device_channel : (kept : Device) (intr : Channels) (config : Config) (acts : List DeviceAct) (act : ChannelAct)
     → IsDevice kept config acts
     → ((channel_log : List ChannelAct) → HearsOf acts channel_log → AreChannels kept.intr channel_log
@@ -38,7 +38,7 @@ device_channel kept intr config acts act (links, instrument, set_up, clock, wait
       ready,
     )
 
--- none, where only the memory of a channel is another
+-- Only the memory of a channel changes, so the same acts determine the device's state.
 pub device_same : (kept : Device) (intr : Channels) (config : Config) (acts : List DeviceAct) → IsDevice kept config acts
     → ((channel_log : List ChannelAct) → AreChannels kept.intr channel_log → AreChannels intr channel_log)
     → intr.enabled ≡ kept.intr.enabled
@@ -47,7 +47,8 @@ device_same kept intr config acts (links, instrument, set_up, clock, waiting, re
     let (channel_log, tells, are, owned) = was in
     (links, instrument, set_up, clock, waiting, reserved, (channel_log, tells, stands channel_log are, rw same owned), ready)
 
--- what a call that ended to wait for its peer leaves prepared
+-- After a connection's call leaves the queue, only the other connections' channels have to stay
+-- prepared.
 ready_left : (old new : Channels) (c : ℕ) (acts : List WaitAct) → AreReady old (Left c ∷ acts)
     → ((d : ℕ) → (d ≡ c → ⊥) → IsReady old d → IsReady new d) → AreReady new (Left c ∷ acts)
 ready_left old new c acts ready others = λ d dials. others d (dials_left c d acts dials).1 (ready d dials)
@@ -73,7 +74,7 @@ device_cancelled kept intr config acts links c is stands same others =
     (subst (λ (w : List WaitAct). AreReady intr w) (sym waits)
     (ready_left kept.intr intr c (wait_acts acts) (subst (λ (w : List WaitAct). AreReady kept.intr w) waits is.7) others))
 
--- the channel of a call that ended to wait is open
+-- The channel of a call that left the queue opens.
 pub device_opened : (kept : Device) (intr : Channels) (config : Config) (acts : List DeviceAct) (c : ℕ) (act : ChannelAct)
     → IsDevice kept config (Waited (Left c) ∷ acts)
     → ((channel_log : List ChannelAct) → AreChannels kept.intr channel_log → AreChannels intr (act ∷ channel_log))
@@ -84,7 +85,7 @@ device_opened kept intr config acts c act is stands same others =
     device_channel kept intr config (Waited (Left c) ∷ acts) act is (λ channel_log tells are. stands channel_log are)
     (rw same is.6.3) (ready_left kept.intr intr c (wait_acts acts) is.7 others)
 
--- a call begins to wait for its peer, with a channel that is prepared
+-- A call is suspended until its peer is connected. Its channel is prepared.
 dials_ready : (intr : Channels) (c : ℕ) (named deadline : Option ℕ) (acts : List WaitAct) → AreReady intr acts → IsReady intr c
     → AreReady intr (Entered c named Dial deadline ∷ acts)
 dials_ready intr c named deadline acts ready this = λ d dials. elim (cases_eq c d) [
@@ -100,7 +101,7 @@ device_dialing kept waiting config acts c named deadline
     (links, instrument, set_up, clock, before, was, channel_log, ready) queue reserved this =
     (links, instrument, set_up, clock, queue, reserved, channel_log, dials_ready kept.intr c named deadline (wait_acts acts) ready this)
 
--- a link of a connection asks for service requests
+-- A link enables service requests. There is room for it.
 pub room_there : (kept : Device) (config : Config) (acts : List DeviceAct) (lid conn : ℕ) → IsDevice kept config acts
     → owner lid (link_acts acts) ≡ Some conn → HasRoomFor lid kept.intr
 room_there kept config acts lid conn is owns =
@@ -123,7 +124,7 @@ device_enabled kept intr config acts lid conn handle is owns stands still =
     device_channel kept intr config acts (SrqEnabled lid conn handle) is (λ t tells are. stands room t are)
     (rw more (owned_enabled kept.intr.enabled (link_acts acts) lid conn handle owned owns)) (λ c dials. still c (is.7 c dials))
 
--- and one asks no more
+-- A link disables service requests.
 owned_less : (keeps : Enabled → Bool) (links : List Enabled) (acts : List LinkAct) → AreOwned links acts
     → AreOwned (filter keeps links) acts
 owned_less keeps [] acts owned = tt
@@ -145,7 +146,6 @@ device_disabled kept intr config acts lid is stands still =
     device_channel kept intr config acts (SrqDisabled lid) is (λ t tells are. stands t are)
     (rw less (owned_less (λ other. not (other.lid == lid)) kept.intr.enabled (link_acts acts) owned)) (λ c dials. still c (is.7 c dials))
 
--- whose link it is
 pub owner_is : (c : ℕ) (found : Option ℕ) → is_of c found ≡ true → found ≡ Some c
 owner_is c (Some other) e = ap (λ (n : ℕ). Some n) (eqb-true other c e)
 owner_is c None e = absurd cc

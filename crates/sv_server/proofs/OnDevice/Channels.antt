@@ -1,4 +1,4 @@
--- Interrupt channels, as ports.
+-- Which interrupt channels are open, what waits on them, and when a Took of a channel is refused.
 use Rattle.std.proofs.Common.{◌≡◌, ◌≢◌, ℕ, ◌<◌, ◌≤◌, not, Bool, true, false, cond, List, [], ◌∷◌, length, Option, Some, None, refl, sym, ap, subst, ◌∙◌, inl, inr, arith}
 use Rattle.std.specs.Prelude.{◌||◌, is_some, nat_lt}
 use Rattle.std.specs.List.{concat}
@@ -19,13 +19,13 @@ use Rattle.sv_server.specs.Device.Representation.{Device as KeptDevice, IsDevice
 use Rattle.sv_history.specs.History.{is_channel_shut, took_refusal}
 use Rattle.sv_history.proofs.Telling.{channel_log_unique}
 
--- what is kept of them, by what the acts tell
+-- The channels have the state that their log determines.
 channels_of : (kept : KeptDevice) (config : Config) (acts : List DeviceAct) (channel_log : List ChannelAct) → IsDevice kept config acts
     → HearsOf acts channel_log → AreChannels kept.intr channel_log
 channels_of kept config acts channel_log is tells =
     subst (λ (l : List ChannelAct). AreChannels kept.intr l) (channel_log_unique acts is.6.0 channel_log is.6.1 tells) is.6.2
 
--- bytes wait on an open one alone
+-- Bytes wait only on an open channel.
 waits_where : (open_now : Bool) (bytes : List ℕ) → 0 < length (cond open_now bytes []) → open_now ≡ true
 waits_where true bytes some = refl
 waits_where false bytes some = absurd (omega arith)
@@ -38,7 +38,7 @@ pub channel_open : (c : ℕ) (channel_log : List ChannelAct) → 0 < length (cha
 channel_open c channel_log some = waits_where (is_channel_open c channel_log)
     (concat (calls_left (bytes_taken c channel_log) (calls c channel_log))) some
 
--- and none is open whose number is above 15
+-- No channel with a number above 15 is open.
 beyond_shut : (kept : KeptDevice) (config : Config) (acts : List DeviceAct) (channel_log : List ChannelAct) (c : ℕ)
     → IsDevice kept config acts
     → HearsOf acts channel_log → 16 ≤ c → is_channel_open c channel_log ≡ false
@@ -59,7 +59,7 @@ channel_within kept config acts channel_log c is tells there = elim (cases_lt c 
   | inr above ↦ absurd (let z : true ≡ false = sym there ∙ beyond_shut kept config acts channel_log c is tells above in cc)
 ]
 
--- whether the channel of a number is shut
+-- A channel is shut exactly if its connection has none.
 pub channel_shut_is : (c : ℕ) (log : List Act) (b : Bool) → c < 16 → has_channel c (device_acts log) ≡ b → is_channel_shut c log ≡ not b
 channel_shut_is c log b lt e = rw (le-ltb 15 c (omega arith), e) refl
 
@@ -74,23 +74,23 @@ channel_there c log unshut = neither (nat_lt 15 c) (has_channel c (device_acts l
 pub channel_beyond : (c : ℕ) (log : List Act) → 16 ≤ c → is_channel_shut c log ≡ true
 channel_beyond c log above = rw (lt-ltb 15 c (omega arith)) refl
 
--- what the peer took of another leaves one as it was
+-- A Took of one channel leaves the bytes that wait on another.
 pub took_other : (c d count : ℕ) (channel_log : List ChannelAct) → d ≢ c
     → channel_waiting c (ChannelTaken d count ∷ channel_log) ≡ channel_waiting c channel_log
 took_other c d count channel_log ne = rw (ne_eqb d c ne) refl
 
--- so many of the bytes that wait can have been taken, or not
+-- A Took is refused exactly if it counts more bytes than wait.
 pub took_refused : (count : ℕ) (bytes found : List ℕ) → found ≡ bytes → length found < count → took_refusal count bytes ≡ Some NotSent
 took_refused count bytes found same more = rw (← same, lt-ltb (length found) count more) refl
 
 pub took_allowed : (count : ℕ) (bytes found : List ℕ) → found ≡ bytes → count ≤ length found → took_refusal count bytes ≡ None
 took_allowed count bytes found same few = rw (← same, le-ltb (length found) count few) refl
 
--- a create_intr_chan that waits for its peer waits
+-- A connection whose create_intr_chan waits for its peer has a suspended call.
 pub dialing_waits : (c : ℕ) (acts : List WaitAct) → is_dialing c acts ≡ true → waits c acts ≡ None → ⊥
 dialing_waits c acts e none = absurd (let z : false ≡ true = sym (ap is_dial none) ∙ e in cc)
 
--- whom it asks to be called
+-- The peer to connect to is the one that the suspended create_intr_chan names.
 pub dial_is : (c : ℕ) (log : List Act) (call : Option CoreCall) → is_dialing c (wait_acts (device_acts log)) ≡ true
     → core_call_in (pending_call (of c log)) ≡ call → dial_of c log ≡ dial_in call
 dial_is c log call dialing known = rw dialing (ap dial_in known)

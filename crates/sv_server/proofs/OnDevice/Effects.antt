@@ -1,4 +1,5 @@
--- What happens to the instrument or to links, and the acts of a record that was taken.
+-- Acts of the instrument and of links change only their own part of the device. A record that is
+-- taken adds the acts of its effect to the log.
 use Rattle.std.proofs.Common.{◌≡◌, ◌≢◌, ℕ, ◌+◌, ◌≤◌, length, List, [], ◌∷◌, ◌++◌, ap, ◌∙◌, append_assoc}
 use Rattle.std.specs.Prelude.{map}
 use Rattle.sv_links.specs.Links.{LinkAct, live}
@@ -14,14 +15,14 @@ use Rattle.sv_history.specs.Effect.{Effect, acts_of}
 use Rattle.sv_history.proofs.Projections.{of_own_act, of_other_act, of_device_acts, of_effect, of_others_effect, device_effect, link_acts_links, instrument_acts_links, ticks_links, wait_acts_links}
 use Rattle.sv_server.specs.Device.Representation.{IsDevice, HasDone, AreTold, Device as KeptDevice}
 
--- what happens to the instrument happens to nothing else
+-- Acts of the instrument change only the instrument.
 pub device_done : (kept : KeptDevice) (instrument : Kept) (config : Config) (acts : List DeviceAct) (adds : List InstrumentAct)
     → IsDevice kept config acts → StandsFor instrument (adds ++ instrument_acts acts)
     → HasDone adds (record kept { instrument = instrument }) config acts
 device_done kept instrument config acts adds (links, before, set_up, clock, waiting, reserved, told, ready) stands =
     (links, stands, set_up, clock, waiting, reserved, told, ready)
 
--- what happens to links, and with them to those that ask for service requests
+-- Acts of links change the table of links, and which links have service requests enabled.
 pub device_linked : (kept : KeptDevice) (links : Table) (intr : Channels) (config : Config) (acts : List DeviceAct) (adds : List LinkAct)
     → IsDevice kept config acts → IsTable links (adds ++ link_acts acts)
     → length (live (adds ++ link_acts acts)) + creations kept.waiting ≤ max_links → creations kept.waiting ≤ links.spare
@@ -58,6 +59,6 @@ pub device_taken : (c : ℕ) (effect : Effect) (call : List ℕ) (log : List Act
     → device_acts ((acts_of c effect ++ On c (CallTaken call) ∷ []) ++ log) ≡ effect.adds ++ device_acts log
 device_taken c effect call log = ap device_acts (taken_parts c effect call log) ∙ device_effect c effect (On c (CallTaken call) ∷ log)
 
--- an effect without acts of its connection
+-- An effect without acts of its connection leaves the acts of every connection.
 pub of_same : (c d : ℕ) (effect : Effect) (log : List Act) → effect.own ≡ [] → of d (acts_of c effect ++ log) ≡ of d log
 of_same c d effect log none = rw none (of_device_acts d effect.adds log)

@@ -1,4 +1,5 @@
--- The links that ask for service requests, over acts: each lives, on the connection that it is of.
+-- After every act of links, each link with service requests enabled is live, and its owner is the
+-- connection that is stored for it.
 use Rattle.std.proofs.Common.{◌≡◌, ◌≢◌, ℕ, ◌<◌, ◌≤◌, Bool, true, false, eqb, List, [], ◌∷◌, ◌++◌, length, Option, Some, refl, sym, ap, ◌∙◌, arith, inl, inr, eq-eqb}
 use Rattle.std.specs.Prelude.{◌==◌, not, map, filter, find, option_map, reverse, nat_lt}
 use Rattle.std.specs.List.{AllByRecursion, list_any}
@@ -17,7 +18,6 @@ use Rattle.sv_history.specs.Act.{DeviceAct, Linked, link_acts}
 use Rattle.sv_server.specs.Device.Representation.{AreOwned}
 use Rattle.sv_history.specs.Requests.{HearsOf}
 
--- what holds of all holds of those that pass a test, and may use that they do
 all_passing : (P Q : Enabled → Type 0) (test : Enabled → Bool) (links : List Enabled)
     → ((link : Enabled) → test link ≡ true → P link → Q link) → AllByRecursion P links → AllByRecursion Q (filter test links)
 all_passing P Q test [] so h = tt
@@ -36,12 +36,12 @@ all_of : (P Q : Enabled → Type 0) (links : List Enabled) → ((link : Enabled)
 all_of P Q [] so h = tt
 all_of P Q (link ∷ links) so h = (so link h.0, all_of P Q links so h.1)
 
--- ---- the owner of a number among links
+-- ---- the owner of a link number
 
 abbrev owner_in : ℕ → List Link → Option ℕ
 owner_in lid xs = option_map (λ link. link.conn) (find (λ link. eqb link.lid lid) xs)
 
--- more at the end leave it
+-- Appending links keeps the owner of a number.
 owner_push : (lid conn : ℕ) (xs ys : List Link) → owner_in lid xs ≡ Some conn → owner_in lid (xs ++ ys) ≡ Some conn
 owner_push lid conn [] ys h = absurd cc
 owner_push lid conn (x ∷ xs) ys h = elim (cases_Bool (eqb x.lid lid)) [
@@ -49,7 +49,7 @@ owner_push lid conn (x ∷ xs) ys h = elim (cases_Bool (eqb x.lid lid)) [
   | inr e ↦ rw e (owner_push lid conn xs ys (rw e at h))
 ]
 
--- so does a test that each link of this number passes
+-- A filter that each link with this number passes keeps the owner.
 owner_filter : (test : Link → Bool) (lid conn : ℕ) (xs : List Link) → ((x : Link) → x.lid ≡ lid → test x ≡ true)
     → owner_in lid xs ≡ Some conn → owner_in lid (filter test xs) ≡ Some conn
 owner_filter test lid conn [] so h = absurd cc
@@ -66,9 +66,9 @@ owner_other : (gone lid conn : ℕ) (xs : List Link) → lid ≢ gone → owner_
 owner_other gone lid conn xs ne h =
     owner_filter (other_than gone) lid conn xs (λ x e. rw (ne_eqb x.lid gone (λ k. ne (sym e ∙ k))) refl) h
 
--- ---- what acts leave of it
+-- ---- the links with service requests enabled, after an act
 
--- a link that is made leaves the owners of the others
+-- Creating a link keeps the owners of the other links.
 pub owned_made : (links : List Enabled) (acts : List LinkAct) (lid conn : ℕ) → AreOwned links acts → AreOwned links (Made lid conn ∷ acts)
 owned_made links acts lid conn owned = all_of (λ link. owner link.lid acts ≡ Some link.conn)
     (λ link. owner link.lid (Made lid conn ∷ acts) ≡ Some link.conn) links
@@ -77,14 +77,14 @@ owned_made links acts lid conn owned = all_of (λ link. owner link.lid acts ≡ 
 not_same : (a b : ℕ) → not (eqb a b) ≡ true → a ≢ b
 not_same a b e same = absurd (let z : not true ≡ true = rw (eq-eqb a b same) at e in cc)
 
--- one that is destroyed leaves those of all others
+-- Destroying a link keeps the owners of the other links.
 pub owned_destroyed : (links : List Enabled) (acts : List LinkAct) (lid : ℕ) → AreOwned links acts
     → AreOwned (filter (λ other. not (other.lid == lid)) links) (Destroyed lid ∷ acts)
 owned_destroyed links acts lid owned = all_passing (λ link. owner link.lid acts ≡ Some link.conn)
     (λ link. owner link.lid (Destroyed lid ∷ acts) ≡ Some link.conn) (λ other. not (eqb other.lid lid)) links
     (λ link e h. owner_other lid link.lid link.conn (live acts) (not_same link.lid lid e) h) owned
 
--- a link that begins to ask, of its own connection
+-- A link enables service requests, for the connection that owns it.
 pub owned_enabled : (links : List Enabled) (acts : List LinkAct) (lid conn : ℕ) (handle : List ℕ) → AreOwned links acts
     → owner lid acts ≡ Some conn
     → AreOwned (lower_links lid links ++ record { lid = lid; conn = conn; handle = handle } ∷ higher_links lid links) acts
@@ -96,7 +96,7 @@ owned_enabled links acts lid conn handle owned own =
 
 -- ---- a connection that is closed
 
--- whether a number is one of these
+-- Whether the number is in the list.
 abbrev named : ℕ → List ℕ → Bool
 named lid numbers = list_any (λ number. eqb number lid) numbers
 
@@ -104,7 +104,7 @@ none_named : (x : Link) (xs : List Link) → AllByRecursion (IsOlder x) xs → n
 none_named x [] h = refl
 none_named x (y ∷ xs) h = rw (ne_eqb y.lid x.lid (λ e. absurd (omega (arith, h.0, e)))) (none_named x xs h.1)
 
--- a number is one of a connection's exactly where that connection is its owner
+-- A number is among those of the connection's links exactly if the connection owns it.
 named_owner : (c lid : ℕ) (xs : List Link) (last : ℕ) → IsRising xs last
     → named lid (map (λ link. link.lid) (filter (λ link. eqb link.conn c) xs)) ≡ is_of c (owner_in lid xs)
 named_owner c lid [] last r = refl
@@ -132,7 +132,7 @@ filter_agree p q (link ∷ links) h = elim (cases_Bool (q link)) [
   | inr e ↦ rw (h.0, e) (filter_agree p q links h.1)
 ]
 
--- one number more
+-- Filtering out one number and then others is filtering out all of them.
 filter_more : (number : ℕ) (numbers : List ℕ) (links : List Enabled)
     → filter (λ link. not (named link.lid numbers)) (filter (λ link. not (eqb link.lid number)) links)
     ≡ filter (λ link. not (named link.lid (number ∷ numbers))) links
@@ -152,7 +152,7 @@ disabled_named [] behind links = sym (filter_all (without_links behind links))
 disabled_named (number ∷ numbers) behind links =
     disabled_named numbers (number ∷ behind) links ∙ filter_more number numbers (without_links behind links)
 
--- without the numbers of a connection's links, those of the others are left
+-- Without the links of a connection, those of the other connections remain.
 pub closed_disabled : (links : List Enabled) (acts : List LinkAct) (c last : ℕ) → IsRising (live acts) last → AreOwned links acts
     → without_links (reverse (links_of c acts)) links ≡ of_others c links
 closed_disabled links acts c last rising owned = disabled_named (links_of c acts) [] links
@@ -161,7 +161,7 @@ closed_disabled links acts c last rising owned = disabled_named (links_of c acts
     (λ link. not (named link.lid (links_of c acts)) ≡ not (eqb link.conn c)) links
     (λ link h. ap (λ (b : Bool). not b) (named_owner c link.lid (live acts) last rising ∙ ap (is_of c) h)) owned)
 
--- the numbers, each made an act, in either order
+-- Turning numbers into acts commutes with reversing them.
 destroyed_reverse : (numbers behind : List ℕ) → reverse_aux (map Destroyed numbers) (map Destroyed behind)
     ≡ map Destroyed (reverse_aux numbers behind)
 destroyed_reverse [] behind = refl
@@ -176,7 +176,7 @@ owned_gone [] links acts owned = owned
 owned_gone (number ∷ numbers) links acts owned =
     owned_destroyed (without_links numbers links) (map Destroyed numbers ++ acts) number (owned_gone numbers links acts owned)
 
--- the closing of a connection leaves the owners of the others' links
+-- Closing a connection keeps the owners of the other connections' links.
 pub owned_closed : (links : List Enabled) (acts : List LinkAct) (c last : ℕ) → IsRising (live acts) last → AreOwned links acts
     → AreOwned (of_others c links) (closing c acts ++ acts)
 owned_closed links acts c last rising owned = rw (← closed_disabled links acts c last rising owned, closing_numbers c acts)
@@ -188,13 +188,13 @@ tells_gone [] acts channel_log tells = tells
 tells_gone (number ∷ numbers) acts channel_log tells =
     (map SrqDisabled numbers ++ channel_log, tells_gone numbers acts channel_log tells, refl)
 
--- and tells that each of its links asks no more
+-- Closing a connection disables service requests for each of its links.
 pub tells_closed : (c : ℕ) (acts : List DeviceAct) (channel_log : List ChannelAct) → HearsOf acts channel_log
     → HearsOf (map Linked (closing c (link_acts acts)) ++ acts) (map SrqDisabled (reverse (links_of c (link_acts acts))) ++ channel_log)
 tells_closed c acts channel_log tells = rw (closing_numbers c (link_acts acts))
     (tells_gone (reverse (links_of c (link_acts acts))) acts channel_log tells)
 
--- ---- how many there are
+-- ---- how many links have service requests enabled
 
 no_more : (test : Link → Bool) (xs : List Link) → length (filter test xs) ≤ length xs
 no_more test [] = omega arith
@@ -203,7 +203,7 @@ no_more test (x ∷ xs) = elim (cases_Bool (test x)) [
   | inr e ↦ rw e (omega (arith, no_more test xs))
 ]
 
--- without a link that is there they are fewer
+-- Filtering out a link that exists leaves fewer links.
 fewer : (lid conn : ℕ) (xs : List Link) → owner_in lid xs ≡ Some conn → length (filter (other_than lid) xs) < length xs
 fewer lid conn [] h = absurd cc
 fewer lid conn (x ∷ xs) h = elim (cases_Bool (eqb x.lid lid)) [
@@ -220,7 +220,7 @@ owned_above lid xs (link ∷ links) high owned = (
   owned_above lid xs links high.1 owned.1,
 )
 
--- links that live and differ are no more than live
+-- At most as many links have service requests enabled as there are live links.
 no_more_than : (links : List Enabled) (xs : List Link) → IsSorted links
     → AllByRecursion (λ link. owner_in link.lid xs ≡ Some link.conn) links → length links ≤ length xs
 no_more_than [] xs sorted owned = omega arith
@@ -230,7 +230,7 @@ no_more_than (link ∷ links) xs sorted owned = omega (
   fewer link.lid link.conn xs owned.0,
 )
 
--- one of the live links has room to ask
+-- So there is room for each live link to enable service requests.
 pub room_for : (links : List Enabled) (acts : List LinkAct) (lid conn : ℕ) → IsSorted links → AreOwned links acts
     → owner lid acts ≡ Some conn → length (live acts) ≤ max_links → length (filter (λ other. not (other.lid == lid)) links) < max_links
 room_for links acts lid conn sorted owned own within =

@@ -1,4 +1,4 @@
--- What the instrument does is told to interrupt channels where it raises requests.
+-- The requests for service that the instrument raises are sent on the interrupt channels.
 use Rattle.std.proofs.Common.{◌≡◌, ℕ, false, List, ◌++◌, Option, Some, None, refl, ap, subst, sym, ◌∙◌}
 use Rattle.std.specs.Prelude.{map, is_some, IfNone}
 use Rattle.std.proofs.lemmas.List.{append_cancel_right}
@@ -15,11 +15,11 @@ use Rattle.sv_server.proofs.OnDevice.Effects.{device_done}
 use Rattle.sv_server.specs.Device.Inside.Outcome.{InstrumentSteps}
 use Rattle.sv_history.proofs.Telling.{requests, channel_log_after_requests}
 
--- what stands for acts stands with so many requests more behind them
+-- The channels have the state after `n` more requests for service.
 abbrev pub Tolls : Channels → Channels → ℕ → Type 0
 Tolls old new n = (channel_log : List ChannelAct) → AreChannels old channel_log → AreChannels new (requests n channel_log)
 
--- requests that were raised are told
+-- The channels got as many requests as the instrument raised, so the device stands for its acts.
 pub device_raised : (kept : Device) (intr : Channels) (config : Config) (acts : List DeviceAct) (adds : List InstrumentAct) (n : ℕ)
     → HasDone adds kept config acts → Raise adds (instrument_acts acts) n → Tolls kept.intr intr n → intr.enabled ≡ kept.intr.enabled
     → ((c : ℕ) → IsReady kept.intr c → IsReady intr c)
@@ -36,7 +36,7 @@ device_raised kept intr config acts adds n (links, instrument, set_up, clock, wa
   rw (wait_acts_applied adds acts) (λ c dials. still c (ready c dials)),
 )
 
--- what ran raised so many
+-- How many requests a run of the instrument raised depends only on the logs before and after it.
 raise_of : (log adds acts : List InstrumentAct) (n : ℕ) → adds ++ log ≡ acts ++ log → Raise acts log n → Raise adds log n
 raise_of log adds acts n same raise =
     subst (λ (xs : List InstrumentAct). Raise xs log n) (sym (append_cancel_right adds acts log same)) raise
@@ -44,7 +44,7 @@ raise_of log adds acts n same raise =
 pub ran_raised : (kept : Kept) (n : ℕ) (log adds : List InstrumentAct) → Ran kept n log (adds ++ log) → Raise adds log n
 ran_raised kept n log adds ran = raise_of log adds ran.raises.acts n ran.raises.new_is ran.raises.count_is
 
--- what is told after the instrument ran
+-- If the instrument raised `n` requests in `old`, the device stands for its acts in `new`.
 abbrev pub RaisesInto : Device → Device → ℕ → Type 0
 RaisesInto old new n = (config : Config) (acts : List DeviceAct) (adds : List InstrumentAct)
     → HasDone adds old config acts → Raise adds (instrument_acts acts) n → IsDevice new config (map Applied adds ++ acts)
@@ -56,7 +56,7 @@ pub device_ran : (kept : Device) (instrument : Kept) (new : Device) (config : Co
 device_ran kept instrument new config acts adds n is ran raises = raises config acts adds
     (device_done kept instrument config acts adds is ran.stands) (ran_raised instrument n (instrument_acts acts) adds ran)
 
--- the same of a step that is taken where one is due
+-- The same for a step that the instrument takes only if one is due.
 pub instrument_steps : (IsSuch : List InstrumentAct → List InstrumentAct → Type 0) (kept new : Device) (instrument : Kept)
     (config : Config) (acts : List DeviceAct) (raised : Option ℕ)
     → IsDevice kept config acts → Takes IsSuch instrument raised (instrument_acts acts) → IfNone raised (instrument ≡ kept.instrument)
@@ -79,7 +79,6 @@ pub idle_as : (kept new : Device) (instrument : Kept) (raised : Option ℕ) → 
 idle_as kept new instrument None same stays e = stays refl ∙ ap (λ (k : Kept). record kept { instrument = k }) same
 idle_as kept new instrument (Some count) same stays e = absurd cc
 
--- no step was taken: what holds where no step is due
 pub none_named : {A : Type 0} (taken : Option A) (IsSo : Type 0) → is_some taken ≡ false → IfNone taken IsSo → IsSo
 none_named None IsSo e so = so
 none_named (Some a) IsSo e so = absurd cc

@@ -1,4 +1,5 @@
--- What was told of an event, and then the replay of the event.
+-- For each event `explain` writes an explanation, which says what changed, and then what a replay
+-- of the event writes.
 use Rattle.std.proofs.Common.{◌≡◌, ℕ, Bool, true, false, List, [], ◌∷◌, ◌++◌, Option, refl, inl, inr, sym, ap, subst, ◌∙◌, append-nil}
 use Rattle.std.specs.Prelude.{Result, Ok, Err, ⊤}
 use Rattle.std.specs.Io.KnownBytes.{Appends}
@@ -30,9 +31,9 @@ use Rattle.sv_server.proofs.OnServer.Steps.{polled_now, told_now}
 use Rattle.sv_server.proofs.OnServer.Standing.{stands_acted, answered}
 use Rattle.sv_server.proofs.OnReplay.Telling.{AllTold, event_lines, refused_lines}
 
--- ---- what the parts of an event tell
+-- ---- the explanation of an event
 
--- the event was refused
+-- The event was refused.
 pub told_refused : (line : ℕ) (config : Config) (event : PlainEvent) (log : List Act) (refused : Refused) (old new : State)
     (w0 w1 w2 : Option (List ℕ)) (f0 f1 f2 : Bool)
     → Represents old config log → Acts config event log (Err refused) new → new ≡ old
@@ -52,10 +53,10 @@ told_refused line config event log refused old new w0 w1 w2 f0 f1 f2 rep acts sa
   ),
 )
 
--- the event was applied, and all steps that were due after it were taken
+-- The event was applied, and all steps that were due after it were taken.
 module _ (line : ℕ) (config : Config) (event : PlainEvent) (log : List Act) (did : Did) (old mid new : State) (before after : Shown)
     (w0 w1 w2 w3 w4 : Option (List ℕ)) (f0 f1 f2 f3 f4 : Bool) where
-  -- the clock that a Tick's line has
+  -- The clock in the line of a Tick is that of the log after the Tick.
   clock_now : (polled : ℕ) → Represents mid config (own_acts config polled event log ++ log)
       → Prints w1 f1 w2 f2 (tick_line line mid.device.clock event)
       → Prints w1 f1 w2 f2 (tick_line line (clock_at config (own_acts config polled event log ++ log)) event)
@@ -96,16 +97,16 @@ module _ (line : ℕ) (config : Config) (event : PlainEvent) (log : List Act) (d
         ),
       )
 
--- ---- bytes that came
+-- ---- the explanation of a Bytes
 
--- the line of the event has the clock of the log
+-- The line of the event has the clock of the log.
 pub head_told : (line clock : ℕ) (config : Config) (log : List Act) (w0 w1 : Option (List ℕ)) (f0 f1 : Bool) → clock ≡ clock_at config log
     → Prints w0 f0 w1 f1 (head_line line clock) → Prints w0 f0 w1 f1 (head_line line (clock_at config log))
 head_told line clock config log w0 w1 f0 f1 is put = subst (λ (c : ℕ). Prints w0 f0 w1 f1 (head_line line c)) is put
 
 module _ (line : ℕ) (config : Config) (c : ℕ) (piece : List ℕ) (log : List Act) (did : Did) (old mid new : State)
     (before after : ConnShown) (w0 w1 w2 : Option (List ℕ)) (f0 f1 f2 : Bool) where
-  -- the bytes were taken, and all steps that were due after them
+  -- The bytes came, and all steps that were due after them were taken.
   pub bytes_applied : Represents old config log → Acts config (Bytes c piece) log (Ok did) mid → IsConn c before log
       → Prints w0 f0 w1 f1 (head_line line (clock_at config log))
       → ((k : Config) (l : List Act) → Represents mid k l → IsConn c after l)
@@ -124,14 +125,13 @@ module _ (line : ℕ) (config : Config) (c : ℕ) (piece : List ℕ) (log : List
         ),
       )
 
--- where all that changed is told
 pub all_tells : (line : ℕ) (config : Config) (event : PlainEvent) (log : List Act) (did : Result Did Refused) (old new : State)
     (w0 w1 : Option (List ℕ)) (f0 f1 : Bool)
     → IsActed config event log did old new × ((told : List ℕ) × ToldOf line config event log did told × Prints w0 f0 w1 f1 told)
     → IsActed config event log did old new × ((told : List ℕ) × Tells line config event log did told × Prints w0 f0 w1 f1 told)
 all_tells line config event log did old new w0 w1 f0 f1 (acted, (told, is, put)) = (acted, (told, inl is, put))
 
--- what is told of bytes is told of the event by which they came
+-- The same for an event that is equal to this Bytes.
 pub bytes_tell : (line : ℕ) (config : Config) (event : PlainEvent) (log : List Act) (did : Result Did Refused) (old new : State)
     (w0 w1 : Option (List ℕ)) (f0 f1 : Bool) (n c : ℕ) (piece : List ℕ) → event ≡ Bytes c piece → n ≡ c
     → IsActed config (Bytes n piece) log did old new
@@ -141,7 +141,7 @@ bytes_tell line config event log did old new w0 w1 f0 f1 n c piece is same told 
     IsActed config e log did old new × ((told : List ℕ) × Tells line config e log did told × Prints w0 f0 w1 f1 told))
     (ap (λ (k : ℕ). Bytes k piece) same ∙ sym is) told
 
--- the bytes were refused
+-- The bytes were refused.
 pub bytes_refused : (line : ℕ) (config : Config) (c : ℕ) (piece : List ℕ) (log : List Act) (refused : Refused) (old new : State)
     (w0 w1 : Option (List ℕ)) (f0 f1 : Bool)
     → Acts config (Bytes c piece) log (Err refused) new → new ≡ old → Prints w0 f0 w1 f1 (head_line line (clock_at config log))
@@ -156,16 +156,16 @@ bytes_refused line config c piece log refused old new w0 w1 f0 f1 acts same put 
   ),
 )
 
--- ---- what is left
+-- ---- the explanation and the replay
 
--- the server stands for the longer history
+-- The server stands for the longer history.
 acted_stands : (config : Config) (history : List PlainEvent) (event : PlainEvent) (did : Result Did Refused) (old new : State)
     → (s : StandsFor old config history) → IsEvent event → IsActed config event s.log did old new
     → StandsFor new config (history_after event did history)
 acted_stands config history event (Ok what) old new s is (free, does, settles) = stands_acted config history event old new s is free settles
 acted_stands config history event (Err refused) old new s is (acts, same) = subst (λ (st : State). StandsFor st config history) (sym same) s
 
--- and what is answered
+-- The result is the one that the log determines.
 acted_answers : (config : Config) (event : PlainEvent) (log : List Act) (did : Result Did Refused) (old new : State)
     → Represents old config log → IsActed config event log did old new → Answers config event log did
 acted_answers config event log (Ok what) old new rep (free, does, settles) =
@@ -173,19 +173,20 @@ acted_answers config event log (Ok what) old new rep (free, does, settles) =
     (channel_log, tells, (free channel_log tells, does))
 acted_answers config event log (Err refused) old new rep (acts, same) = answered config event log (Err refused) old old rep acts
 
--- what is told of the same log, and of the same answer
+-- The explanation is the same for an equal log and an equal result.
 told_same : (line : ℕ) (config : Config) (event : PlainEvent) (a b : List Act) (did so : Result Did Refused) (told : List ℕ)
     → b ≡ a → so ≡ did → Told line config event a did told → Told line config event b so told
 told_same line config event a b did so told e f is =
     subst (λ (l : List Act). Told line config event l so told) (sym e)
     (subst (λ (r : Result Did Refused). Told line config event a r told) (sym f) is)
 
--- what an explained replay of an event leaves
+-- An explained replay of the event leads to this state, and appends what it writes to the writer's
+-- contents.
 abbrev pub LeftAloud : Config → ℕ → List PlainEvent → PlainEvent → Result ⊤ ReplayFault → State → Option (List ℕ) → Option (List ℕ) → Type 0
 LeftAloud config line history event fault new first last = (text : List ℕ) × (after : List PlainEvent)
     × Explains config line history event fault text after × StandsFor new config after × Appends first last text
 
--- a millisecond in which nothing is due: nothing is told
+-- A Tick at which nothing is due has no explanation.
 pub explained_still : (config : Config) (line : ℕ) (history : List PlainEvent) (event : PlainEvent) (old : State) (w0 w1 : Option (List ℕ))
     (s : StandsFor old config history)
     → IsStillTick config event s.log → (fault : Result ⊤ ReplayFault) (new : State) (text : List ℕ) (after : List PlainEvent)
@@ -213,7 +214,7 @@ explained_still config line history event old w0 w1 s still fault new text after
 
 module _ (config : Config) (line : ℕ) (history : List PlainEvent) (event : PlainEvent) (did : Result Did Refused)
     (old mid : State) (w0 w1 : Option (List ℕ)) where
-  -- the writer took all that is told, and then of the replay what it took
+  -- The writer took the whole explanation, and then what it took of the replay.
   pub explained : (s : StandsFor old config history) → (told : List ℕ) → Told line config event s.log did told → Appends w0 w1 told
       → (fault : Result ⊤ ReplayFault) (new : State) (w2 : Option (List ℕ))
       → Left config history event s.log did fault new w1 w2 → LeftAloud config line history event fault new w0 w2
@@ -234,7 +235,7 @@ module _ (config : Config) (line : ℕ) (history : List PlainEvent) (event : Pla
     appends_then w0 w1 w2 told text first more,
   )
 
-  -- the writer failed in what is told
+  -- The writer failed in the explanation.
   pub explained_part : (s : StandsFor old config history) → IsEvent event → IsActed config event s.log did old mid
       → (told part : List ℕ) → Told line config event s.log did told → IsFront part told → Appends w0 w1 part
       → LeftAloud config line history event (Err Write) mid w0 w1
@@ -267,7 +268,7 @@ module _ (config : Config) (line : ℕ) (history : List PlainEvent) (event : Pla
         put,
       )
 
-  -- and of another event, as far as the writer took it
+  -- Every event but such a Tick, by whether the writer failed in the explanation.
   pub explained_acted : (s : StandsFor old config history) → (IsStillTick config event s.log → ⊥) → IsEvent event
       → IsActed config event s.log did old mid
       → (failed : Bool) → (told : List ℕ) × Tells line config event s.log did told × Prints w0 false w1 failed told

@@ -1,4 +1,5 @@
--- The lines of ports are written one after the other, and what one of them shows is not another's.
+-- The lines of the ports are written one after the other, and a Took of one port leaves the later
+-- ones.
 use Rattle.std.proofs.Common.{◌≡◌, ℕ, zero, suc, ◌-◌, ◌<◌, ◌≤◌, ◌==◌, false, List, [], ◌∷◌, ◌++◌, length, map, Option, refl, sym, ap, inl, inr, subst, ◌∙◌, append_assoc, append-nil, arith}
 use Rattle.std.specs.Prelude.{Result, Ok, Err, ⊤, IsErr}
 use Rattle.std.specs.Io.KnownBytes.{Appends}
@@ -19,13 +20,13 @@ use Rattle.sv_history.proofs.Projections.{of_other_act}
 use Rattle.sv_server.proofs.OnDevice.Channels.{took_other}
 use Rattle.sv_print.proofs.Taking.{appends_then}
 
--- the line of a port on which bytes wait
+-- The line of a port on which bytes wait.
 pub line_is : (port : Port) (bytes : List ℕ) → (length bytes == 0) ≡ false
     → port_line port bytes ≡ port_name port ++ 32 ∷ (encode_lower bytes ++ 10 ∷ [])
 line_is port [] h = absurd cc
 line_is port (byte ∷ bytes) h = refl
 
--- the first ports
+-- The first `n` ports.
 abbrev pub first_ports : ℕ → List Port
 first_ports n = map port_of (below n)
 
@@ -59,7 +60,7 @@ tooks_more : (channel_log : List ChannelAct) (n : ℕ) (log : List Act) (history
 tooks_more channel_log n log history = ap (λ (ps : List Port). with_tooks channel_log ps log history) (first_more n)
     ∙ tooks_append channel_log (first_ports n) (port_of n ∷ []) log history
 
--- the numbers up to another, around one of them
+-- The numbers below `k`, split at one of them.
 below_split : (k n : ℕ) → n < k → (others : List ℕ) × (below k ≡ below n ++ n ∷ others)
 below_split zero n h = absurd (omega arith)
 below_split (suc k) n h = elim (cases_lt n k) [
@@ -73,7 +74,7 @@ ports_split n h =
     let (others, e) = below_split 32 n h in
     (map port_of others, ap (map port_of) e ∙ map-append port_of (below n) (n ∷ others))
 
--- what was taken from one port changes nothing of a later one
+-- A Took of one port leaves the bytes that wait on a later port.
 shown_other : (n m : ℕ) (bytes : List ℕ) (channel_log : List ChannelAct) (log : List Act) → n < m
     → waiting_on (told_with_took (port_of n) bytes channel_log) (port_of m) (log_with_took (port_of n) bytes log)
     ≡ waiting_on channel_log (port_of m) log
@@ -88,8 +89,8 @@ shown_other n m (byte ∷ bytes) channel_log log less = elim (cases_lt n 16) [
       (took_other (m - 16) (n - 16) (length (byte ∷ bytes)) channel_log (λ e. omega (arith, e, beyond, less)))
 ]
 
--- The lines of the first ports were written, and what they show was taken; what waits on the others
--- is as it was.
+-- The lines of the first ports were written, and the peers took the bytes that these lines show.
+-- The bytes that wait on the other ports are unchanged.
 abbrev pub SoFar : Config → List PlainEvent → List ChannelAct → List Act → ℕ → State → List ℕ → Type 0
 SoFar config history channel_log log n new text = (text ≡ lines_of channel_log (first_ports n) log)
     × (after : List ChannelAct) × (now : List Act) × StandsBy new config (with_tooks channel_log (first_ports n) log history) after now
@@ -126,7 +127,7 @@ so_far_more config history channel_log log n next old new text first mid last up
       ),
     )
 
--- the port of a connection that was never used has no line
+-- A connection that was never used has no line.
 pub so_far_skip : (config : Config) (history : List PlainEvent) (channel_log : List ChannelAct) (log : List Act) (n next : ℕ)
     (state : State) (text : List ℕ) → next ≡ suc n → n < 16 → state.connections_used ≤ n
     → SoFar config history channel_log log n state text → SoFar config history channel_log log next state text

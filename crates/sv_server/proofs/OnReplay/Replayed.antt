@@ -1,4 +1,5 @@
--- The replay of an event is its refusal's line, and then the lines of the ports.
+-- The replay of an event writes the line of its refusal, if it is refused, and then the lines of
+-- the ports.
 use Rattle.std.proofs.Common.{◌≡◌, ◌≢◌, ℕ, true, false, List, ◌++◌, Option, refl, sym, ap, inl, inr, ◌∙◌, append-nil}
 use Rattle.std.specs.Prelude.{Result, Ok, Err, ⊤}
 use Rattle.std.specs.Io.KnownBytes.{Appends}
@@ -21,16 +22,16 @@ use Rattle.sv_server.specs.Replay.Inside.Showing.{StandsBy, ShowsAll, Left}
 use Rattle.sv_server.proofs.OnServer.Steps.{told_now}
 use Rattle.sv_print.proofs.Taking.{appends_then}
 
--- what became of the writing is what is told
+-- The result of writing, as the result of the replay.
 abbrev pub Told : Result ⊤ WriteFault → Result ⊤ ReplayFault → Type 0
 Told (Ok all) fault = fault ≡ Ok tt
 Told (Err e) fault = fault ≡ Err Write
 
--- what a history answers to an event
+-- The result of the event is the one that the history determines.
 abbrev pub AnswersNow : Config → List PlainEvent → PlainEvent → Result Did Refused → Type 0
 AnswersNow config history event did = (log : List Act) × IsLogOf config history log × Answers config event log did
 
--- the lines that were written, behind a refusal's line
+-- The lines of the ports were written after the line of the refusal.
 writes_all : (did : Result Did Refused) (channel_log : List ChannelAct) (log : List Act) (history : List PlainEvent)
     (r : Result ⊤ WriteFault)
     (fault : Result ⊤ ReplayFault)
@@ -91,7 +92,7 @@ replay_shown config history event did mid new head first put last r fault some s
       appends_then first put last head text begun more,
     )
 
--- a refusal's line alone, or a part of it
+-- The writer failed in the line of a refusal.
 pub replay_stopped : (config : Config) (history : List PlainEvent) (event : PlainEvent) (refusal : Refused) (mid : State)
     (first last : Option (List ℕ)) (e : WriteFault) (fault : Result ⊤ ReplayFault)
     → fault ≡ Err Write → (answers : AnswersNow config history event (Err refusal)) → StandsFor mid config history
@@ -142,7 +143,7 @@ replay_no_memory config history event refused.NoMemory mid first last is answers
 )
 replay_no_memory config history event _ mid first last is answers s took = absurd cc
 
--- another refusal than want of memory
+-- The result of a refused event.
 abbrev pub refuses : Refused → Result Did Refused
 refuses refusal = Err refusal
 

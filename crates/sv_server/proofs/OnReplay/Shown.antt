@@ -1,5 +1,5 @@
--- What waits on a port is shown and taken: that is never refused, and changes nothing of another
--- port.
+-- After the line of a port is written, its peer takes the bytes that the line shows. This Took is
+-- never refused.
 use Rattle.std.proofs.Common.{◌≡◌, ◌≢◌, ℕ, ◌<◌, ◌≤◌, ◌||◌, not, Bool, true, false, cond, List, [], ◌∷◌, ◌++◌, length, nat_lt, Some, None, refl, sym, ap, inl, inr, subst, ◌∙◌, arith}
 use Rattle.std.specs.Prelude.{Option, Result, Ok, Err, IsErr, ⊤}
 use Rattle.std.proofs.lemmas.Bool.{le-ltb, cases_lt}
@@ -33,7 +33,7 @@ use Rattle.sv_server.specs.Replay.Inside.Showing.{StandsBy, ShowsPort, log_with_
 if_false : {A : Type 0} (b : Bool) (x y : A) → b ≡ false → cond b x y ≡ y
 if_false b x y e = ap (λ (c : Bool). cond c x y) e
 
--- bytes wait on an open connection alone
+-- Bytes wait only on an open connection.
 opened_by : (open_now : Bool) (bytes : List ℕ) → 0 < length (cond open_now bytes []) → open_now ≡ true
 opened_by true bytes some = refl
 opened_by false bytes some = absurd (omega arith)
@@ -41,7 +41,7 @@ opened_by false bytes some = absurd (omega arith)
 pub waits_open : (c : ℕ) (log : List Act) → 0 < length (waiting (of c log)) → is_open (of c log) ≡ true
 waits_open c log some = opened_by (is_open (of c log)) (bytes_left (of c log)) some
 
--- whose number is at most 15
+-- An open connection has a number up to 15.
 pub waits_within : (c : ℕ) (state : State) (config : Config) (log : List Act) → Represents state config log → is_open (of c log) ≡ true
     → c ≤ 15
 waits_within c state config log rep o = elim (cases_lt c 16) [
@@ -50,7 +50,7 @@ waits_within c state config log rep o = elim (cases_lt c 16) [
       (let z : true ≡ false = sym o ∙ shut in cc))
 ]
 
--- what a Took of all that waits is refused for: nothing
+-- A Took of all bytes that wait isn't refused.
 few_taken : (count : ℕ) (bytes : List ℕ) → count ≡ length bytes → took_refusal count bytes ≡ None
 few_taken count bytes e = if_false (nat_lt (length bytes) count) _ _ (le-ltb (length bytes) count (omega arith))
 
@@ -67,7 +67,7 @@ channel_free c count config channel_log log within there e =
     if_false (is_channel_shut c log) _ _ (channel_shut_is c log true (omega arith) there)
     ∙ few_taken count (channel_waiting c channel_log) e
 
--- so it is done
+-- So the Took is applied.
 never_refused : (config : Config) (event : PlainEvent) (channel_log : List ChannelAct) (log : List Act) (r : Refused)
     → HearsOf (device_acts log) channel_log → refusal config channel_log event log ≡ None → IsRefusal config event log (Some r) → ⊥
 never_refused config event channel_log log r tells none why = absurd (let z : None ≡ Some r = sym none ∙ why channel_log tells in cc)
@@ -105,7 +105,7 @@ took_done event config channel_log log polled (Err BadInput) new said tells none
 took_done event config channel_log log polled (Err TimeOver) new said tells none h other =
     absurd (never_refused config event channel_log log TimeOver tells none h)
 
--- the history and the log with what was taken
+-- The history and the logs after the Took.
 with_some : (port : Port) (bytes : List ℕ) (history : List PlainEvent) → 0 < length bytes
     → with_took port bytes history ≡ Took port (length bytes) ∷ history
 with_some port [] history some = absurd (omega arith)
@@ -130,7 +130,7 @@ told_with_channel : (c : ℕ) (bytes : List ℕ) (channel_log : List ChannelAct)
 told_with_channel c [] channel_log some = absurd (omega arith)
 told_with_channel c (byte ∷ bytes) channel_log some = refl
 
--- what is shown is taken
+-- After the Took of all bytes that wait, the server stands for the longer history.
 pub stands_taken : (port : Port) (bytes : List ℕ) (config : Config) (history : List PlainEvent) (channel_log : List ChannelAct)
     (log : List Act)
     (old new : State) (result : Result Did Refused) → StandsBy old config history channel_log log
@@ -184,7 +184,7 @@ stands_taken (Conn c) bytes config history channel_log log old new result (is_lo
 
 -- ---- what is written
 
--- where nothing waits
+-- No bytes wait, so nothing is written or taken.
 pub nothing_shown : (port : Port) (bytes : List ℕ) (config : Config) (history : List PlainEvent) (channel_log : List ChannelAct)
     (log : List Act)
     (state : State) (first last : Option (List ℕ)) → StandsBy state config history channel_log log → bytes ≡ waiting_on channel_log port log
@@ -193,7 +193,7 @@ pub nothing_shown : (port : Port) (bytes : List ℕ) (config : Config) (history 
 nothing_shown port [] config history channel_log log state first last s is none put = ([], put, rw (← is) (refl, s))
 nothing_shown port (byte ∷ bytes) config history channel_log log state first last s is none put = absurd (omega arith)
 
--- where the writer failed
+-- The writer failed in the line, so nothing is taken.
 pub show_stopped : (port : Port) (bytes : List ℕ) (config : Config) (history : List PlainEvent) (channel_log : List ChannelAct)
     (log : List Act)
     (state : State) (first last : Option (List ℕ)) (e : WriteFault) (r : Result ⊤ WriteFault)

@@ -1,4 +1,4 @@
--- Steps one after the other, each with its lines.
+-- The steps that are due are taken one after the other, and the lines of each are written.
 use Rattle.std.proofs.Common.{◌≡◌, ℕ, ◌+◌, zero, suc, Bool, List, [], ◌++◌, Option, refl, sym, ap, subst, ◌∙◌, append_assoc, append-nil, arith}
 use Rattle.sv_scan.specs.declared.setting.State.{State as ScanState}
 use Rattle.sv_scan.specs.declared.setting.State.TheVariants.{Idle, Waiting, Scanning}
@@ -23,36 +23,36 @@ use Rattle.sv_server.specs.Explain.Inside.Steps.{Goes, Ends, lines_before, tick_
 use Rattle.sv_server.proofs.OnServer.Naming.{nothing_line}
 use Rattle.sv_server.proofs.OnServer.Steps.{goes_none, goes_more, goes_then, goes_settled}
 
--- Some steps of any log were taken and told: the contents of the writer, and whether it has failed,
--- were `old` and `f`, and are `new` and `g`.
+-- Whatever the log, some of the steps that were due led from `first` to `now`, and their lines were
+-- written. The contents of the writer, and whether it has failed, were `old` and `f`, and are `new`
+-- and `g`.
 abbrev pub AnyTold : State → State → Shown → Shown → Option (List ℕ) → Bool → Option (List ℕ) → Bool → Type 0
 AnyTold first now shown next old f new g = (config : Config) (log : List Act) → Represents first config log → IsShown shown log
     → (text : List ℕ) × Goes config log shown next text now × Prints old f new g text
 
--- All steps of any log were taken and told.
+-- The same for all steps that were due.
 abbrev pub AllTold : State → State → Shown → Option (List ℕ) → Bool → Option (List ℕ) → Bool → Type 0
 AllTold first now shown old f new g = (config : Config) (log : List Act) → Represents first config log → IsShown shown log
     → (text : List ℕ) × Ends config log shown text now × Prints old f new g text
 
--- what a step makes of any log
+-- Whatever the log, the step that was due leads from `old` to `new`.
 abbrev pub AnyStep : State → State → Type 0
 AnyStep old new = (config : Config) (log : List Act) → Represents old config log
     → (next : List Act) × IsNext config log next × Represents new config next
 
--- the name of the step that is due after any log
+-- Whatever the log, the step that is due has this name.
 abbrev pub AnyNames : State → Due → Type 0
 AnyNames now name = (config : Config) (log : List Act) → Represents now config log → Names name config log
 
--- texts in another grouping
 regroup : (a b c d : List ℕ) → (a ++ (b ++ c)) ++ d ≡ a ++ (b ++ (c ++ d))
 regroup a b c d = append_assoc a (b ++ c) d ∙ ap (λ (l : List ℕ). a ++ l) (append_assoc b c d)
 
--- no step yet
+-- No step was taken yet.
 pub told_none : (s : State) (shown : Shown) (old : Option (List ℕ)) (f : Bool) → AnyTold s s shown shown old f old f
 told_none s shown old f = λ config log rep is. ([], (log, (λ n new rest t. (n, t)), goes_none config log, is, rep), prints_none old f)
 
 module _ (first mid now : State) (shown was next : Shown) (w0 w1 w2 w3 : Option (List ℕ)) (f0 f1 f2 f3 : Bool) (name : Due) where
-  -- one step more
+  -- One more step is taken.
   pub told_step : AnyTold first mid shown was w0 f0 w1 f1 → AnyNames mid name → AnyStep mid now → Prints w1 f1 w2 f2 (step_line name)
       → ((config : Config)
       (log : List Act) → Represents now config log → IsShown next log × Prints w2 f2 w3 f3 (changes was next))
@@ -79,7 +79,7 @@ module _ (first mid now : State) (shown was next : Shown) (w0 w1 w2 w3 : Option 
             (prints_then w1 w2 w3 f1 f2 f3 (step_line name) (changes was next) line lines),
       )
 
--- no step is due any more
+-- No step is due any more.
 module _ (first mid now : State) (shown was : Shown) (w0 w1 w2 : Option (List ℕ)) (f0 f1 f2 : Bool) (name : Due) where
   pub told_ended : AnyTold first mid shown was w0 f0 w1 f1 → AnyNames mid name → AnyNames mid Nothing
       → ((config : Config)
@@ -102,7 +102,7 @@ module _ (first mid now : State) (shown was : Shown) (w0 w1 w2 : Option (List �
             (prints_then w0 w1 w2 f0 f1 f2 text (step_line name) put line),
       )
 
--- some steps, and then others
+-- Some steps are taken, and then some more.
 module _ (first mid now : State) (shown was next : Shown) (w0 w1 w2 : Option (List ℕ)) (f0 f1 f2 : Bool) where
   pub told_more : AnyTold first mid shown was w0 f0 w1 f1 → AnyTold mid now was next w1 f1 w2 f2
       → AnyTold first now shown next w0 f0 w2 f2
@@ -123,7 +123,7 @@ module _ (first mid now : State) (shown was next : Shown) (w0 w1 w2 : Option (Li
         prints_then w0 w1 w2 f0 f1 f2 text more put lines,
       )
 
--- some steps, and then all that are left
+-- Some steps are taken, and then all that remain.
 module _ (first mid now : State) (shown was : Shown) (w0 w1 w2 : Option (List ℕ)) (f0 f1 f2 : Bool) where
   pub told_all : AnyTold first mid shown was w0 f0 w1 f1 → AllTold mid now was w1 f1 w2 f2 → AllTold first now shown w0 f0 w2 f2
   told_all gone other = λ config log rep is.
@@ -137,7 +137,7 @@ module _ (first mid now : State) (shown was : Shown) (w0 w1 w2 : Option (List �
 one_more : (clock passed : ℕ) → clock + (passed + 1) ≡ clock + passed + 1
 one_more clock passed = omega arith
 
--- the clock after a Tick
+-- A Tick advances the clock by one millisecond.
 tick_clock : (config : Config) (polled : ℕ) (log : List Act)
     → clock_at config (own_acts config polled Tick log ++ log) ≡ clock_at config log + 1
 tick_clock config polled log = by (state (effective_acts (instrument_acts (device_acts log)))) refl
@@ -148,7 +148,7 @@ tick_clock config polled log = by (state (effective_acts (instrument_acts (devic
     by Waiting e = rw e (one_more config.clock (ticks (device_acts log)))
     by Scanning e = rw e (one_more config.clock (ticks (device_acts log)))
 
--- the lines before an event, and that of a Tick, are the lines of the event
+-- The lines before an event and the line of a Tick are together the lines of the event.
 pub event_lines : (line polled : ℕ) (config : Config) (event : PlainEvent) (log : List Act) (rest : List ℕ)
     → lines_before line config event log ++ (tick_line line (clock_at config (own_acts config polled event log ++ log)) event ++ rest)
     ≡ head_line line (clock_after config event log) ++ (taken_line event log ++ rest)
@@ -158,7 +158,7 @@ event_lines line polled config (Refuse c) log rest =
     append_assoc (head_line line (clock_at config log)) (taken_line (Refuse c) log) rest
 event_lines line polled config _ log rest = refl
 
--- likewise of an event that is refused
+-- The same for an event that is refused.
 pub refused_lines : (line : ℕ) (config : Config) (event : PlainEvent) (log : List Act)
     → lines_before line config event log ++ tick_line line (clock_at config log) event
     ≡ head_line line (clock_at config log) ++ taken_line event log

@@ -1,4 +1,5 @@
--- A request that ends the call of another connection does nothing else, and that call waits.
+-- A device_abort that ends a suspended call adds no act of the device by itself, and this call was
+-- suspended.
 use Rattle.std.proofs.Common.{◌≡◌, ℕ, ◌&&◌, Bool, true, false, List, [], Option, Some, None, refl, sym, ap, ◌∙◌}
 use Rattle.std.specs.Prelude.{is_some, cond}
 use Rattle.sv_links.specs.Links.{is_this}

@@ -1,4 +1,4 @@
--- A call that waits goes on, or is given up, and what stands for that.
+-- After a suspended call resumes or times out, the server has the state that its log determines.
 use Rattle.std.proofs.Common.{◌≡◌, ℕ, ◌<◌, ◌≤◌, Bool, true, false, eqb, List, [], ◌∷◌, ◌++◌, length, set, Option, Some, None, refl, sym, ap, subst, ◌∙◌, inl, inr}
 use Rattle.std.specs.Prelude.{is_none, ◌&&◌, option_map, map}
 use Rattle.std.specs.List.{AllByRecursion}
@@ -31,7 +31,7 @@ use Rattle.sv_server.proofs.OnServer.Taken.{taken_without, taken_anew, taken_one
 use Rattle.sv_server.proofs.OnServer.Used.{unanswered_used}
 use Rattle.sv_server.proofs.OnServer.Logs.{shared_acts, resumed}
 
--- ---- the call of a connection that waits
+-- ---- the suspended call of a connection
 
 entry_conn : (c : ℕ) (xs : List Entry) (entry : Entry) → entry_of c xs ≡ Some entry → entry.conn ≡ c
 entry_conn c [] entry e = absurd cc
@@ -56,7 +56,7 @@ taken_of state config log c rep does =
     let (call, known, makes) = taken_one (IsTaken log) c state.device.waiting entry rep.taken found in
     (call, subst (λ (d : ℕ). pending_call (of d log) ≡ Some call) (entry_conn c state.device.waiting entry found) known)
 
--- it is on a connection that there may be
+-- Only a connection below 16 has a suspended call.
 pub within_of : (state : State) (config : Config) (log : List Act) (c : ℕ) → Represents state config log
     → (waits c (wait_acts (device_acts log)) ≡ None → ⊥) → 16 ≤ c → ⊥
 within_of state config log c rep does above =
@@ -64,7 +64,7 @@ within_of state config log c rep does above =
     let none : pending_call (of c log) ≡ None = ap pending_call (rep.beyond c above) in
     let z : Some call ≡ None = sym known ∙ none in cc
 
--- ---- it is given up
+-- ---- a suspended call times out
 
 pub gave_up_stands : (state : State) (config : Config) (log : List Act) (c : ℕ) (effect : Effect) (kept : Connection) (device : KeptDevice)
     → Represents state config log → length state.connections ≡ 16 → c < 16
@@ -76,7 +76,7 @@ gave_up_stands state config log c effect kept device rep sixteen lt done left ca
     (rw left (taken_without c log (acts_of c effect ++ log) state.device.waiting (λ d ne. of_others_effect c d effect log ne) rep.taken))
     (unanswered_used (of c log) call known)
 
--- ---- it goes on
+-- ---- a suspended call resumes
 
 went_taken : (c : ℕ) (log : List Act) (call : List ℕ) (effect : Effect) (old new : List Entry) → pending_call (of c log) ≡ Some call
     → MayWaitAnew (effect.own ≡ []) c (creates_link (core_call call)) old new → AllByRecursion (IsTaken log) old
@@ -100,7 +100,7 @@ went_on_stands state config log c call effect kept device rep sixteen lt known (
     resumed state config log c effect kept device rep sixteen lt done
     (went_taken c log call effect state.device.waiting device.waiting known waits rep.taken) (unanswered_used (of c log) call known)
 
--- a create_link that can go on finds the lock free
+-- A create_link that can resume finds the lock free.
 free_for : (locked : Option ℕ) (can_write can_read : Bool) (wait : Wait) (lid : Option ℕ)
     → is_there locked can_write can_read lid (Some wait) ≡ true → wait ≡ Lock → lid ≡ None → is_locked_out locked None ≡ false
 free_for None can_write can_read wait lid there w l = refl
@@ -136,7 +136,7 @@ may_go_on kept entry log call able is fewer makes = (
       ),
 )
 
--- ---- the instrument does what is due
+-- ---- the instrument takes a step
 
 happens_none : (IsSuch : List InstrumentAct → List InstrumentAct → Type 0) (log : List Act)
     → ((new : List InstrumentAct) → IsSuch (instrument_acts (device_acts log)) new → ⊥) → (new : List Act) → InstrumentDoes IsSuch log new

@@ -1,4 +1,5 @@
--- What an event of one connection leaves, from the parts of the server.
+-- After an event of one connection, the server has the state that the log with the event's acts
+-- determines.
 use Rattle.std.proofs.Common.{◌≡◌, ◌≢◌, ℕ, ◌<◌, Bool, true, false, Some, List, [], ◌∷◌, ◌++◌, append_assoc, length, get_or, set, refl, sym, ap, subst, ◌∙◌, arith, inl, inr}
 use Rattle.std.specs.Prelude.{is_some, not, map}
 use Rattle.std.specs.List.{AllByRecursion}
@@ -27,12 +28,12 @@ use Rattle.sv_history.specs.Queries.{IsUsed}
 use Rattle.sv_server.proofs.OnServer.Used.{behind, used_acted, used_act, used_same}
 use Rattle.sv_server.proofs.OnServer.Taken.{taken_acted, taken_without, taken_push}
 
--- the connection of a number
+-- A stored connection has the state that its acts determine.
 pub connection_of : (state : State) (config : Config) (log : List Act) (c : ℕ) (kept : Connection) → Represents state config log → c < 16
     → kept ≡ get_or state.connections c kept → IsConnection kept (of c log)
 connection_of state config log c kept rep lt e = subst (λ (k : Connection). IsConnection k (of c log)) (sym e) (rep.each c kept lt)
 
--- whether it is open
+-- A connection is open exactly if its state has a role.
 pub open_is : (kept : Connection) (acts : List ConnAct) (b : Bool) → IsConnection kept acts → is_some kept.role ≡ b → is_open acts ≡ b
 open_is kept acts b is e = ap is_some (sym is.role) ∙ e
 
@@ -43,7 +44,7 @@ pub not_not : (b : Bool) → b ≡ not (not b)
 not_not true = refl
 not_not false = refl
 
--- whether a connection is open, of whatever number
+-- The same for every number. A connection above 15 is never open.
 pub open_known : (state : State) (config : Config) (log : List Act) (c : ℕ) (b : Bool) → Represents state config log
     → is_open (of c log) ≡ b → b ≡ not (is_shut c log)
 open_known state config log c b rep is = elim (cases_lt c 16) [
@@ -53,7 +54,7 @@ open_known state config log c b rep is = elim (cases_lt c 16) [
       rw (lt-ltb 15 c (omega arith)) (sym is ∙ shut)
 ]
 
--- one connection acts, and what all share
+-- One connection and the device act, and all other connections stay.
 pub acted : (state : State) (config : Config) (log new : List Act) (c : ℕ) (kept : Connection) (device : KeptDevice)
     → Represents state config log → length state.connections ≡ 16 → c < 16
     → IsConnection kept (of c new) → IsDevice device config (device_acts new) → ((d : ℕ) → d ≢ c → of d new ≡ of d log)
@@ -76,7 +77,7 @@ acted state config log new c kept device rep sixteen lt mine all others taken n 
   taken = taken;
 }
 
--- one act of a connection
+-- One connection acts, and all else stays.
 pub one_act : (state : State) (config : Config) (log : List Act) (c : ℕ) (old new : Connection) (act : ConnAct)
     → Represents state config log → length state.connections ≡ 16 → c < 16 → old ≡ get_or state.connections c old
     → (IsConnection old (of c log) → IsConnection new (act ∷ of c log))
@@ -89,12 +90,12 @@ one_act state config log c old new act rep sixteen lt e goes known n connections
     (taken_acted c log (On c act ∷ log) state.device.waiting (λ d ne. of_other_act c d act log ne)
     (λ call h. ap pending_call (of_own_act c act log) ∙ known call h) rep.taken) n connections_used
 
--- no call of a connection that is shut waits
+-- A connection that isn't busy has no pending call.
 pub none_taken : (kept : Connection) (acts : List ConnAct) (call : List ℕ) → IsConnection kept acts → kept.busy ≡ false
     → pending_call acts ≡ Some call → ⊥
 none_taken kept acts call is idle known = let z : false ≡ true = sym idle ∙ is.busy ∙ ap is_some known in absurd cc
 
--- what all connections share acts
+-- Only the device acts.
 pub shared_acts : (state : State) (config : Config) (log : List Act) (device : KeptDevice) (adds : List DeviceAct)
     → Represents state config log → IsDevice device config (adds ++ device_acts log) → device.waiting ≡ state.device.waiting
     → Represents (record state { device = device }) config (map OnDevice adds ++ log)
@@ -107,7 +108,7 @@ shared_acts state config log device adds rep all same = record {
       (λ call known. ap pending_call (of_device_acts 0 adds log) ∙ known) rep.taken);
 }
 
--- a millisecond passes, and what it brings
+-- A Tick adds its own act and further acts of the device.
 pub ticked : (state : State) (config : Config) (log : List Act) (device : KeptDevice) (adds : List DeviceAct)
     → Represents state config log → IsDevice device config (adds ++ Ticked ∷ device_acts log) → device.waiting ≡ state.device.waiting
     → Represents (record state { device = device }) config ((map OnDevice adds ++ OnDevice Ticked ∷ []) ++ log)
@@ -117,7 +118,8 @@ ticked state config log device adds rep all same =
     rw parts (shared_acts state config log device (adds ++ Ticked ∷ []) rep
     (rw (append_assoc adds (Ticked ∷ []) (device_acts log)) all) same)
 
--- a connection that closes, with its links
+-- The acts of closing a connection: its call leaves the queue, its links are destroyed, and its
+-- channel closes.
 abbrev closed_acts : ℕ → List Act → List Act
 closed_acts c log = map OnDevice (Channel (ChannelClosed c) ∷ map Linked (closing c (link_acts (device_acts log))) ++ Waited (Left c) ∷ [])
     ++ On c PortClosed ∷ []
@@ -145,7 +147,7 @@ closes state config log c old new device rep sixteen lt e goes freed left there 
     (used_same state.connections_used (On c PortClosed ∷ log) (map OnDevice adds ++ On c PortClosed ∷ log)
     (used_act state.connections_used c PortClosed log rep.connections_used there) (λ d. of_device_acts d adds (On c PortClosed ∷ log))))
 
--- the same, of the number that an event names
+-- The same for the number that the event names.
 pub closes_named : (state : State) (config : Config) (log : List Act) (c named : ℕ) (old new : Connection) (device : KeptDevice)
     → c ≡ named → Represents state config log → length state.connections ≡ 16 → c < 16 → old ≡ get_or state.connections c old
     → (IsConnection old (of c log) → IsConnection new (PortClosed ∷ of c log))
@@ -158,11 +160,11 @@ closes_named state config log c named old new device same rep sixteen lt e goes 
     subst (λ (n : ℕ). Represents (record state { connections = set state.connections c new; device = device }) config
     (closed_acts n log ++ log)) same (closes state config log c old new device rep sixteen lt e goes freed left there)
 
--- a call that is busy isn't idle
+-- A connection with a pending call is busy.
 pub busy_idle : (acts : List ConnAct) (call : List ℕ) → pending_call acts ≡ Some call → is_busy acts ≡ false → ⊥
 busy_idle acts call known idle = let z : true ≡ false = sym (ap is_some known) ∙ idle in cc
 
--- what is known of the calls that wait, behind a Turn
+-- After a Turn, each suspended call of the queue still was taken and has no reply.
 pub held_taken : (c : ℕ) (log : List Act) (call : List ℕ) (effect : Effect) (old new : List Entry)
     → is_busy (of c log) ≡ false → AllByRecursion (IsTaken log) old → MayWait (effect.own ≡ []) c (creates_link (core_call call)) old new
     → AllByRecursion (IsTaken ((acts_of c effect ++ On c (CallTaken call) ∷ []) ++ log)) new
@@ -176,7 +178,7 @@ held_taken c log call effect old new idle taken (inr (none, (entry, mine, is, ma
     rw is (taken_push after (without c old) entry (taken_without c log after old (λ d ne. others_taken c d effect call log ne) taken)
     (call, ap pending_call (ap (λ (d : ℕ). of d after) mine ∙ here), makes))
 
--- a Turn of an open connection
+-- A Turn takes the next call of an open connection.
 pub turned : (state : State) (config : Config) (log : List Act) (c : ℕ) (call : List ℕ) (effect : Effect) (kept : Connection)
     (device : KeptDevice)
     → Represents state config log → length state.connections ≡ 16 → c < 16 → is_busy (of c log) ≡ false
@@ -192,7 +194,7 @@ turned state config log c call effect kept device rep sixteen lt idle (mine, all
     (λ z. behind effect.own (CallTaken call ∷ of c log) (λ y. absurd cc) (sym (of_taken c effect call log) ∙ z))
     (λ d ne. others_taken c d effect call log ne))
 
--- a call that waited, and was given up or went on
+-- A suspended call resumes or times out.
 pub resumed : (state : State) (config : Config) (log : List Act) (c : ℕ) (effect : Effect) (kept : Connection) (device : KeptDevice)
     → Represents state config log → length state.connections ≡ 16 → c < 16
     → Concludes effect config (of c log) (device_acts log) kept device

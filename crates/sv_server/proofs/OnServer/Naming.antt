@@ -1,4 +1,5 @@
--- A step that is due has one name, and only a log after which none is due has the name of none.
+-- If no immediate trigger can be taken, none is due. If no step is due, the line of the step is
+-- empty.
 use Rattle.std.proofs.Common.{◌≡◌, true, false, List, [], ◌∷◌, ◌++◌, Some, None, refl, sym, ◌∙◌}
 use Rattle.std.specs.Prelude.{Option, map}
 use Rattle.sv_errors.specs.declared.code.Code.{Code}
@@ -17,7 +18,6 @@ use Rattle.sv_explain.specs.declared.step.Due.TheVariants.{Nothing, Fire, Resume
 use Rattle.sv_explain.specs.Steps.{step_line}
 use Rattle.sv_server.specs.Explain.Telling.{Names}
 
--- where no trigger can come by itself, none is due
 pub not_fired : (log : List Act) → ((next : List Act) → InstrumentDoes IsFired log next → ⊥)
     → is_fire_due (instrument_acts (device_acts log)) ≡ false
 not_fired log none = by (trigger_fault (effective_acts (instrument_acts (device_acts log))) Immediate) refl
@@ -28,7 +28,6 @@ not_fired log none = by (trigger_fault (effective_acts (instrument_acts (device_
     by None e = elim (none (map OnDevice (map Applied (Scanned (Trigger Immediate) ∷ [])) ++ log)
         (Scanned (Trigger Immediate) ∷ [], (e, refl), refl)) [ ]
 
--- the line of a step where none is due
 pub nothing_line : (config : Config) (log : List Act) (name : Due) → Names name config log → Names Nothing config log → step_line name ≡ []
 nothing_line config log Nothing named none = refl
 nothing_line config log Fire named none = absurd (let z : true ≡ false = sym named ∙ none.0 in cc)

@@ -1,4 +1,4 @@
--- A Refuse: what refuses it, and what it takes; and what refuses an Input.
+-- When a Refuse or an Input is refused, and what a Refuse does to the server.
 use Rattle.std.proofs.Common.{◌≡◌, ◌≢◌, ℕ, ◌<◌, Bool, true, false, cond, List, [], ◌∷◌, ◌++◌, length, set, nat_lt, Option, Some, None, refl, sym, ap, ◌∙◌, subst}
 use Rattle.std.specs.Prelude.{ℤ, not, is_none, Ok, Err}
 use Rattle.sv_errors.specs.Limits.{is_channel}
@@ -24,13 +24,14 @@ use Rattle.sv_server.proofs.OnServer.Used.{unshut_used, used_acted}
 use Rattle.sv_server.proofs.OnServer.Logs.{acted, busy_idle}
 use Rattle.sv_server.proofs.OnServer.Turning.{not_busy}
 
--- of an open connection, by its next call
+-- The next call of an open connection determines what a Refuse can answer.
 pub refusable_is : (acts : List ConnAct) (role : Role) (found : Option (List ℕ)) → open_role acts ≡ Some role → next_call acts ≡ found
     → refusable acts ≡ refusable_call (request_for (Some role) found)
 refusable_is acts role found opened next = ap (λ (r : Option Role). refusable_call (request_for r (next_call acts))) opened
     ∙ ap (λ (bytes : Option (List ℕ)). refusable_call (request_for (Some role) bytes)) next
 
--- why it is refused
+-- A Refuse is refused if there is no call that it can answer. It isn't refused if there is one and
+-- the reply fits.
 pub refused_none : (acts : List ConnAct) → refusable acts ≡ None → refuse_refusal acts ≡ Some NotRefusable
 refused_none acts e = rw e refl
 
@@ -38,7 +39,7 @@ pub refused_not : (acts : List ConnAct) (call : CoreCall) → refusable acts ≡
     → refuse_refusal acts ≡ None
 refused_not acts call e roomy = rw (e, roomy) refl
 
--- want of memory is none of the reasons
+-- Out of memory is no reason to refuse a Refuse.
 other_reason : (none short : Bool) → cond none (Some NotRefusable) (cond short (Some NoRoom) None) ≡ Some NoMemory → ⊥
 other_reason true short e = absurd (let z : Some NotRefusable ≡ Some NoMemory = e in cc)
 other_reason false true e = absurd (let z : Some NoRoom ≡ Some NoMemory = e in cc)
@@ -50,7 +51,7 @@ refuse_refused config c log NoMemory kept new open_now why =
     absurd (other_reason (is_none (refusable (of c log))) (nat_lt (free (of c log)) longest_reply) why)
 refuse_refused config c log _ kept new open_now why = λ channel_log tells. rw open_now why
 
--- what it leaves of the server
+-- A Refuse that isn't refused answers the next call of the connection.
 pub refuse_done : (state : State) (config : Config) (log : List Act) (c : ℕ) (kept : Connection)
     → Represents state config log → length state.connections ≡ 16 → c < 16 → is_shut c log ≡ false
     → Refuses (of c log) (Ok tt) kept
@@ -73,7 +74,7 @@ refuse_done state config log c kept rep sixteen lt open_now (none, bytes, call, 
           (λ z. let e : answered ∷ CallTaken bytes ∷ of c log ≡ [] = sym here ∙ z in absurd cc) others)),
     )
 
--- an Input that is refused
+-- An Input is refused for its channel or its voltage, and never for out of memory.
 other_input : (none far : Bool) → Some NoMemory ≡ cond none (Some BadChannel) (cond far (Some BadInput) None) → ⊥
 other_input true far e = absurd (let z : Some NoMemory ≡ Some BadChannel = e in cc)
 other_input false true e = absurd (let z : Some NoMemory ≡ Some BadInput = e in cc)

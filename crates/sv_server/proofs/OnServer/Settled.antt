@@ -1,4 +1,4 @@
--- Steps one after the other, until a call went on or was given up, and until none is due.
+-- Steps are taken one after the other, until a call resumes or times out, or until none is due.
 use Rattle.std.proofs.Common.{◌≡◌, false, List, refl}
 use Rattle.std.specs.Prelude.{⊤}
 use Rattle.sv_history.specs.declared.event.Config.{Config}
@@ -8,7 +8,7 @@ use Rattle.sv_server.specs.Server.State.{State, Represents}
 use Rattle.sv_server.specs.Server.Inside.Acting.{GoesTo, Settled}
 use Rattle.sv_server.proofs.OnServer.Steps.{goes_more, goes_then, goes_settled}
 
--- what some steps made of any log
+-- Whatever the log, some of the steps that were due led from `first` to `now`.
 abbrev pub AnyGone : State → State → Type 0
 AnyGone first now = (config : Config) (log : List Act) → Represents first config log → GoesTo config log (λ mid. ⊤) now
 
@@ -28,7 +28,7 @@ any_more first mid now IsSo gone other = λ config log rep.
     let (end, goes, ends, stands) = other config middle held in
     (end, goes_then config log middle end reached goes, tt, stands)
 
--- a step, and then whatever is said of nothing
+-- One more step is taken, after which the claim holds because it holds for every log.
 pub any_called : (first mid now : State) (IsSo : Config → List Act → Type 0) → ((config : Config) (log : List Act) → IsSo config log)
     → AnyGone first mid
     → ((config : Config)
@@ -37,7 +37,7 @@ pub any_called : (first mid now : State) (IsSo : Config → List Act → Type 0)
 any_called first mid now IsSo always gone step config log rep =
     let (next, goes, so, stands) = any_step first mid now gone step config log rep in (next, goes, always config next, stands)
 
--- none is due
+-- No step is due any more.
 pub any_ended : (first mid now : State) → AnyGone first mid
     → ((config : Config) (log : List Act) → Represents mid config log → IsSettled config log × Represents now config log)
     → (config : Config) (log : List Act) → Represents first config log → GoesTo config log (λ end. false ≡ false → IsSettled config end) now

@@ -1,5 +1,4 @@
--- An event that was done, and the steps that are due after it, leave what stands for the longer
--- history; and a history has one log.
+-- After an event and the steps that are due after it, the server stands for the longer history.
 use Rattle.std.proofs.Common.{◌≡◌, ℕ, zero, suc, ap, Bool, true, false, List, [], ◌∷◌, ◌++◌, None, Some, inl, inr, refl, sym, subst, ◌∙◌}
 use Rattle.std.specs.Prelude.{Option, Result, Ok, Err, IsErr, IsErrAnd}
 use Rattle.sv_history.specs.declared.event.Config.{Config}
@@ -23,7 +22,7 @@ nothing_due : (n : ℕ) (config : Config) (log new : List Act) → SettlesIn n c
 nothing_due zero config log new (none, same) = subst (λ (end : List Act). IsSettled config end) (sym same) none
 nothing_due (suc n) config log new (middle, next, more) = nothing_due n config middle new more
 
--- an event was done, and the steps that are due after it
+-- An event was applied, and all steps that are due after it were taken.
 pub stands_acted : (config : Config) (history : List PlainEvent) (event : PlainEvent) (old new : State) → (s : StandsFor old config history)
     → IsEvent event → IsRefusal config event s.log None
     → ((polled : ℕ) → IsPolled polled (device_acts s.log) → Settled config (own_acts config polled event s.log ++ s.log) new)
@@ -49,7 +48,7 @@ stands_after config history event old mid new did s is_event acts settles =
     stands_acted config history event old new s is_event free
     (λ polled said. settles config (own_acts config polled event s.log ++ s.log) (makes polled said))
 
--- an event that makes no step due leaves none
+-- After an Open, a Bytes or a Took no step is due, if none was due before.
 quiet_settled : (config : Config) (polled : ℕ) (event : PlainEvent) (log : List Act) → is_quiet event ≡ true → IsSettled config log
     → IsSettled config (own_acts config polled event log ++ log)
 quiet_settled config polled (Open c role) log quiet none = still_settled c (Opened role) config log none
@@ -84,7 +83,7 @@ stands_unless config history event old mid new did true quiet s is_event acts se
 stands_unless config history event old mid new did false loud s is_event acts settles same =
     stands_after config history event old mid new did s is_event acts (λ k log rep. settles k log rep refl)
 
--- where nothing was recorded nothing is due
+-- Before all events no step is due.
 pub none_due : (config : Config) → IsSettled config []
 none_due config new (inl fires) = absurd (let none = fires.1.0 in cc)
 none_due config new (inr (none, inl goes)) = absurd (let z : None ≡ Some goes.1 = goes.4 in cc)
@@ -93,14 +92,14 @@ none_due config new (inr (none, inr (still, inr (idle, gives)))) = absurd (let z
 
 -- ---- refusals
 
--- what refuses it by what was told
+-- The interrupt channels have a log, and it determines why the event is refused.
 told_so : (config : Config) (event : PlainEvent) (log : List Act) (what : Option Refused) (old : State) → Represents old config log
     → IsRefusal config event log what
     → (channel_log : List ChannelAct) × HearsOf (device_acts log) channel_log × (refusal config channel_log event log ≡ what)
 told_so config event log what old rep why =
     let (channel_log, tells) = told_now old.device config (device_acts log) rep.device in (channel_log, tells, why channel_log tells)
 
--- what a private function leaves says what is answered
+-- The result is the one that the log determines.
 pub answered : (config : Config) (event : PlainEvent) (log : List Act) (r : Result Did Refused) (old new : State)
     → Represents old config log → Acts config event log r new → Answers config event log r
 answered config event log (Ok what) old new rep (none, does, more) =
@@ -119,12 +118,11 @@ answered config event log (Err BadChannel) old new rep why = told_so config even
 answered config event log (Err BadInput) old new rep why = told_so config event log (Some BadInput) old rep why
 answered config event log (Err TimeOver) old new rep why = told_so config event log (Some TimeOver) old rep why
 
--- an error that is passed on
 pub passed_on : {A E : Type 0} (r : Result A E) (e : E) → IsErr r → IsErrAnd r (λ x. x ≡ e) → r ≡ Err e
 passed_on (Ok a) e failed is = absurd cc
 passed_on (Err x) e failed is = ap Err is
 
--- an event of what isn't open
+-- An event of a connection or a channel that isn't open is refused.
 pub no_connection : (config : Config) (event : PlainEvent) (log : List Act) (r : Result Did Refused) (passed : Refused) (new : State)
     {IsShut : Type 0} → IsErr r × IsErrAnd r (λ x. x ≡ passed) → (passed ≡ NoConn) × IsShut
     → (IsShut → IsRefusal config event log (Some NoConn)) → Acts config event log r new

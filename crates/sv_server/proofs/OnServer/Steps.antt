@@ -1,4 +1,4 @@
--- The steps that are due, one after the other, settle a log.
+-- The steps that are due, taken one after the other, lead to a log after which none is due.
 use Rattle.std.proofs.Common.{ℕ, suc, zero, List, refl, inl, inr}
 use Rattle.sv_links.specs.Channels.{ChannelAct}
 use Rattle.sv_layers.proofs.PolledByte.{polled_byte}
@@ -10,17 +10,17 @@ use Rattle.sv_history.specs.Settling.{First, IsNext, IsSettled, SettlesIn}
 use Rattle.sv_server.specs.Server.Inside.Acting.{Reaches}
 use Rattle.sv_server.specs.Device.Representation.{IsDevice, Device as KeptDevice}
 
--- what a poll would give
+-- There is a byte that a serial poll would return.
 pub polled_now : (kept : KeptDevice) (config : Config) (acts : List DeviceAct) → IsDevice kept config acts
     → (polled : ℕ) × IsPolled polled acts
 polled_now kept config acts is = polled_byte kept.instrument.layers (instrument_acts acts) is.1.layers.stands
 
--- what is told to interrupt channels
+-- There is a log of the interrupt channels.
 pub told_now : (kept : KeptDevice) (config : Config) (acts : List DeviceAct) → IsDevice kept config acts
     → (channel_log : List ChannelAct) × HearsOf acts channel_log
 told_now kept config acts is = (is.6.0, is.6.1)
 
--- none is due where there is none of either kind
+-- No step is due if no step of any kind is possible.
 first_none : (A B : List Act → Type 0) → ((x : List Act) → A x → ⊥) → ((x : List Act) → B x → ⊥) → (x : List Act) → First A B x → ⊥
 first_none A B one other x (inl a) = one x a
 first_none A B one other x (inr b) = other x b.1
@@ -29,7 +29,7 @@ pub none_next : {A B C D : List Act → Type 0} → ((x : List Act) → A x → 
     → ((x : List Act) → D x → ⊥) → (x : List Act) → First A (First B (First C D)) x → ⊥
 none_next {A} {B} {C} {D} a b c d = first_none A (First B (First C D)) a (first_none B (First C D) b (first_none C D c d))
 
--- ---- some steps, and then others
+-- ---- sequences of steps
 
 pub goes_none : (config : Config) (log : List Act) → Reaches config log log
 goes_none config log = λ n new s. (n, s)

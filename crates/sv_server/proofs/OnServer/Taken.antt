@@ -1,4 +1,4 @@
--- What is known of the calls that wait, over acts.
+-- After every act, each suspended call of the queue was taken and has no reply yet.
 use Rattle.std.proofs.Common.{◌≡◌, ◌≢◌, ℕ, false, eqb, List, [], ◌∷◌, ◌++◌, Option, Some, None, sym, ap, subst, ◌∙◌, inl, inr}
 use Rattle.std.specs.Prelude.{map}
 use Rattle.std.specs.List.{AllByRecursion}
@@ -12,11 +12,11 @@ use Rattle.sv_history.specs.Request.{core_call}
 use Rattle.sv_history.specs.CoreCall.{creates_link}
 use Rattle.sv_server.specs.Server.State.{IsTaken}
 
--- an entry of another connection
+-- Acts of other connections leave the call of an entry.
 taken_other : (log new : List Act) (entry : Entry) → of entry.conn new ≡ of entry.conn log → IsTaken log entry → IsTaken new entry
 taken_other log new entry same (call, known, makes) = (call, ap pending_call same ∙ known, makes)
 
--- where the call of one connection stays as it was
+-- One connection acts, and its call stays pending.
 pub taken_acted : (c : ℕ) (log new : List Act) (entries : List Entry) → ((d : ℕ) → d ≢ c → of d new ≡ of d log)
     → ((call : List ℕ) → pending_call (of c log) ≡ Some call → pending_call (of c new) ≡ Some call)
     → AllByRecursion (IsTaken log) entries → AllByRecursion (IsTaken new) entries
@@ -30,7 +30,7 @@ taken_acted c log new (entry ∷ entries) others mine all = (
   taken_acted c log new entries others mine all.1,
 )
 
--- where it ended to wait
+-- The call of one connection leaves the queue.
 pub taken_without : (c : ℕ) (log new : List Act) (entries : List Entry) → ((d : ℕ) → d ≢ c → of d new ≡ of d log)
     → AllByRecursion (IsTaken log) entries → AllByRecursion (IsTaken new) (without c entries)
 taken_without c log new [] others all = tt
@@ -40,13 +40,13 @@ taken_without c log new (entry ∷ entries) others all = elim (cases_Bool (eqb e
       rw e (taken_other log new entry (others entry.conn (eqb-false entry.conn c e)) all.0, taken_without c log new entries others all.1)
 ]
 
--- one more at the end
+-- A call is appended to the queue.
 pub taken_push : (log : List Act) (entries : List Entry) (entry : Entry) → AllByRecursion (IsTaken log) entries → IsTaken log entry
     → AllByRecursion (IsTaken log) (entries ++ entry ∷ [])
 taken_push log [] entry all one = (one, tt)
 taken_push log (first ∷ entries) entry all one = (all.0, taken_push log entries entry all.1 one)
 
--- where one waits anew that makes no link
+-- A call that isn't create_link waits again at its place in the queue.
 pub taken_anew : (c : ℕ) (wait : Wait) (deadline : Option ℕ) (log new : List Act) (entries : List Entry)
     → ((d : ℕ) → of d new ≡ of d log)
     → ((call : List ℕ) → pending_call (of c log) ≡ Some call → creates_link (core_call call) ≡ false)
@@ -63,7 +63,7 @@ taken_anew c wait deadline log new (entry ∷ entries) same other all = (
   taken_anew c wait deadline log new entries same other all.1,
 )
 
--- what holds of all holds of the one of a connection
+-- What holds for all entries holds for the entry of a connection.
 abbrev option_holds : (P : Entry → Type 0) → Option Entry → Type 0
 option_holds P (Some entry) = P entry
 option_holds P None = ⊥

@@ -1,4 +1,4 @@
--- Which numbers of connections were used, over acts of one connection and of what all share.
+-- How many connections were used, after acts of a connection or of the device.
 use Rattle.std.proofs.Common.{◌≡◌, ◌≢◌, ℕ, suc, ◌+◌, ◌<◌, ◌≤◌, Bool, true, false, List, [], ◌∷◌, ◌++◌, sym, ap, subst, ◌∙◌, arith, inl, inr, Some}
 use Rattle.std.specs.Prelude.{◌||◌, not, max, nat_lt}
 use Rattle.std.proofs.lemmas.Bool.{cases_eq}
@@ -8,12 +8,12 @@ use Rattle.sv_history.specs.History.{is_shut}
 use Rattle.sv_history.specs.Queries.{IsUsed}
 use Rattle.sv_history.proofs.Projections.{of_own_act, of_other_act}
 
--- something was recorded of an open connection
+-- An open connection has acts.
 pub open_used : (acts : List ConnAct) → is_open acts ≡ true → acts ≢ []
 open_used [] opened none = absurd cc
 open_used (act ∷ acts) opened none = absurd cc
 
--- and of one with a call that isn't answered
+-- A connection with a pending call has acts.
 pub unanswered_used : (acts : List ConnAct) (call : List ℕ) → pending_call acts ≡ Some call → acts ≢ []
 unanswered_used [] call known none = absurd cc
 unanswered_used (act ∷ acts) call known none = absurd cc
@@ -27,12 +27,11 @@ unshut_used c log unshut none =
     let shut : is_shut c log ≡ true = or_true (nat_lt 15 c) (not (is_open (of c log))) (ap (λ (l : List ConnAct). not (is_open l)) none) in
     let z : true ≡ false = sym shut ∙ unshut in absurd cc
 
--- of what is in front of something, something stands
 pub behind : (front acts : List ConnAct) → acts ≢ [] → front ++ acts ≢ []
 behind [] acts some none = some none
 behind (act ∷ front) acts some none = absurd cc
 
--- a used connection acts
+-- A connection acts that was used before.
 pub used_acted : (n c : ℕ) (log new : List Act) → IsUsed n log → of c log ≢ [] → of c new ≢ []
     → ((d : ℕ) → d ≢ c → of d new ≡ of d log) → IsUsed n new
 used_acted n c log new (none, some) there still others = (
@@ -50,11 +49,11 @@ pub used_act : (n c : ℕ) (act : ConnAct) (log : List Act) → IsUsed n log →
 used_act n c act log connections_used there = used_acted n c log (On c act ∷ log) connections_used there
     (λ z. let e : act ∷ of c log ≡ [] = sym (of_own_act c act log) ∙ z in absurd cc) (λ d ne. of_other_act c d act log ne)
 
--- no connection acts
+-- No connection acts.
 pub used_same : (n : ℕ) (log new : List Act) → IsUsed n log → ((d : ℕ) → of d new ≡ of d log) → IsUsed n new
 used_same n log new (none, some) same = ((λ d above. same d ∙ none d above), (λ d is z. some d is (sym (same d) ∙ z)))
 
--- a connection opens
+-- A connection opens.
 next_of : (n c m d : ℕ) → m ≡ max n (c + 1) → m ≡ suc d → d ≢ c → n ≡ suc d
 next_of n c m d most is ne = grind (arith, most, is, ne)
 

@@ -1,4 +1,4 @@
--- What is told of a suspended call.
+-- The suspended call that `explain` shows for a connection is the one that the acts determine.
 use Rattle.std.proofs.Common.{◌≡◌, ℕ, List, Option, Some, None}
 use Rattle.std.specs.Prelude.{MatchOption}
 use Rattle.sv_links.specs.declared.waiting.Entry.{Entry}
@@ -7,7 +7,8 @@ use Rattle.sv_links.specs.Queue.{IsEntry}
 use Rattle.sv_explain.specs.declared.shown.CallShown.{CallShown}
 use Rattle.sv_explain.specs.Shown.{call_of}
 
--- what is told of a connection's entry, or of none, is what the acts give
+-- The call that is shown for the queue's entry of a connection, or for no entry, is the one that
+-- the acts determine.
 pub call_told : (acts : List WaitAct) (c : ℕ) (found : Option Entry) (call : Option CallShown)
     → MatchOption found (waits c acts ≡ None) (λ entry. (entry.conn ≡ c) × IsEntry acts entry)
     → MatchOption found (call ≡ None) (λ entry. call ≡ call_of (Some entry.wait) entry.lid entry.deadline)

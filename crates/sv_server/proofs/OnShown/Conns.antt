@@ -1,4 +1,4 @@
--- What is told of the connections, one after the other.
+-- `explain` shows the connections one after the other, and writes the lines of those that changed.
 use Rattle.std.proofs.Common.{◌≡◌, ℕ, zero, suc, ◌+◌, ◌<◌, ◌≤◌, max, Bool, List, [], ◌∷◌, ◌++◌, length, map, Option, refl, sym, ap, subst, ◌∙◌, append-nil, arith, inl, inr, add-one}
 use Rattle.std.specs.Prelude.{slice_index_or}
 use Rattle.std.specs.List.{concat, range_with_len}
@@ -14,13 +14,13 @@ use Rattle.sv_explain.specs.Shown.{IsConn, AreConns, never_opened}
 use Rattle.sv_explain.specs.Changes.{conn_lines, conns_lines}
 use Rattle.sv_server.specs.Explain.Inside.Conns.{IsPut}
 
--- ---- what is told
+-- ---- what is shown
 
--- what a list tells of a connection
+-- What the list shows of a connection.
 abbrev at : List ConnShown → ℕ → ConnShown
 at conns c = slice_index_or conns c never_opened
 
--- one connection more is told
+-- One more connection is shown.
 pub conns_more : (old new : List ConnShown) (n : ℕ) (one : ConnShown) (log : List Act) → IsPut n one old new
     → ((c : ℕ) → c < n → IsConn c (at old c) log) → IsConn n one log → (c : ℕ) → c < n + 1 → IsConn c (at new c) log
 conns_more old new n one log put before here c below = elim (cases_eq c n) [
@@ -28,7 +28,7 @@ conns_more old new n one log put before here c below = elim (cases_eq c n) [
   | inr ne ↦ rw (put.1 c ne) (before c (omega (arith, ne, below)))
 ]
 
--- all are told: those behind the last were never opened
+-- All connections are shown; those after the last were never opened.
 pub conns_end : (conns : List ConnShown) (n : ℕ) (log : List Act) → length conns ≤ n → ((c : ℕ) → c < n → IsConn c (at conns c) log)
     → ((c : ℕ) → n ≤ c → c < 16 → IsConn c never_opened log) → AreConns conns log
 conns_end conns n log le told never c lt = elim (cases_lt c n) [
@@ -38,7 +38,7 @@ conns_end conns n log le told never c lt = elim (cases_lt c n) [
 
 -- ---- the lines of the first connections
 
--- the texts of the numbers below `n`
+-- The texts of the numbers below `n`, joined.
 abbrev upto : (ℕ → List ℕ) → ℕ → List ℕ
 upto f n = concat (map f (range_with_len 0 n))
 
@@ -64,12 +64,12 @@ upto_quiet f n (suc m) le quiet =
           ∙ ap (λ (l : List ℕ). upto f m ++ l) (quiet m past) ∙ append-nil (upto f m) ∙ upto_quiet f n m past quiet)
     ]
 
--- the lines of connection `c`
+-- The lines of connection `c`.
 abbrev lines_at : List ConnShown → List ConnShown → ℕ → List ℕ
 lines_at old new c = conn_lines c (at old c) (at new c)
 
--- The lines of the connections below `n` are written; the list `now` tells of them what is new, and
--- of the others what `old` told.
+-- The lines of the connections below `n` are written. The list `now` shows these connections as
+-- they are, and the others as `old` shows them.
 pub record Written (old now : List ConnShown) (n : ℕ) (first last : Option (List ℕ)) (f g : Bool) : Type 0 where
   pub reached : n ≤ length now
   pub rest : (c : ℕ) → n ≤ c → at now c ≡ at old c
@@ -79,7 +79,7 @@ pub written_none : (old : List ConnShown) (first : Option (List ℕ)) (f : Bool)
     → Written old old 0 first first f f
 written_none old first f none = record { reached = omega arith; rest = λ c le. refl; lines = none }
 
--- the lines of one connection more
+-- The lines of one more connection are written.
 pub written_more : (old now new : List ConnShown) (n : ℕ) (one : ConnShown) (first mid last : Option (List ℕ)) (f g h : Bool)
     → Written old now n first mid f g → IsPut n one now new → Prints mid g last h (conn_lines n (at now n) one)
     → Written old new (n + 1) first last f h
@@ -99,7 +99,7 @@ written_more old now new n one first mid last f g h was put line = record {
 never_quiet : (c : ℕ) → conn_lines c never_opened never_opened ≡ []
 never_quiet c = refl
 
--- the lines of all connections
+-- The lines of all connections are written.
 pub written_all : (old now : List ConnShown) (n : ℕ) (first last : Option (List ℕ)) (f g : Bool) → Written old now n first last f g
     → length old ≤ n → length now ≤ n → n ≤ 16 → Prints first f last g (conns_lines old now)
 written_all old now n first last f g was old_le now_le le =
@@ -110,7 +110,7 @@ written_all old now n first last f g was old_le now_le le =
     ) (never_quiet c) in
     prints_equal_text first last f g _ _ (sym (upto_quiet (lines_at old now) n 16 le quiet)) was.lines
 
--- a list with one entry set is no longer than `m`
+-- Setting an entry below `m` keeps a list within `m` entries.
 pub put_bounded : (m n : ℕ) (one : ConnShown) (old new : List ConnShown) → IsPut n one old new → length old ≤ m → n < m → length new ≤ m
 put_bounded m n one old new put le lt = put_within (length old) (length new) put.2 le lt
   where

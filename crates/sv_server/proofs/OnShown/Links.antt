@@ -1,4 +1,4 @@
--- The live links, found one after the other by rising number.
+-- The live links, and the links with service requests enabled, are listed one after the other.
 use Rattle.std.proofs.Common.{◌≡◌, ℕ, zero, suc, ◌+◌, ◌<◌, ◌≤◌, eqb, nat_lt, List, [], ◌∷◌, ◌++◌, length, take, Option, Some, None, refl, sym, ap, subst, ◌∙◌, add-one, arith, inl, inr}
 use Rattle.std.specs.Prelude.{◌==◌, not, map, find, filter, option_map, slice_get}
 use Rattle.std.specs.List.{AllByRecursion}
@@ -15,7 +15,7 @@ use Rattle.sv_server.specs.Device.Representation.{AreOwned}
 use Rattle.sv_server.proofs.OnDevice.Owned.{room_for}
 use Rattle.sv_server.proofs.OnShown.Lists.{one_more, all_found, past_end}
 
--- a link as it is told
+-- A link as it is listed.
 abbrev pub listed : Link → Listed
 listed link = record { lid = link.lid; conn = link.conn }
 
@@ -25,7 +25,7 @@ listed_enabled link = record { lid = link.lid; conn = link.conn }
 abbrev pair : Enabled → ℕ × ℕ
 pair link = (link.lid, link.conn)
 
--- the link of a pair
+-- The link that a pair of link number and connection stands for.
 enabled_at : (links : List Enabled) (n lid conn : ℕ) → Some (lid, conn) ≡ slice_get (map pair links) n
     → (x : Enabled) × (slice_get links n ≡ Some x) × (listed_enabled x ≡ record { lid = lid; conn = conn })
 enabled_at [] n lid conn e = absurd cc
@@ -35,7 +35,7 @@ enabled_at (x ∷ links) zero lid conn e =
     (x, refl, ap mk (sym same))
 enabled_at (x ∷ links) (suc n) lid conn e = enabled_at links n lid conn e
 
--- one more of the links that have service requests enabled
+-- One more link with service requests enabled is listed.
 pub asking_more : (links : List Enabled) (n lid conn : ℕ) (found more : List Listed) → Some (lid, conn) ≡ slice_get (map pair links) n
     → more ≡ found ++ record { lid = lid; conn = conn } ∷ [] → found ≡ map listed_enabled (take n links)
     → more ≡ map listed_enabled (take (n + 1) links)
@@ -43,18 +43,18 @@ asking_more links n lid conn found more at new is =
     let (x, here, same) = enabled_at links n lid conn at in
     one_more listed_enabled links n x found more here (new ∙ ap (λ (l : Listed). found ++ l ∷ []) (sym same)) is
 
--- all of them
+-- All links with service requests enabled are listed.
 pub asking_end : (links : List Enabled) (n : ℕ) (found : List Listed) → None ≡ slice_get (map pair links) n
     → found ≡ map listed_enabled (take n links) → found ≡ map listed_enabled links
 asking_end links n found none is =
     let le : length links ≤ n = rw (← length-map links pair) (past_end (map pair links) n (sym none)) in
     all_found listed_enabled links n found le is
 
--- the first link with a number above this one
+-- The first link with a number above this one.
 abbrev pub next_above : ℕ → List Link → Option Link
 next_above lid links = find (λ link. nat_lt lid link.lid) links
 
--- of links that all are above it, that is the first
+-- If all links are above a number, the next link above it is the first of the list.
 first_above : (lid : ℕ) (links : List Link) → AllByRecursion (λ link. lid < link.lid) links → next_above lid links ≡ slice_get links 0
 first_above lid [] h = refl
 first_above lid (link ∷ links) h = rw (lt-ltb lid link.lid h.0) refl
@@ -75,7 +75,7 @@ next_suc (x ∷ links) last (suc n) link rising at =
     let below : x.lid < link.lid = all_get (λ other. x.lid < other.lid) links n link at rising.1 in
     rw (le-ltb link.lid x.lid (omega (arith, below))) (next_suc links last n link rising.2 at)
 
--- behind the n-th link comes the next
+-- The next link above the number of a link is the next one of the list.
 pub next_is : (links : List Link) (last n : ℕ) (link : Link) → IsRising links last → slice_get links n ≡ Some link
     → next_above link.lid links ≡ slice_get links (n + 1)
 next_is links last n link rising at = rw add-one (next_suc links last n link rising at)
@@ -94,7 +94,7 @@ others lid [] h = refl
 others lid (x ∷ links) h = rw (ne_eqb x.lid lid (λ e. absurd (omega (arith, h.0, e))))
     (ap (λ (xs : List Enabled). x ∷ xs) (others lid links h.1))
 
--- where a link has number 0, it is the first
+-- A link with number 0 is the first of the list.
 pub first_zero : (links : List Link) (last conn : ℕ) → IsRising links last
     → Some conn ≡ option_map (λ link. link.conn) (find (λ link. link.lid == 0) links)
     → Some (record { lid = 0; conn = conn }) ≡ slice_get links 0
@@ -108,7 +108,7 @@ first_zero (x ∷ links) last conn rising is = elim (cases_Bool (eqb x.lid 0)) [
   | inr e ↦ absurd (let none : Some conn ≡ None = rw (e, none_zero x.lid links rising.1) at is in cc)
 ]
 
--- else the first is the first above 0
+-- Without a link with number 0, the first link above 0 is the first of the list.
 pub first_other : (links : List Link) (last : ℕ) → IsRising links last
     → None ≡ option_map (λ (link : Link). link.conn) (find (λ link. link.lid == 0) links) → next_above 0 links ≡ slice_get links 0
 first_other [] last rising is = refl
@@ -117,7 +117,7 @@ first_other (x ∷ links) last rising is = elim (cases_Bool (eqb x.lid 0)) [
   | inr e ↦ rw (lt-ltb 0 x.lid (above_zero x.lid (eqb-false x.lid 0 e))) refl
 ]
 
--- no more links have service requests enabled than may be live
+-- At most as many links have service requests enabled as may be live.
 pub asking_few : (links : List Enabled) (acts : List LinkAct) → IsSorted links → AreOwned links acts → length (live acts) ≤ max_links
     → length links ≤ max_links
 asking_few [] acts sorted owned within = omega arith

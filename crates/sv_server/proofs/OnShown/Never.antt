@@ -1,4 +1,4 @@
--- What is told of a connection that was never opened.
+-- `explain` shows a connection without acts as one that was never opened.
 use Rattle.std.proofs.Common.{◌≡◌, ℕ, eqb, nat_lt, Bool, true, false, List, [], ◌∷◌, Some, None, refl, sym, arith, inl, inr}
 use Rattle.std.specs.Prelude.{not}
 use Rattle.std.specs.List.{AllByRecursion}
@@ -15,7 +15,7 @@ use Rattle.sv_explain.specs.Shown.{IsConn, never_opened}
 use Rattle.sv_server.specs.Server.State.{State, Represents, IsTaken}
 use Rattle.std.proofs.Common.{◌<◌}
 
--- it has no suspended call
+-- A connection without acts has no suspended call.
 no_entry : (log : List Act) (c : ℕ) (entries : List Entry) → of c log ≡ [] → AllByRecursion (IsTaken log) entries
     → entry_of c entries ≡ None
 no_entry log c [] none taken = refl
@@ -26,7 +26,7 @@ no_entry log c (entry ∷ entries) none (own, others) = elim (cases_Bool (eqb en
   | inr e ↦ rw e (no_entry log c entries none others)
 ]
 
--- its channel isn't open
+-- A connection whose channel is shut has no channel.
 pub no_channel : (c : ℕ) (log : List Act) → c < 16 → false ≡ not (is_channel_shut c log) → has_channel c (device_acts log) ≡ false
 no_channel c log lt shut =
     let le : nat_lt 15 c ≡ false = le-ltb 15 c (omega (arith, lt)) in

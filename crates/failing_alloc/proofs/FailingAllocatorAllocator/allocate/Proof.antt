@@ -1,5 +1,5 @@
--- One turn is counted. The call that is refused keeps nothing, and any other answers what the inner
--- allocator answers. Assumes `Logic`.
+-- `allocate` counts one allocation. The refused one returns an error and allocates nothing; any
+-- other returns what the inner allocator returns. Assumes `Logic`.
 use Rattle.std.proofs.Common.{◌≡◌, ℕ, ◌+◌, ◌^◌, ◌<◌, Bool, true, false, [], ◌∷◌, Ok, Err, refl, w64, Bor}
 use Rattle.std.proofs.VecSteps.Shapes.{after}
 use seplogic.Ra.Ura.{Ura}
@@ -75,7 +75,7 @@ module _ (Z : Al) {M : Type 1} {𝓤 : Ura M} (𝓛 : Logic 𝓤) (mem : Memory 
     abbrev Post : Val → SProp 𝓤
     Post = (walk_of 𝓛 (ended Z) (stayed Z) held).post bound
 
-    -- the way out with no block
+    -- The return with an error.
     gives_none : Sq 𝓛 (‵ (flft κ q) ∷ (‵ (flft ρ s) ⊛ ‵ ftrue) ∷ []) (prop (Post (answer_val false 0 0)))
     gives_none =
         suffices ! _ (ends_at 𝓛 (ended Z) (stayed Z) held bound (answer_val false 0 0) (Err (record {})) (tt, (tt, (tt, tt)))
@@ -84,7 +84,7 @@ module _ (Z : Al) {M : Type 1} {𝓤 : Ura M} (𝓛 : Logic 𝓤) (mem : Memory 
         nothing ! $ nothing ! $ fjoin ! $ nothing ! $ fjoin ! $ nothing ! $ fjoin ! $ join ! $ move !
         (2 ∷ 3 ∷ []) $ join ! $ join ! $ done !
 
-    -- the way out with the block that the inner allocator gave
+    -- The return with the block that the inner allocator gave.
     gives_block : (b o : ℕ) → Sq 𝓛 (‵ (froom τ b o) ∷ ‵ (token Z r.now.inner τ (block_ptr b o)) ∷ ‵ (flft κ q) ∷ (‵ (flft ρ s) ⊛ ‵ ftrue)
         ∷ []) (prop (Post (answer_val true b o)))
     gives_block b o =
@@ -109,7 +109,8 @@ module _ (Z : Al) {M : Type 1} {𝓤 : Ura M} (𝓛 : Logic 𝓤) (mem : Memory 
           move ! (1 ∷ []) $ split ! $ heard ! (ρ ⊑ Z.row.lives) (λ lives. heard ! Sized (λ sized.
           split ! $ split ! $ move ! (2 ∷ []) $ fsplit ! $ fsplit ! $ move ! (1 ∷ []) $ unhide ! $ fsplit ! $ fsplit ! $
           use1 𝓛 (‵ (seen Z κ at_handle handle)) (id⊢ 𝓤 _) $ move ! (1 ∷ []) $ fsplit ! $ keep ! (0 ∷ 6 ∷ 2 ∷ 7 ∷ []) $
-          -- [the `&` to the cell; the token of κ; the `&` to the handle; the token of ρ]
+          -- The context: the `&` to the cell, the token of κ, the `&` to the handle, the token of
+          -- ρ.
           enter ! 𝓣.C 𝓣.Λ (here Z) _ _ $ alloc_all !
           (λ l. pass_all ! refl ((tt, tt), ((tt, record { fits = fits_n }), ((tt, record { fits = fits_a }), tt))) $
           sets ! (addr ! (through ! refl (fld ! refl (stop !)))) refl (tt, tt) $
@@ -119,7 +120,7 @@ module _ (Z : Al) {M : Type 1} {𝓤 : Ura M} (𝓛 : Logic 𝓤) (mem : Memory 
           use1 𝓛 (later (some (λ (x : Bool). given (u ≡ vbool x) (‵ (flft κ q)))))
           (answers_bool 𝓛 mem run κ q at_left u) $ await ! tt $ pick ! (λ last. learn ! (λ is_last.
           lands_as ! is_last refl (tt, tt) $
-          -- [the token of κ; the `&` to the handle; the token of ρ]
+          -- The context: the token of κ, the `&` to the handle, the token of ρ.
           first ! $ branches ! (get ! refl)
           (λ refused. sets ! (agg ! (no_more !)) refl (tt, tt) $
           sets ! (agg ! (and_then ! (lit ! tt) (and_then ! (get ! refl) (no_more !)))) refl (Answer-typed false 0 0) $

@@ -1,4 +1,4 @@
--- The block goes back to the inner allocator. Assumes `Logic`.
+-- `deallocate` gives the block back to the inner allocator. Assumes `Logic`.
 use Rattle.std.proofs.Common.{◌≡◌, ℕ, ◌+◌, ◌^◌, ◌<◌, List, [], ◌∷◌, refl, w64, Bor}
 use seplogic.Ra.Ura.{Ura}
 use mir.Syntax.{Ty, Fn, a_type, dnil, dcons}
@@ -99,7 +99,7 @@ module _ (Z : Al) {M : Type 1} {𝓤 : Ura M} (𝓛 : Logic 𝓤) (mem : Memory 
         (2 ∷ 3 ∷ []) $ join ! $ join ! $ done !
 
     module _ (𝓣 : Tables 𝓤 𝓛.H) (inner : Triple 𝓤 (𝓣.C (gives_key Z)) (Gives Z 𝓛 mem run)) where
-      -- nothing lies at null
+      -- No block is at null.
       walk : n < 2 ^ 64 → a < 2 ^ 64 → (x : Ptr) → ent 𝓤 (Pre x)
           (WpFn 𝓤 H 𝓣.C 𝓣.Λ (here Z) (vptr r.ref_ptr.0 r.ref_ptr.1 ∷ ptr_val x ∷ vint w64 n ∷ vint w64 a ∷ []) (Post x))
       walk fits_n fits_a null_ptr =
@@ -115,7 +115,7 @@ module _ (Z : Al) {M : Type 1} {𝓤 : Ura M} (𝓛 : Logic 𝓤) (mem : Memory 
           move ! (1 ∷ []) $ split3 ! $ heard ! (ρ ⊑ Z.row.lives) (λ lives. heard ! Sized (λ sized. move ! (1 ∷ []) $
           split ! $ split ! $ move ! (2 ∷ []) $ fsplit ! $ fsplit ! $ move ! (1 ∷ []) $ unhide ! $ fsplit ! $ fsplit ! $
           use1 𝓛 (‵ (seen Z κ at_handle handle)) (id⊢ 𝓤 _) $ keep ! (0 ∷ 5 ∷ 6 ∷ 7 ∷ []) $
-          -- [the `&` to the handle; the token of κ; the token of ρ; the block]
+          -- The context: the `&` to the handle, the token of κ, the token of ρ, the block.
           enter ! 𝓣.C 𝓣.Λ (here Z) _ _ $ alloc_all !
           (λ l. pass_all ! refl ((tt, tt), ((tt, tt), ((tt, record { fits = fits_n }), ((tt, record { fits = fits_a }), tt)))) $
           sets ! (addr ! (through ! refl (fld ! refl (stop !)))) refl (tt, tt) $

@@ -25,7 +25,7 @@ returns-in-Events-clause-counts g c = λ start log h. rw c.in-Events.is (counts 
 pub returns-in-Events-clause-exchange : goal.returns-in-Events-clause-exchange
 returns-in-Events-clause-exchange g c = c.apply-in-Events.ensures.exchange
 
--- no other query takes anything
+-- No other query removes an error or clears a register.
 untaken : (asked : Question) (log : List Act) → (asked ≡ StandardEvents → ⊥) → (asked ≡ Error → ⊥)
     → ((name : RegisterName) → asked ≡ Events name → ⊥) → after_query asked log ≡ log
 untaken StandardEvents log other _ _ = absurd (other refl)

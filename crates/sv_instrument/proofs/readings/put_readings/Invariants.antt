@@ -5,7 +5,7 @@ use Rattle.sv_scan.specs.Scan.{is_bounded}
 use Rattle.sv_instrument.specs.QueryResponse.{reading_text, readings_text}
 use Rattle.sv_instrument.proofs.readings.put_readings.Given as goal
 
--- what is put so far, and the readings from here on, each behind a comma
+-- The text so far and the remaining readings, with a comma before each, make the whole text.
 abbrev pub invariant-loop-reading : goal.invariant-loop-reading
 invariant-loop-reading g l = record {
   text : l.out.items ++ flat_map (λ r. codes "," ++ reading_text r) (drop l.reading-index l.others)

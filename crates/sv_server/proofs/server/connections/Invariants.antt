@@ -2,7 +2,7 @@ use Rattle.std.proofs.Common.{◌≡◌, ℕ, ◌<◌, [], length, get_or}
 use Rattle.sv_server.specs.Connection.Representation.{Connection, IsConnection}
 use Rattle.sv_server.proofs.server.connections.Given as goal
 
--- the connections so far keep no act
+-- The connections so far have no acts.
 abbrev pub invariant-loop : goal.invariant-loop
 invariant-loop g l = record {
   count : length l.connections.items ≡ l.counter;

@@ -4,7 +4,7 @@ use Rattle.sv_header.specs.Plain.{is_short, sent_of}
 use Rattle.sv_text.specs.Cut.{cut_at}
 use Rattle.sv_header.proofs.path.Path.walk.Given as goal
 
--- the path and the mnemonics behind it are what they were
+-- The path so far and the mnemonics that remain are together what they were at the start.
 abbrev pub invariant-loop-behind : goal.invariant-loop-behind
 invariant-loop-behind l = record {
   same : l.self-inside.mnemonics.items ++ l.first ∷ sent_of l.behind ≡ l.fn.self ++ cut_at 58 l.fn.body;

@@ -11,7 +11,7 @@ use Rattle.sv_instrument.specs.Step.{is_held}
 use Rattle.sv_instrument.specs.Representation.{IsHeldRight}
 use Rattle.sv_instrument.proofs.instrument.Instrument.can_read.Goals as goal
 
--- a unit is held only in a message that has ended
+-- A unit is held only after its message has ended.
 held_after_end : (held : Option Awaited) (layers : LayerState) (ended : Bool) → IsHeldRight held layers
     → is_open layers.exchange ≡ not ended → not ended ≡ (not (is_held held) && not ended)
 held_after_end None layers ended right same = refl

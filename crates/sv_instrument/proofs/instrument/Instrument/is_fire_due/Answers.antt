@@ -5,7 +5,6 @@ use Rattle.sv_scan.specs.Answered.{refused_by}
 use Rattle.sv_layers.specs.Act.{scan_acts}
 use Rattle.sv_instrument.proofs.instrument.Instrument.is_fire_due.Goals as goal
 
--- what is refused has a fault
 has_fault : (fault : Option Code) (code : Code) → Err code ≡ refused_by fault → false ≡ is_none fault
 has_fault None code e = absurd cc
 has_fault (Some other) code e = refl

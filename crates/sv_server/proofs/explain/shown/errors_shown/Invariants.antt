@@ -4,7 +4,7 @@ use Rattle.sv_errors.specs.Code.{number_of}
 use Rattle.sv_errors.specs.ErrorQueue.{queue_codes, StandsFor}
 use Rattle.sv_server.proofs.explain.shown.errors_shown.Given as goal
 
--- the numbers so far are those of the first errors
+-- The numbers so far are those of the first errors of the queue.
 abbrev pub invariant-loop-index : goal.invariant-loop-index
 invariant-loop-index g l = record {
   count : length l.found.items ≡ l.index;

@@ -1,7 +1,7 @@
 use Rattle.std.proofs.Common.{◌≡◌, length, map, take, pos}
 use Rattle.sv_server.proofs.explain.shown.list_shown.Given as goal
 
--- the channels so far are the first of the list
+-- The channels so far are the first ones of the list.
 abbrev pub invariant-loop-channel : goal.invariant-loop-channel
 invariant-loop-channel g l = record {
   count : length l.found.items ≡ l.channel-index;

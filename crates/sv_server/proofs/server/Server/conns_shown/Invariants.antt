@@ -5,7 +5,7 @@ use Rattle.sv_server.specs.Server.State.{Represents}
 use Rattle.sv_explain.specs.Shown.{IsConn, never_opened}
 use Rattle.sv_server.proofs.server.Server.conns_shown.Given as goal
 
--- what is told of the connections so far
+-- The connections below the number are shown.
 abbrev pub invariant-loop-number : goal.invariant-loop-number
 invariant-loop-number g l = record {
   count : length l.found.items ≡ l.number;

@@ -2,7 +2,7 @@ use Rattle.sv_links.specs.Queue.{queue_measure}
 use Rattle.sv_server.proofs.OnServer.Settled.{AnyGone}
 use Rattle.sv_server.proofs.server.Server.settle.Given as goal
 
--- what the steps until now made of any log
+-- The steps so far lead from the initial state to the present one, whatever the log.
 abbrev pub invariant-loop : goal.invariant-loop
 invariant-loop g l = AnyGone l.initial.self l.self
 

@@ -3,7 +3,8 @@ use Rattle.sv_instrument.specs.Representation.{instrument_measure}
 use Rattle.sv_server.proofs.OnServer.Settled.{AnyGone}
 use Rattle.sv_server.proofs.server.Server.settle_to_call.Given as goal
 
--- what the steps until now made of any log, and that no call went on
+-- The steps so far lead from the initial state to the present one, and the queue of suspended calls
+-- is unchanged.
 abbrev pub invariant-loop : goal.invariant-loop
 invariant-loop g l = AnyGone l.initial.self l.self × (l.self.device.waiting ≡ l.initial.self.device.waiting)
 

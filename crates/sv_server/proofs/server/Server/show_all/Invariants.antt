@@ -8,7 +8,7 @@ use Rattle.sv_server.specs.Replay.Inside.Showing.{StandsBy}
 use Rattle.sv_server.proofs.OnReplay.Ports.{SoFar}
 use Rattle.sv_server.proofs.server.Server.show_all.Given as goal
 
--- the lines of the ports below the number were written
+-- The lines of the ports below the number were written.
 abbrev pub invariant-loop-number : goal.invariant-loop-number
 invariant-loop-number g l = (config : Config) (history : List PlainEvent) (channel_log : List ChannelAct) (log : List Act)
     → StandsBy l.fn.self config history channel_log log

@@ -6,7 +6,7 @@ use Rattle.sv_explain.specs.Shown.{IsConn, never_opened}
 use Rattle.sv_server.proofs.OnShown.Conns.{Written}
 use Rattle.sv_server.proofs.server.Server.tell_conns.Given as goal
 
--- the connections before the number are told, and their lines are written
+-- The lines of the connections below the number were written.
 abbrev pub invariant-loop-number : goal.invariant-loop-number
 invariant-loop-number g l = record {
   bounded : length l.shown.items ≤ l.most;

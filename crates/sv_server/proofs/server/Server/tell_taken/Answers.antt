@@ -9,7 +9,7 @@ use Rattle.sv_print.specs.Printed.{Prints}
 use Rattle.sv_print.proofs.Taking.{prints_none, prints_then}
 use Rattle.sv_server.proofs.server.Server.tell_taken.Goals as goal
 
--- without a call there is no line
+-- Without a call there is no line to write.
 no_call : (c : ℕ) (call : Option (List ℕ)) (old : Option (List ℕ)) (failed : Bool) → false ≡ not (is_none call)
     → Prints old failed old failed (option_map_or (call_line c) call [])
 no_call c None old failed e = prints_none old failed
