@@ -31,8 +31,8 @@ form_short : (sent : List ℕ) (part : Part) → is_small part ≡ true → IsFo
 form_short sent part s (inl h) = short_same sent part.short (and_parts _ _ s).0 h
 form_short sent part s (inr h) = short_same sent part.long (and_parts _ _ s).1 h
 
-at_most : (n m : ℕ) → nat_le n m ≡ true → n ≤ m
-at_most n m h = leb-true n m h
+le_from_nat_le : (n m : ℕ) → nat_le n m ≡ true → n ≤ m
+le_from_nat_le n m h = leb-true n m h
 
 -- Mnemonics that fit are no more than the nodes, and none has more than 12 characters.
 pub fits_small : (sent : List (List ℕ)) (parts : List Part) → list_all is_small parts ≡ true → Fits sent parts
@@ -48,11 +48,11 @@ fits_small sent (part ∷ parts) s (inr f) =
     let rest : (length sent ≤ length parts) × (list_all is_short sent ≡ true) = fits_small sent parts b.1 f.1 in
     (omega (arith, rest.0), rest.1)
 
-pub passes : (test : Row → Bool) (rows : List Row) (k : ℕ) (row : Row) → list_all test rows ≡ true → k < length rows
+pub holds_at_place : (test : Row → Bool) (rows : List Row) (k : ℕ) (row : Row) → list_all test rows ≡ true → k < length rows
     → slice_index_or rows k row ≡ row → test row ≡ true
-passes test [] k row all lt e = absurd (omega arith)
-passes test (r ∷ rows) zero row all lt e = ap test (sym e) ∙ (and_parts _ _ all).0
-passes test (r ∷ rows) (suc k) row all lt e = passes test rows k row (and_parts _ _ all).1 (omega arith) e
+holds_at_place test [] k row all lt e = absurd (omega arith)
+holds_at_place test (r ∷ rows) zero row all lt e = ap test (sym e) ∙ (and_parts _ _ all).0
+holds_at_place test (r ∷ rows) (suc k) row all lt e = holds_at_place test rows k row (and_parts _ _ all).1 (omega arith) e
 
 table_small : list_all is_small_row table ≡ true
 table_small = refl
@@ -63,19 +63,19 @@ pub resolves_small : (path : List (List ℕ)) (header : List ℕ) (command : Com
     → (length (full path header) ≤ 5) × (list_all is_short (full path header) ≡ true)
 resolves_small path header command h =
     let row = h.0 in
-    let b = and_parts _ _ (passes is_small_row table h.1.0 row table_small h.1.1 h.1.2) in
+    let b = and_parts _ _ (holds_at_place is_small_row table h.1.0 row table_small h.1.1 h.1.2) in
     let f = fits_small (full path header) row.parts b.1 h.3.2 in
-    let l = at_most _ _ b.0 in
+    let l = le_from_nat_le _ _ b.0 in
     (omega (arith, l, f.0), f.1)
 
-pub but_last_push : (path : List (List ℕ)) (last : List ℕ) → but_last (path ++ last ∷ []) ≡ path
-but_last_push [] last = refl
-but_last_push (part ∷ []) last = refl
-but_last_push (part ∷ other ∷ others) last = ap (λ ps. part ∷ ps) (but_last_push (other ∷ others) last)
+pub but_last_of_append : (path : List (List ℕ)) (last : List ℕ) → but_last (path ++ last ∷ []) ≡ path
+but_last_of_append [] last = refl
+but_last_of_append (part ∷ []) last = refl
+but_last_of_append (part ∷ other ∷ others) last = ap (λ ps. part ∷ ps) (but_last_of_append (other ∷ others) last)
 
-all_behind : (test : List ℕ → Bool) (front behind : List (List ℕ)) → list_all test (front ++ behind) ≡ true → list_all test behind ≡ true
-all_behind test [] behind h = h
-all_behind test (part ∷ front) behind h = all_behind test front behind (and_parts _ _ h).1
+all_of_suffix : (test : List ℕ → Bool) (front behind : List (List ℕ)) → list_all test (front ++ behind) ≡ true → list_all test behind ≡ true
+all_of_suffix test [] behind h = h
+all_of_suffix test (part ∷ front) behind h = all_of_suffix test front behind (and_parts _ _ h).1
 
 -- A path and a header's mnemonics are few enough together, and each of these mnemonics is short.
 abbrev AreSmall : List (List ℕ) → List (List ℕ) → Type 0
@@ -84,7 +84,7 @@ AreSmall path sent = (length path + length sent ≤ 5) × (list_all is_short sen
 small_at : (l : Lead) (path sent : List (List ℕ))
     → (length (path_before l path ++ sent) ≤ 5) × (list_all is_short (path_before l path ++ sent) ≡ true)
     → AreSmall (path_before l path) sent
-small_at l path sent h = (omega (arith, h.0, length-append (path_before l path) sent), all_behind is_short (path_before l path) sent h.1)
+small_at l path sent h = (omega (arith, h.0, length-append (path_before l path) sent), all_of_suffix is_short (path_before l path) sent h.1)
 
 -- A header that names a command from the root is small enough by itself.
 pub root_small : (path : List (List ℕ)) (header : List ℕ) (command : CommandId) → lead header ≡ Root → Resolves path header command

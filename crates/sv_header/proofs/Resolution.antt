@@ -14,7 +14,7 @@ use Rattle.sv_header.specs.Table.{table, common_commands, other_commands}
 use Rattle.sv_header.specs.Resolve.{Resolves, full, leads_common}
 use Rattle.sv_header.specs.Inside.Tree.{ending_rows, below, rows_of, tree_rows, rows_with}
 use Rattle.sv_header.specs.Inside.Walk.{LeadsBelow, Leads, IsFound}
-use Rattle.sv_header.proofs.Rows.{SomeNames, some_left, some_right, some_cases, some_from_contains, contains_from_some, some_there, some_absent, some_below, some_ending_rows, ending_rows_cases}
+use Rattle.sv_header.proofs.Rows.{SomeNames, some_of_first_rows, some_of_second_rows, some_cases, some_from_contains, contains_from_some, some_if_node_taken, some_if_node_omitted, some_below, some_ending_rows, ending_rows_cases}
 
 -- Mnemonics that lead to a command at a node or below it fit a row of this command there.
 names_below : (c q : Bool) (branch : Branch) (rows : List Row) (Below : List (List ℕ) → CommandId → Type 0)
@@ -23,7 +23,7 @@ names_below : (c q : Bool) (branch : Branch) (rows : List Row) (Below : List (Li
     → SomeNames c q left command (ending_rows c branch ++ rows)
 names_below c q branch rows Below names left command (inl ends) = some_ending_rows c q branch rows left command ends
 names_below c q branch rows Below names left command (inr on) =
-    some_right c q left command (ending_rows c branch) rows (names left command on)
+    some_of_second_rows c q left command (ending_rows c branch) rows (names left command on)
 
 -- Mnemonics that lead to a command in the tree fit a row of this command.
 pub names_from_leads : (fuel : ℕ) (c q : Bool) (branches : List Branch) (left : List (List ℕ)) (command : CommandId)
@@ -35,17 +35,20 @@ names_from_leads (suc fuel) c q (branch ∷ behind) left command (inl (inl there
     let rows = rows_of fuel c children in
     let Below = λ (rest : List (List ℕ)) (final : CommandId). Leads fuel q children rest final in
     let on = names_below c q branch rows Below (names_from_leads fuel c q children) there.0 command there.2 in
-    some_left c q left command (map (below (part branch.node)) (ending_rows c branch ++ rows)) (rows_of fuel c (drop branch.below behind))
-    (some_there c q left there.0 (part branch.node) command (ending_rows c branch ++ rows) there.1 on)
+    some_of_first_rows c q left command (map (below (part branch.node)) (ending_rows c branch ++ rows))
+        (rows_of fuel c (drop branch.below behind))
+    (some_if_node_taken c q left there.0 (part branch.node) command (ending_rows c branch ++ rows) there.1 on)
 names_from_leads (suc fuel) c q (branch ∷ behind) left command (inl (inr absent)) =
     let children = take branch.below behind in
     let rows = rows_of fuel c children in
     let Below = λ (rest : List (List ℕ)) (final : CommandId). Leads fuel q children rest final in
     let on = names_below c q branch rows Below (names_from_leads fuel c q children) left command absent.1 in
-    some_left c q left command (map (below (part branch.node)) (ending_rows c branch ++ rows)) (rows_of fuel c (drop branch.below behind))
-    (some_absent c q left (part branch.node) command (ending_rows c branch ++ rows) absent.0 on)
+    some_of_first_rows c q left command (map (below (part branch.node)) (ending_rows c branch ++ rows))
+        (rows_of fuel c (drop branch.below behind))
+    (some_if_node_omitted c q left (part branch.node) command (ending_rows c branch ++ rows) absent.0 on)
 names_from_leads (suc fuel) c q (branch ∷ behind) left command (inr siblings) =
-    some_right c q left command (map (below (part branch.node)) (ending_rows c branch ++ rows_of fuel c (take branch.below behind)))
+    some_of_second_rows c q left command
+        (map (below (part branch.node)) (ending_rows c branch ++ rows_of fuel c (take branch.below behind)))
     (rows_of fuel c (drop branch.below behind))
     (names_from_leads fuel c q (drop branch.below behind) left command siblings)
 
@@ -79,30 +82,33 @@ leads_from_names (suc fuel) c q d (branch ∷ behind) left command h =
 
 -- No header without an asterisk fits a row of the common commands, and none with an asterisk fits
 -- any other row.
-not_common : (q : Bool) (left : List (List ℕ)) (command : CommandId) (rows : List Row) → list_all (λ row. row.common) rows ≡ true
+plain_header_fits_no_common : (q : Bool) (left : List (List ℕ)) (command : CommandId) (rows : List Row)
+    → list_all (λ row. row.common) rows ≡ true
     → SomeNames false q left command rows → ⊥
-not_common q left command [] all h = h
-not_common q left command (row ∷ rows) all (inl h) =
+plain_header_fits_no_common q left command [] all h = h
+plain_header_fits_no_common q left command (row ∷ rows) all (inl h) =
     let e : false ≡ true = h.1 ∙ (and_parts _ _ all).0 in
     absurd cc
-not_common q left command (row ∷ rows) all (inr h) = not_common q left command rows (and_parts _ _ all).1 h
+plain_header_fits_no_common q left command (row ∷ rows) all (inr h) = plain_header_fits_no_common q left command rows (and_parts _ _ all).1
+    h
 
-only_common : (q : Bool) (left : List (List ℕ)) (command : CommandId) (rows : List Row)
+common_header_fits_no_other : (q : Bool) (left : List (List ℕ)) (command : CommandId) (rows : List Row)
     → list_all (λ row. not row.common) rows ≡ true → SomeNames true q left command rows → ⊥
-only_common q left command [] all h = h
-only_common q left command (row ∷ rows) all (inl h) =
+common_header_fits_no_other q left command [] all h = h
+common_header_fits_no_other q left command (row ∷ rows) all (inl h) =
     let e : not true ≡ true = ap not h.1 ∙ (and_parts _ _ all).0 in
     absurd cc
-only_common q left command (row ∷ rows) all (inr h) = only_common q left command rows (and_parts _ _ all).1 h
+common_header_fits_no_other q left command (row ∷ rows) all (inr h) = common_header_fits_no_other q left command rows (and_parts _ _ all).1
+    h
 
 table_parts : table ≡ common_commands ++ other_commands
 table_parts = refl
 
-common_common : list_all (λ row. row.common) common_commands ≡ true
-common_common = refl
+common_rows_are_common : list_all (λ row. row.common) common_commands ≡ true
+common_rows_are_common = refl
 
-others_other : list_all (λ row. not row.common) other_commands ≡ true
-others_other = refl
+other_rows_arent_common : list_all (λ row. not row.common) other_commands ≡ true
+other_rows_arent_common = refl
 
 -- So a header is looked up in only one part of the table: the common commands, or all others.
 part_of_table : (c q : Bool) (left : List (List ℕ)) (command : CommandId) → SomeNames c q left command (common_commands ++ other_commands)
@@ -110,18 +116,18 @@ part_of_table : (c q : Bool) (left : List (List ℕ)) (command : CommandId) → 
 part_of_table true q left command h =
     elim (some_cases true q left command common_commands other_commands h) [
       | inl common ↦ common
-      | inr other ↦ absurd (only_common q left command other_commands others_other other)
+      | inr other ↦ absurd (common_header_fits_no_other q left command other_commands other_rows_arent_common other)
     ]
 part_of_table false q left command h =
     elim (some_cases false q left command common_commands other_commands h) [
-      | inl common ↦ absurd (not_common q left command common_commands common_common common)
+      | inl common ↦ absurd (plain_header_fits_no_common q left command common_commands common_rows_are_common common)
       | inr other ↦ other
     ]
 
 table_of_part : (c q : Bool) (left : List (List ℕ)) (command : CommandId) → SomeNames c q left command (rows_with c)
     → SomeNames c q left command (common_commands ++ other_commands)
-table_of_part true q left command h = some_left true q left command common_commands other_commands h
-table_of_part false q left command h = some_right false q left command common_commands other_commands h
+table_of_part true q left command h = some_of_first_rows true q left command common_commands other_commands h
+table_of_part false q left command h = some_of_second_rows false q left command common_commands other_commands h
 
 -- The code's value `sent` stands for this header, read relative to this path.
 pub record StandsFor (path : List (List ℕ)) (header : List ℕ) (sent : Sent) : Type 0 where
@@ -157,11 +163,11 @@ leads_from_resolves path header sent roots command s whole h =
     leads_from_names (length roots) c q c roots left command (subst (λ rows. SomeNames c q left command rows) (sym whole) by_part)
 
 -- So the walk finds the command that the header names, or the error is -113.
-pub resolved : (path : List (List ℕ)) (header : List ℕ) (sent : Sent) (roots : List Branch) (found : Option CommandId)
+pub walk_resolves : (path : List (List ℕ)) (header : List ℕ) (sent : Sent) (roots : List Branch) (found : Option CommandId)
     → StandsFor path header sent → tree_rows sent.common roots ≡ rows_with sent.common
     → IsFound found (λ command. Leads (length roots) sent.query roots (left_of sent.mnemonics) command)
     → MatchResult (ok_or found UndefinedHeader) (λ command. Resolves path header command)
     (λ code. (code ≡ UndefinedHeader) × ((command : CommandId) → Resolves path header command → ⊥))
-resolved path header sent roots (Some command) s whole h = resolves_from_leads path header sent roots command s whole h
-resolved path header sent roots None s whole h =
+walk_resolves path header sent roots (Some command) s whole h = resolves_from_leads path header sent roots command s whole h
+walk_resolves path header sent roots None s whole h =
     (refl, λ command r. h command (leads_from_resolves path header sent roots command s whole r))

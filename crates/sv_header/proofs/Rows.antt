@@ -18,16 +18,16 @@ SomeNames common query left command [] = ⊥
 SomeNames common query left command (row ∷ rows) = Names common query left command row ⊎ SomeNames common query left command rows
 
 -- A header fits a row of joined lists exactly if it fits a row of one of them.
-pub some_left : (c q : Bool) (left : List (List ℕ)) (command : CommandId) (rows more : List Row) → SomeNames c q left command rows
+pub some_of_first_rows : (c q : Bool) (left : List (List ℕ)) (command : CommandId) (rows more : List Row) → SomeNames c q left command rows
     → SomeNames c q left command (rows ++ more)
-some_left c q left command [] more h = absurd h
-some_left c q left command (row ∷ rows) more (inl h) = inl h
-some_left c q left command (row ∷ rows) more (inr h) = inr (some_left c q left command rows more h)
+some_of_first_rows c q left command [] more h = absurd h
+some_of_first_rows c q left command (row ∷ rows) more (inl h) = inl h
+some_of_first_rows c q left command (row ∷ rows) more (inr h) = inr (some_of_first_rows c q left command rows more h)
 
-pub some_right : (c q : Bool) (left : List (List ℕ)) (command : CommandId) (rows more : List Row) → SomeNames c q left command more
+pub some_of_second_rows : (c q : Bool) (left : List (List ℕ)) (command : CommandId) (rows more : List Row) → SomeNames c q left command more
     → SomeNames c q left command (rows ++ more)
-some_right c q left command [] more h = h
-some_right c q left command (row ∷ rows) more h = inr (some_right c q left command rows more h)
+some_of_second_rows c q left command [] more h = h
+some_of_second_rows c q left command (row ∷ rows) more h = inr (some_of_second_rows c q left command rows more h)
 
 pub some_cases : (c q : Bool) (left : List (List ℕ)) (command : CommandId) (rows more : List Row)
     → SomeNames c q left command (rows ++ more) → SomeNames c q left command rows ⊎ SomeNames c q left command more
@@ -54,21 +54,22 @@ contains_from_some c q left command (first ∷ rows) (inr h) =
 
 -- If a node takes the first mnemonic and the others fit a row, all fit the row with this node in
 -- front.
-pub some_there : (c q : Bool) (left others : List (List ℕ)) (part : Part) (command : CommandId) (rows : List Row) → Takes left part others
+pub some_if_node_taken : (c q : Bool) (left others : List (List ℕ)) (part : Part) (command : CommandId) (rows : List Row)
+    → Takes left part others
     → SomeNames c q others command rows → SomeNames c q left command (map (below part) rows)
-some_there c q [] others part command rows takes h = absurd takes
-some_there c q (first ∷ behind) others part command [] takes h = absurd h
-some_there c q (first ∷ behind) others part command (row ∷ rows) takes (inl h) =
+some_if_node_taken c q [] others part command rows takes h = absurd takes
+some_if_node_taken c q (first ∷ behind) others part command [] takes h = absurd h
+some_if_node_taken c q (first ∷ behind) others part command (row ∷ rows) takes (inl h) =
     inl (h.0, h.1, h.2, inl (takes.0, subst (λ rest. Fits rest row.parts) takes.1 h.3))
-some_there c q (first ∷ behind) others part command (row ∷ rows) takes (inr h) =
-    inr (some_there c q (first ∷ behind) others part command rows takes h)
+some_if_node_taken c q (first ∷ behind) others part command (row ∷ rows) takes (inr h) =
+    inr (some_if_node_taken c q (first ∷ behind) others part command rows takes h)
 
 -- Mnemonics that fit a row fit it with an optional node in front.
-pub some_absent : (c q : Bool) (left : List (List ℕ)) (part : Part) (command : CommandId) (rows : List Row) → part.optional ≡ true
+pub some_if_node_omitted : (c q : Bool) (left : List (List ℕ)) (part : Part) (command : CommandId) (rows : List Row) → part.optional ≡ true
     → SomeNames c q left command rows → SomeNames c q left command (map (below part) rows)
-some_absent c q left part command [] may h = absurd h
-some_absent c q left part command (row ∷ rows) may (inl h) = inl (h.0, h.1, h.2, inr (may, h.3))
-some_absent c q left part command (row ∷ rows) may (inr h) = inr (some_absent c q left part command rows may h)
+some_if_node_omitted c q left part command [] may h = absurd h
+some_if_node_omitted c q left part command (row ∷ rows) may (inl h) = inl (h.0, h.1, h.2, inr (may, h.3))
+some_if_node_omitted c q left part command (row ∷ rows) may (inr h) = inr (some_if_node_omitted c q left part command rows may h)
 
 -- The first node takes the first mnemonic, or it is optional and is omitted.
 fits_cases : (left : List (List ℕ)) (part : Part) (parts : List Part) → Fits left (part ∷ parts)
@@ -116,12 +117,12 @@ ends_ending_row c q d s left command (Some own) (inr h) = absurd h
 pub some_ending_rows : (c q : Bool) (branch : Branch) (rows : List Row) (left : List (List ℕ)) (command : CommandId)
     → Ends left (command_of q branch) command → SomeNames c q left command (ending_rows c branch ++ rows)
 some_ending_rows c false branch rows left command h =
-    some_left c false left command (ending_rows c branch) rows
-    (some_left c false left command (ending_row c false branch.plain) (ending_row c true branch.query)
+    some_of_first_rows c false left command (ending_rows c branch) rows
+    (some_of_first_rows c false left command (ending_row c false branch.plain) (ending_row c true branch.query)
     (some_ending_row c false left command branch.plain h))
 some_ending_rows c true branch rows left command h =
-    some_left c true left command (ending_rows c branch) rows
-    (some_right c true left command (ending_row c false branch.plain) (ending_row c true branch.query)
+    some_of_first_rows c true left command (ending_rows c branch) rows
+    (some_of_second_rows c true left command (ending_row c false branch.plain) (ending_row c true branch.query)
     (some_ending_row c true left command branch.query h))
 
 ends_ending_rows : (c q d : Bool) (branch : Branch) (left : List (List ℕ)) (command : CommandId)

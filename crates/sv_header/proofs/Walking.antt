@@ -9,18 +9,19 @@ use Rattle.sv_header.specs.Inside.Tree.{command_of, IsParted}
 use Rattle.sv_header.specs.Inside.Walk.{Takes, Ends, LeadsBelow, Leads, IsFound, OnLeft, IsBehind, IsAllOf}
 
 -- The nodes below the first sibling, and the later siblings, are each fewer than all nodes.
-pub parted_fewer : (branches : List Branch) (branch : Branch) (children siblings : List Branch) → IsParted branches branch children siblings
+pub parts_are_fewer : (branches : List Branch) (branch : Branch) (children siblings : List Branch)
+    → IsParted branches branch children siblings
     → (length children < length branches) × (length siblings < length branches)
-parted_fewer [] branch children siblings p = absurd p
-parted_fewer (first ∷ behind) branch children siblings p =
+parts_are_fewer [] branch children siblings p = absurd p
+parts_are_fewer (first ∷ behind) branch children siblings p =
     let front : length children ≡ length (take first.below behind) = ap length p.1 in
     let back : length siblings ≡ length (drop first.below behind) = ap length p.2 in
     (omega (arith, front, length-take first.below behind), omega (arith, back, length-drop first.below behind))
 
-one_takes : (left : List (List ℕ)) (part : Part) (first second : List (List ℕ)) → Takes left part first → Takes left part second
+takes_unique : (left : List (List ℕ)) (part : Part) (first second : List (List ℕ)) → Takes left part first → Takes left part second
     → first ≡ second
-one_takes [] part first second a b = absurd a
-one_takes (mnemonic ∷ behind) part first second a b = a.1 ∙ sym b.1
+takes_unique [] part first second a b = absurd a
+takes_unique (mnemonic ∷ behind) part first second a b = a.1 ∙ sym b.1
 
 -- The mnemonics that remain after a node lead to this command at the node or below it.
 abbrev LeadsFrom : ℕ → Bool → Branch → List Branch → List (List ℕ) → CommandId → Type 0
@@ -47,91 +48,99 @@ FoundBelow query branch children way found = (fuel : ℕ) → length children �
     → IsFound found (λ command. OnLeft way (λ left. LeadsFrom fuel query branch children left command))
 
 -- The walk found a command after the node took the first mnemonic.
-pub found_there : (query : Bool) (branches : List Branch) (branch : Branch) (children siblings : List Branch) (left : List (List ℕ))
+pub found_if_node_taken : (query : Bool) (branches : List Branch) (branch : Branch) (children siblings : List Branch) (left : List (List ℕ))
     (way : Option Mnemonics) (found : Option CommandId) → IsParted branches branch children siblings → IsBehind left (part branch.node) way
     → FoundBelow query branch children way found → is_some found ≡ true
     → (fuel : ℕ) → length branches ≤ fuel → IsFound found (λ command. Leads fuel query branches left command)
-found_there query [] branch children siblings left way found p w below some fuel le = absurd p
-found_there query (first ∷ behind) branch children siblings left way found p w below some zero le = absurd (omega arith)
-found_there query (first ∷ behind) branch children siblings left way None p w below some (suc fuel) le = absurd cc
-found_there query (first ∷ behind) branch children siblings left None (Some command) p w below some (suc fuel) le =
-    let fewer = parted_fewer (first ∷ behind) branch children siblings p in
+found_if_node_taken query [] branch children siblings left way found p w below some fuel le = absurd p
+found_if_node_taken query (first ∷ behind) branch children siblings left way found p w below some zero le = absurd (omega arith)
+found_if_node_taken query (first ∷ behind) branch children siblings left way None p w below some (suc fuel) le = absurd cc
+found_if_node_taken query (first ∷ behind) branch children siblings left None (Some command) p w below some (suc fuel) le =
+    let fewer = parts_are_fewer (first ∷ behind) branch children siblings p in
     absurd (below fuel (omega (arith, fewer.0)))
-found_there query (first ∷ behind) branch children siblings left (Some others) (Some command) p w below some (suc fuel) le =
-    let fewer = parted_fewer (first ∷ behind) branch children siblings p in
+found_if_node_taken query (first ∷ behind) branch children siblings left (Some others) (Some command) p w below some (suc fuel) le =
+    let fewer = parts_are_fewer (first ∷ behind) branch children siblings p in
     let takes = subst (λ place. Takes left (part place.node) (left_of others)) p.0 w in
     let on = to_first fuel query first behind branch children siblings p (left_of others) command (below fuel (omega (arith, fewer.0))) in
     inl (inl (left_of others, takes, on))
 
 -- The walk found a command after the optional node was omitted.
-pub found_absent : (query : Bool) (branches : List Branch) (branch : Branch) (children siblings : List Branch) (left : List (List ℕ))
+pub found_if_node_omitted : (query : Bool) (branches : List Branch) (branch : Branch) (children siblings : List Branch)
+    (left : List (List ℕ))
     (way : Option Mnemonics) (found : Option CommandId) → IsParted branches branch children siblings → IsAllOf left (part branch.node) way
     → FoundBelow query branch children way found → is_some found ≡ true
     → (fuel : ℕ) → length branches ≤ fuel → IsFound found (λ command. Leads fuel query branches left command)
-found_absent query [] branch children siblings left way found p w below some fuel le = absurd p
-found_absent query (first ∷ behind) branch children siblings left way found p w below some zero le = absurd (omega arith)
-found_absent query (first ∷ behind) branch children siblings left way None p w below some (suc fuel) le = absurd cc
-found_absent query (first ∷ behind) branch children siblings left None (Some command) p w below some (suc fuel) le =
-    let fewer = parted_fewer (first ∷ behind) branch children siblings p in
+found_if_node_omitted query [] branch children siblings left way found p w below some fuel le = absurd p
+found_if_node_omitted query (first ∷ behind) branch children siblings left way found p w below some zero le = absurd (omega arith)
+found_if_node_omitted query (first ∷ behind) branch children siblings left way None p w below some (suc fuel) le = absurd cc
+found_if_node_omitted query (first ∷ behind) branch children siblings left None (Some command) p w below some (suc fuel) le =
+    let fewer = parts_are_fewer (first ∷ behind) branch children siblings p in
     absurd (below fuel (omega (arith, fewer.0)))
-found_absent query (first ∷ behind) branch children siblings left (Some all) (Some command) p w below some (suc fuel) le =
-    let fewer = parted_fewer (first ∷ behind) branch children siblings p in
+found_if_node_omitted query (first ∷ behind) branch children siblings left (Some all) (Some command) p w below some (suc fuel) le =
+    let fewer = parts_are_fewer (first ∷ behind) branch children siblings p in
     let may : first.node.optional ≡ true = ap (λ place. place.node.optional) (sym p.0) ∙ w.0 in
     let on = to_first fuel query first behind branch children siblings p (left_of all) command (below fuel (omega (arith, fewer.0))) in
     inl (inr (may, subst (λ rest. LeadsFrom fuel query first (take first.below behind) rest command) w.1 on))
 
 -- No command is found at the first sibling or below it, nor at a later sibling. So none is found at
 -- all.
-nothing_here : (fuel : ℕ) (query : Bool) (first : Branch) (behind : List Branch) (branch : Branch) (children siblings : List Branch)
+none_found_at_siblings : (fuel : ℕ) (query : Bool) (first : Branch) (behind : List Branch) (branch : Branch)
+    (children siblings : List Branch)
     (left : List (List ℕ)) (there absent : Option Mnemonics) (command : CommandId)
     → IsParted (first ∷ behind) branch children siblings → IsBehind left (part branch.node) there → IsAllOf left (part branch.node) absent
     → (OnLeft there (λ rest. LeadsFrom fuel query branch children rest command) → ⊥)
     → (OnLeft absent (λ rest. LeadsFrom fuel query branch children rest command) → ⊥)
     → (Leads fuel query siblings left command → ⊥) → Leads (suc fuel) query (first ∷ behind) left command → ⊥
-nothing_here fuel query first behind branch children siblings left None absent command p w v a b c (inl (inl h)) =
+none_found_at_siblings fuel query first behind branch children siblings left None absent command p w v a b c (inl (inl h)) =
     w h.0 (subst (λ place. Takes left (part place.node) h.0) (sym p.0) h.1)
-nothing_here fuel query first behind branch children siblings left (Some others) absent command p w v a b c (inl (inl h)) =
+none_found_at_siblings fuel query first behind branch children siblings left (Some others) absent command p w v a b c (inl (inl h)) =
     let takes = subst (λ place. Takes left (part place.node) h.0) (sym p.0) h.1 in
-    let same : h.0 ≡ left_of others = one_takes left (part branch.node) h.0 (left_of others) takes w in
+    let same : h.0 ≡ left_of others = takes_unique left (part branch.node) h.0 (left_of others) takes w in
     let on = from_first fuel query first behind branch children siblings p h.0 command h.2 in
     a (subst (λ rest. LeadsFrom fuel query branch children rest command) same on)
-nothing_here fuel query first behind branch children siblings left there None command p w v a b c (inl (inr h)) =
+none_found_at_siblings fuel query first behind branch children siblings left there None command p w v a b c (inl (inr h)) =
     let may : branch.node.optional ≡ true = ap (λ place. place.node.optional) p.0 ∙ h.0 in
     let not_so : branch.node.optional ≡ false = v in
     let e : true ≡ false = sym may ∙ not_so in
     absurd cc
-nothing_here fuel query first behind branch children siblings left there (Some all) command p w v a b c (inl (inr h)) =
+none_found_at_siblings fuel query first behind branch children siblings left there (Some all) command p w v a b c (inl (inr h)) =
     let on = from_first fuel query first behind branch children siblings p left command h.1 in
     b (subst (λ rest. LeadsFrom fuel query branch children rest command) (sym v.1) on)
-nothing_here fuel query first behind branch children siblings left there absent command p w v a b c (inr h) =
+none_found_at_siblings fuel query first behind branch children siblings left there absent command p w v a b c (inr h) =
     c (subst (λ nodes. Leads fuel query nodes left command) (sym p.2) h)
 
 -- If no command is found at the first sibling or below it, the result is the one for the later
 -- siblings.
-pub found_behind : (query : Bool) (branches : List Branch) (branch : Branch) (children siblings : List Branch) (left : List (List ℕ))
+pub found_at_later_sibling : (query : Bool) (branches : List Branch) (branch : Branch) (children siblings : List Branch)
+    (left : List (List ℕ))
     (there absent : Option Mnemonics) (first second found : Option CommandId) → IsParted branches branch children siblings
     → IsBehind left (part branch.node) there → IsAllOf left (part branch.node) absent
     → FoundBelow query branch children there first → is_some first ≡ false
     → FoundBelow query branch children absent second → is_some second ≡ false
     → ((fuel : ℕ) → length siblings ≤ fuel → IsFound found (λ command. Leads fuel query siblings left command))
     → (fuel : ℕ) → length branches ≤ fuel → IsFound found (λ command. Leads fuel query branches left command)
-found_behind query [] branch children siblings left there absent first second found p w v a no_first b no_second c fuel le = absurd p
-found_behind query (node ∷ behind) branch children siblings left there absent first second found p w v a no_first b no_second c zero le =
+found_at_later_sibling query [] branch children siblings left there absent first second found p w v a no_first b no_second c fuel le =
+    absurd p
+found_at_later_sibling query (node ∷ behind) branch children siblings left there absent first second found p w v a no_first b no_second c
+    zero le =
     absurd (omega arith)
-found_behind query (node ∷ behind) branch children siblings left there absent (Some wrong) second found p w v a no_first b no_second c
+found_at_later_sibling query (node ∷ behind) branch children siblings left there absent (Some wrong) second found p w v a no_first b
+    no_second c
     (suc fuel) le = absurd cc
-found_behind query (node ∷ behind) branch children siblings left there absent None (Some wrong) found p w v a no_first b no_second c
+found_at_later_sibling query (node ∷ behind) branch children siblings left there absent None (Some wrong) found p w v a no_first b no_second
+    c
     (suc fuel) le = absurd cc
-found_behind query (node ∷ behind) branch children siblings left there absent None None (Some command) p w v a no_first b no_second c
+found_at_later_sibling query (node ∷ behind) branch children siblings left there absent None None (Some command) p w v a no_first b
+    no_second c
     (suc fuel) le =
-    let fewer = parted_fewer (node ∷ behind) branch children siblings p in
+    let fewer = parts_are_fewer (node ∷ behind) branch children siblings p in
     inr (subst (λ nodes. Leads fuel query nodes left command) p.2 (c fuel (omega (arith, fewer.1))))
-found_behind query (node ∷ behind) branch children siblings left there absent None None None p w v a no_first b no_second c
+found_at_later_sibling query (node ∷ behind) branch children siblings left there absent None None None p w v a no_first b no_second c
     (suc fuel) le =
-    let fewer = parted_fewer (node ∷ behind) branch children siblings p in
+    let fewer = parts_are_fewer (node ∷ behind) branch children siblings p in
     let few : length children ≤ fuel = omega (arith, fewer.0) in
     let few_behind : length siblings ≤ fuel = omega (arith, fewer.1) in
-    λ command h. nothing_here fuel query node behind branch children siblings left there absent command p w v (a fuel few command)
+    λ command h. none_found_at_siblings fuel query node behind branch children siblings left there absent command p w v (a fuel few command)
     (b fuel few command) (c fuel few_behind command) h
 
 -- If the node itself names no command for these mnemonics, the result is the one for the nodes

@@ -3,28 +3,28 @@ use Rattle.std.proofs.Common.{◌≡◌, ℕ, ◌+◌, ◌≤◌, min, Bool, tru
 use Rattle.sv_scan.specs.Condition.{bit}
 use Rattle.sv_layers.specs.Act.{Act, Polled}
 use Rattle.sv_layers.specs.Inside.Representation.{LayerState, AllRead, IsApplied, StandsFor as Layers, max_count}
-use Rattle.sv_layers.proofs.NothingAtPoll.{unraised}
+use Rattle.sv_layers.proofs.NothingAtPoll.{poll_raises_none}
 use Rattle.sv_instrument.specs.RequestCount.{Raise, Raises}
 use Rattle.sv_instrument.specs.Representation.{Kept, StandsFor}
 use Rattle.sv_instrument.specs.Inside.Acted.{Counts, IsCountable, Runs}
 
-pub raises_none : (log : List Act) → Raises log log 0
-raises_none log = record { acts = []; new_is = refl; count_is = refl }
+pub no_act_raises_none : (log : List Act) → Raises log log 0
+no_act_raises_none log = record { acts = []; new_is = refl; count_is = refl }
 
-pub runs_none : {kept : Kept} {log : List Act} → StandsFor kept log → Runs log kept log
-runs_none {kept} {log} s = record {
-  layers = record { stands = s.layers.stands; raised = 0; raises = raises_none log; count = s.layers.none };
+pub runs_at_start : {kept : Kept} {log : List Act} → StandsFor kept log → Runs log kept log
+runs_at_start {kept} {log} s = record {
+  layers = record { stands = s.layers.stands; raised = 0; raises = no_act_raises_none log; count = s.layers.none };
   held = s.held;
   path = s.path;
 }
 
 -- Saturating after each addend gives the same as saturating once at the end.
-still_most : (n more : ℕ) → min (min n max_count + more) max_count ≡ min (n + more) max_count
-still_most n more = grind arith
+saturated_sum : (n more : ℕ) → min (min n max_count + more) max_count ≡ min (n + more) max_count
+saturated_sum n more = grind arith
 
-pub counted : {start log : List Act} {before after : LayerState} {act : Act} → IsApplied before.requests after (act ∷ log)
+pub count_after_act : {start log : List Act} {before after : LayerState} {act : Act} → IsApplied before.requests after (act ∷ log)
     → Counts start before log → Counts start after (act ∷ log)
-counted {start} {log} {before} {after} {act} applied h = record {
+count_after_act {start} {log} {before} {after} {act} applied h = record {
   stands = applied.stands;
   raised = h.raised + bit 0 applied.raised;
   raises = record {
@@ -38,26 +38,26 @@ counted {start} {log} {before} {after} {act} applied h = record {
       refl,
     );
   };
-  count = applied.count ∙ ap (λ (n : ℕ). min (n + bit 0 applied.raised) max_count) h.count ∙ still_most h.raised (bit 0 applied.raised);
+  count = applied.count ∙ ap (λ (n : ℕ). min (n + bit 0 applied.raised) max_count) h.count ∙ saturated_sum h.raised (bit 0 applied.raised);
 }
 
 -- A call that adds an act to every log that the layers stand for also counts this act.
 pub counts : {start log : List Act} {before after : LayerState} {act : Act}
     → ((log : List Act) → Layers before log → IsApplied before.requests after (act ∷ log)) → Counts start before log
     → Counts start after (act ∷ log)
-counts {start} {log} applied h = counted (applied log h.stands) h
+counts {start} {log} applied h = count_after_act (applied log h.stands) h
 
 -- Each act raises at most one request for service.
-raise_few : (acts log : List Act) (n : ℕ) → Raise acts log n → n ≤ length acts
-raise_few [] log n none = omega arith
-raise_few (act ∷ acts) log n (true, before, up, others, is) = let few = raise_few acts log before others in omega arith
-raise_few (act ∷ acts) log n (false, before, up, others, is) = let few = raise_few acts log before others in omega arith
+raises_at_most_acts : (acts log : List Act) (n : ℕ) → Raise acts log n → n ≤ length acts
+raises_at_most_acts [] log n none = omega arith
+raises_at_most_acts (act ∷ acts) log n (true, before, up, others, is) = let few = raises_at_most_acts acts log before others in omega arith
+raises_at_most_acts (act ∷ acts) log n (false, before, up, others, is) = let few = raises_at_most_acts acts log before others in omega arith
 
 -- After at most 255 acts the counter, which saturates at 255, is exact.
 pub count_exact : {start log : List Act} {layers : LayerState} → Counts start layers log → IsCountable start log
     → Raises start log layers.requests
 count_exact {start} {log} {layers} h few =
-    let most = raise_few h.raises.acts start h.raised h.raises.count_is in
+    let most = raises_at_most_acts h.raises.acts start h.raised h.raises.count_is in
     let long = ap length h.raises.new_is ∙ length-append h.raises.acts start in
     let is = h.count in
     subst (λ (n : ℕ). Raises start log n) (grind arith) h.raises
@@ -66,10 +66,10 @@ none_raised : (raised : Bool) → (raised ≡ true → ⊥) → bit 0 raised ≡
 none_raised true never = absurd (never refl)
 none_raised false never = refl
 
-pub polled : {before after : LayerState} {log : List Act} → AllRead before log → IsApplied before.requests after (Polled ∷ log)
+pub poll_counts_none : {before after : LayerState} {log : List Act} → AllRead before log → IsApplied before.requests after (Polled ∷ log)
     → AllRead after (Polled ∷ log) × Raises log (Polled ∷ log) 0
-polled {before} {after} {log} h applied =
-    let zero = none_raised applied.raised (λ is. unraised log (applied.requests.0 is)) in
+poll_counts_none {before} {after} {log} h applied =
+    let zero = none_raised applied.raised (λ is. poll_raises_none log (applied.requests.0 is)) in
     let before_none = h.none in
     let count = applied.count in (
       record { stands = applied.stands; none = grind arith },

@@ -24,7 +24,9 @@ first_is unit (Some token) some =
 
 -- If the parameters are well-formed and not too many, the command and the first parameter determine
 -- the unit's order.
-pub asked_is : (command : CommandId) (unit : List ℕ) (first : Option Token) (outcome : Result Order Code) → parameters_fault unit ≡ None
+pub order_from_first_parameter : (command : CommandId) (unit : List ℕ) (first : Option Token) (outcome : Result Order Code)
+    → parameters_fault unit ≡ None
     → nat_lt (most_parameters command) (count unit) ≡ false → IsFirst unit first → outcome ≡ order_of command (parameter_of first)
     → outcome ≡ order_of_unit command unit
-asked_is command unit first outcome spelled counted is e = rw (spelled, counted) (e ∙ ap (order_of command) (first_is unit first is))
+order_from_first_parameter command unit first outcome spelled counted is e =
+    rw (spelled, counted) (e ∙ ap (order_of command) (first_is unit first is))

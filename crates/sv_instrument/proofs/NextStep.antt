@@ -26,8 +26,8 @@ pub step_of : (log new : List Act) (kept : Option Awaited) (next : Due) → kept
 step_of log new kept next is next_is step =
     subst (λ (d : Due). StepOf (held_unit log) d log new) next_is (subst (λ (h : Option Awaited). StepOf h next log new) is step)
 
-differ : false ≡ true → ⊥
-differ same = absurd cc
+false_isnt_true : false ≡ true → ⊥
+false_isnt_true same = absurd cc
 
 -- No step is due if no unit is held and nothing is due in message exchange.
 pub nothing_due : (log new : List Act) → None ≡ held_unit log → NothingDue ≡ due (exchange_acts log) → IsStep log new → ⊥
@@ -39,46 +39,46 @@ nothing_due log new free is step =
 pub none_while_busy : (log new : List Act) (awaited : Awaited) → Some awaited ≡ held_unit log → false ≡ is_idle log → IsStep log new → ⊥
 none_while_busy log new awaited is busy step =
     let ended = subst (λ (h : Option Awaited). StepOf h (due (exchange_acts log)) log new) (sym is) step in
-    differ (busy ∙ ended.0)
+    false_isnt_true (busy ∙ ended.0)
 
 -- `IsNoneDue` holds if no unit is held and nothing is due in message exchange.
-pub none_while_free : (log : List Act) → None ≡ held_unit log → NothingDue ≡ due (exchange_acts log) → IsNoneDue log
-none_while_free log free is step.Release (held, idle) =
-    differ (ap (λ (h : Option Awaited). is_held h) free ∙ held)
-none_while_free log free is step.Overrun (none, so) = absurd (let z : NothingDue ≡ OverrunDue = is ∙ so in cc)
-none_while_free log free is (step.Interrupt place unit) (none, so, more, placed) =
+pub none_due_if_nothing_due : (log : List Act) → None ≡ held_unit log → NothingDue ≡ due (exchange_acts log) → IsNoneDue log
+none_due_if_nothing_due log free is step.Release (held, idle) =
+    false_isnt_true (ap (λ (h : Option Awaited). is_held h) free ∙ held)
+none_due_if_nothing_due log free is step.Overrun (none, so) = absurd (let z : NothingDue ≡ OverrunDue = is ∙ so in cc)
+none_due_if_nothing_due log free is (step.Interrupt place unit) (none, so, more, placed) =
     absurd (let z : NothingDue ≡ InterruptDue = is ∙ so in cc)
-none_while_free log free is (step.Unit place unit) (none, so, more) = absurd (let z : NothingDue ≡ UnitDue unit.now = is ∙ so in cc)
-none_while_free log free is step.Finish (none, so) = absurd (let z : NothingDue ≡ FinishDue = is ∙ so in cc)
+none_due_if_nothing_due log free is (step.Unit place unit) (none, so, more) = absurd (let z : NothingDue ≡ UnitDue unit.now = is ∙ so in cc)
+none_due_if_nothing_due log free is step.Finish (none, so) = absurd (let z : NothingDue ≡ FinishDue = is ∙ so in cc)
 
 -- `IsNoneDue` holds while a unit is held and a measurement is under way.
 pub none_while_held : (log : List Act) (awaited : Awaited) → Some awaited ≡ held_unit log → false ≡ is_idle log → IsNoneDue log
-none_while_held log awaited is busy step.Release (held, idle) = differ (busy ∙ idle)
+none_while_held log awaited is busy step.Release (held, idle) = false_isnt_true (busy ∙ idle)
 none_while_held log awaited is busy step.Overrun (none, so) = absurd (let z : Some awaited ≡ None = is ∙ none in cc)
 none_while_held log awaited is busy (step.Interrupt place unit) (none, so, more, placed) =
     absurd (let z : Some awaited ≡ None = is ∙ none in cc)
 none_while_held log awaited is busy (step.Unit place unit) (none, so, placed) = absurd (let z : Some awaited ≡ None = is ∙ none in cc)
 none_while_held log awaited is busy step.Finish (none, so) = absurd (let z : Some awaited ≡ None = is ∙ none in cc)
 
-pub refused_none : {fault : Option Code} {code : Code} → fault ≡ Some code → fault ≡ None → ⊥
-refused_none {fault} {code} is none = absurd cc
+pub fault_isnt_none : {fault : Option Code} {code : Code} → fault ≡ Some code → fault ≡ None → ⊥
+fault_isnt_none {fault} {code} is none = absurd cc
 
 same_unit : (next : Option (List ℕ)) (unit text : List ℕ) → next ≡ Some unit → next ≡ Some text → unit ≡ text
 same_unit next unit text is same = cc
 
 -- The unit that is due is the next unit of the message, so the step that is due starts it.
-pub unit_step : (log new : List Act) (unit text : List ℕ) → None ≡ held_unit log → UnitDue text ≡ due (exchange_acts log)
+pub start_is_due_step : (log new : List Act) (unit text : List ℕ) → None ≡ held_unit log → UnitDue text ≡ due (exchange_acts log)
     → next_unit (exchange_acts log) ≡ Some unit → Starts unit log new → IsStep log new
-unit_step log new unit text free is next starts =
+start_is_due_step log new unit text free is next starts =
     step_of log new None (UnitDue text) free is
     (subst (λ (bytes : List ℕ). Starts bytes log new)
     (same_unit (next_unit (exchange_acts log)) unit text next (unit_is_next (exchange_acts log) text is)) starts)
 
 -- After a unit started, the state of the instrument stands for the log.
-pub started : (start log : List Act) (unit : List ℕ) (path : List (List ℕ)) (kept : Kept) → None ≡ held_unit log
+pub stands_after_start : (start log : List Act) (unit : List ℕ) (path : List (List ℕ)) (kept : Kept) → None ≡ held_unit log
     → next_unit (exchange_acts log) ≡ Some unit → IsPath log path
     → Behaves (Follows unit path kept.path log) start kept.layers kept.held log → StartsUnit start log kept
-started start log unit path kept free next here b =
+stands_after_start start log unit path kept free next here b =
     let read = b.makes in
     record {
       unit = unit;
@@ -94,11 +94,11 @@ started start log unit path kept free next here b =
 
 -- An immediate trigger ends the wait for a trigger, so the measure of the remaining steps
 -- decreases.
-pub fired_less : (new old : LayerState) (kept : Option Awaited) → new.exchange ≡ old.exchange → state_by old ≡ Waiting
+pub trigger_lowers_measure : (new old : LayerState) (kept : Option Awaited) → new.exchange ≡ old.exchange → state_by old ≡ Waiting
     → state_by new ≡ Scanning
     → 2 * (2 * exchange_measure new.exchange + one_if_unheld kept) + waits (state_by new)
     < 2 * (2 * exchange_measure old.exchange + one_if_unheld kept) + waits (state_by old)
-fired_less new old kept exchange waiting scanning =
+trigger_lowers_measure new old kept exchange waiting scanning =
     let work : exchange_measure new.exchange ≡ exchange_measure old.exchange = ap (λ (c : Contents). exchange_measure c) exchange in
     let before : waits (state_by old) ≡ 1 = ap waits waiting in
     let after : waits (state_by new) ≡ 0 = ap waits scanning in
@@ -106,15 +106,15 @@ fired_less new old kept exchange waiting scanning =
 
 -- A read takes no bytes from an empty response. So it changes nothing while a unit is held, since a
 -- unit is due only if there is no response.
-shown_nothing : (bytes : List ℕ) (count : ℕ) → is_something bytes ≡ false → count ≤ length bytes → count ≡ 0
-shown_nothing [] count nothing within = omega (arith, within)
-shown_nothing (b ∷ bytes) count nothing within = absurd cc
+empty_read_takes_none : (bytes : List ℕ) (count : ℕ) → is_something bytes ≡ false → count ≤ length bytes → count ≡ 0
+empty_read_takes_none [] count nothing within = omega (arith, within)
+empty_read_takes_none (b ∷ bytes) count nothing within = absurd cc
 
-pub take_right : (kept : Option Awaited) (old new : LayerState) (count : ℕ) → IsHeldRight kept old
+pub read_keeps_held_unit : (kept : Option Awaited) (old new : LayerState) (count : ℕ) → IsHeldRight kept old
     → count ≤ length (shown_by old.exchange) → new.exchange ≡ record old.exchange { output = drop count old.exchange.output }
     → IsHeldRight kept new
-take_right None old new count right within value = tt
-take_right (Some awaited) old new count right within value =
-    let none = shown_nothing (shown_by old.exchange) count (unit_due_state old.exchange right).no_response within in
+read_keeps_held_unit None old new count right within value = tt
+read_keeps_held_unit (Some awaited) old new count right within value =
+    let none = empty_read_takes_none (shown_by old.exchange) count (unit_due_state old.exchange right).no_response within in
     let same : new.exchange ≡ old.exchange = value ∙ ap (λ (n : ℕ). record old.exchange { output = drop n old.exchange.output }) none in
     subst (λ (contents : Contents). IsUnitDue (next_of contents)) (sym same) right

@@ -19,9 +19,9 @@ use Rattle.sv_instrument.specs.Path.{IsPath, Leaves, units_begun, one_if_held}
 use Rattle.sv_instrument.specs.Representation.{Kept, StandsFor, IsHeldRight}
 use Rattle.sv_instrument.specs.Inside.Acted.{BeginsOne}
 
-same_root : (n : ℕ) (us vs : List (List ℕ)) (path : List (List ℕ)) → n ≡ 0 → Leaves (reverse (take n us)) path
+root_if_none_begun : (n : ℕ) (us vs : List (List ℕ)) (path : List (List ℕ)) → n ≡ 0 → Leaves (reverse (take n us)) path
     → Leaves (reverse (take n vs)) path
-same_root n us vs path e =
+root_if_none_begun n us vs path e =
     subst (λ (m : ℕ). Leaves (reverse (take m us)) path → Leaves (reverse (take m vs)) path) (sym e) (λ p. p)
 
 -- No unit of a message is done before the message has ended.
@@ -36,10 +36,10 @@ none_held (Some awaited) layers right unended =
     let z : true ≡ false = sym (unit_due_state layers.exchange right).ended ∙ unended in absurd cc
 
 -- So no unit of a message begins before the message has ended.
-pub none_begun : (kept : Kept) (log : List Act) → StandsFor kept log → IsHeldRight kept.held kept.layers
+pub none_begun_before_end : (kept : Kept) (log : List Act) → StandsFor kept log → IsHeldRight kept.held kept.layers
     → IsTrue (is_open kept.layers.exchange)
     → units_begun log ≡ 0
-none_begun kept log s right open_now =
+none_begun_before_end kept log s right open_now =
     let unended = not_true kept.layers.exchange.ended open_now in
     let joined = s.layers.stands.joined in
     let exchange = subst (λ (acts : List ExchangeAct). Exchanges kept.layers.exchange acts) (projected log).0 joined.exchange in
@@ -51,7 +51,7 @@ none_begun kept log s right open_now =
 pub accepted_path : (kept : Kept) (log : List Act) (bytes : List ℕ) (ended : Bool) → StandsFor kept log → IsHeldRight kept.held kept.layers
     → IsTrue (is_open kept.layers.exchange) → IsPath (Exchanged (Accepted bytes ended) ∷ log) kept.path
 accepted_path kept log bytes ended s right open_now =
-    same_root (units_begun log) _ _ kept.path (none_begun kept log s right open_now) s.path
+    root_if_none_begun (units_begun log) _ _ kept.path (none_begun_before_end kept log s right open_now) s.path
 
 -- After a message is finished, the path is the root.
 pub finished_path : (log : List Act) → None ≡ held_unit log → IsPath (Exchanged Finished ∷ log) []
@@ -59,18 +59,19 @@ finished_path log free =
     let none : units_begun (Exchanged Finished ∷ log) ≡ 0 = ap (λ (n : ℕ). 0 + n) (ap one_if_held (sym free)) in
     subst (λ (n : ℕ). Leaves (reverse (take n (units (message (exchange_acts (Exchanged Finished ∷ log)))))) []) (sym none) refl
 
-taken_more : (us : List (List ℕ)) (n : ℕ) (unit : List ℕ) → slice_get us n ≡ Some unit → take (suc n) us ≡ take n us ++ unit ∷ []
-taken_more [] n unit is = absurd cc
-taken_more (u ∷ us) zero unit is = cc
-taken_more (u ∷ us) (suc n) unit is = ap (λ (vs : List (List ℕ)). u ∷ vs) (taken_more us n unit is)
+take_one_more : (us : List (List ℕ)) (n : ℕ) (unit : List ℕ) → slice_get us n ≡ Some unit → take (suc n) us ≡ take n us ++ unit ∷ []
+take_one_more [] n unit is = absurd cc
+take_one_more (u ∷ us) zero unit is = cc
+take_one_more (u ∷ us) (suc n) unit is = ap (λ (vs : List (List ℕ)). u ∷ vs) (take_one_more us n unit is)
 
-one_more : (us : List (List ℕ)) (n : ℕ) (unit : List ℕ) → slice_get us n ≡ Some unit
+reverse_take_one_more : (us : List (List ℕ)) (n : ℕ) (unit : List ℕ) → slice_get us n ≡ Some unit
     → reverse (take (suc n) us) ≡ unit ∷ reverse (take n us)
-one_more us n unit is = ap (λ (vs : List (List ℕ)). reverse vs) (taken_more us n unit is) ∙ reverse-append (take n us) (unit ∷ [])
+reverse_take_one_more us n unit is = ap (λ (vs : List (List ℕ)). reverse vs) (take_one_more us n unit is)
+    ∙ reverse-append (take n us) (unit ∷ [])
 
-of_cond : (b : Bool) (next : Option (List ℕ)) (unit : List ℕ) → cond b next None ≡ Some unit → next ≡ Some unit
-of_cond true next unit is = is
-of_cond false next unit is = absurd cc
+some_from_cond : (b : Bool) (next : Option (List ℕ)) (unit : List ℕ) → cond b next None ≡ Some unit → next ≡ Some unit
+some_from_cond true next unit is = is
+some_from_cond false next unit is = absurd cc
 
 -- After a unit starts, the path is the one that reading the unit leaves.
 pub started_path : (log new : List Act) (unit : List ℕ) (front behind : List (List ℕ)) (outcome : Result Order Code) → None ≡ held_unit log
@@ -81,10 +82,10 @@ started_path log new unit front behind outcome free begins next before read =
     let us = units (message (exchange_acts log)) in
     let none : units_begun log ≡ n = ap (λ (k : ℕ). n + k) (ap one_if_held (sym free)) ∙ omega arith in
     let more : units_begun new ≡ suc n = begins.begun ∙ omega arith in
-    let here : slice_get us n ≡ Some unit = of_cond _ _ unit next in
+    let here : slice_get us n ≡ Some unit = some_from_cond _ _ unit next in
     let are : reverse (take (units_begun new) (units (message (exchange_acts new)))) ≡ unit ∷ reverse (take n us) =
     ap (λ (k : ℕ). reverse (take k (units (message (exchange_acts new))))) more
-    ∙ ap (λ (text : List ℕ). reverse (take (suc n) (units text))) begins.message ∙ one_more us n unit here in
+    ∙ ap (λ (text : List ℕ). reverse (take (suc n) (units text))) begins.message ∙ reverse_take_one_more us n unit here in
     let all = subst (λ (k : ℕ). Leaves (reverse (take k us)) front) none before in
     subst (λ (list : List (List ℕ)). Leaves list behind) (sym are) (front, outcome, all, read)
 

@@ -26,9 +26,9 @@ change_apart (changes.Scan act) log = refl
 change_apart _ log = refl
 
 -- A query that removes an error or clears a register adds no act of message exchange by this.
-pub taken_apart : (asked : Question) (log : List Act) → IsApart log (after_query asked log)
-taken_apart question.Identification log = refl
-taken_apart _ log = refl
+pub query_is_apart : (asked : Question) (log : List Act) → IsApart log (after_query asked log)
+query_is_apart question.Identification log = refl
+query_is_apart _ log = refl
 
 pub configured_apart : (list : Option (List ℕ)) (log : List Act) → IsApart log (after_configure list log)
 configured_apart None log = refl
@@ -55,21 +55,21 @@ held_begins : (awaited : Awaited) (log : List Act) → BeginsOne log (Held await
 held_begins awaited log = record { message = refl; begun = refl }
 
 -- The log after an answer, which is added or, if it doesn't fit, dropped with error -430.
-abbrev told : Bool → List ℕ → List Act → List Act
-told fits text log = if fits then Exchanged (Answered text) ∷ log else Reported QueryDeadlocked ∷ Exchanged AnswersDropped ∷ log
+abbrev log_after_answer : Bool → List ℕ → List Act → List Act
+log_after_answer fits text log = if fits then Exchanged (Answered text) ∷ log else Reported QueryDeadlocked ∷ Exchanged AnswersDropped ∷ log
 
-pub counts_told : {start : List Act} {layers : LayerState} (fits : Bool) (text : List ℕ) (log : List Act)
-    → fits ≡ fits_response (answers (exchange_acts log)) text → Counts start layers (told fits text log)
+pub counts_after_answer : {start : List Act} {layers : LayerState} (fits : Bool) (text : List ℕ) (log : List Act)
+    → fits ≡ fits_response (answers (exchange_acts log)) text → Counts start layers (log_after_answer fits text log)
     → Counts start layers (after_answering text log)
-counts_told {start} {layers} fits text log same = subst (λ (b : Bool). Counts start layers (told b text log)) same
+counts_after_answer {start} {layers} fits text log same = subst (λ (b : Bool). Counts start layers (log_after_answer b text log)) same
 
-told_begins : (fits : Bool) (text : List ℕ) (log : List Act) → BeginsOne log (told fits text (done log))
-told_begins true text log = record { message = refl; begun = omega arith }
-told_begins false text log = record { message = refl; begun = omega arith }
+answer_begins_one : (fits : Bool) (text : List ℕ) (log : List Act) → BeginsOne log (log_after_answer fits text (done log))
+answer_begins_one true text log = record { message = refl; begun = omega arith }
+answer_begins_one false text log = record { message = refl; begun = omega arith }
 
-told_held : (fits : Bool) (text : List ℕ) (log : List Act) → None ≡ held_unit (told fits text (done log))
-told_held true text log = refl
-told_held false text log = refl
+answer_leaves_none_held : (fits : Bool) (text : List ℕ) (log : List Act) → None ≡ held_unit (log_after_answer fits text (done log))
+answer_leaves_none_held true text log = refl
+answer_leaves_none_held false text log = refl
 
 pub behaves_done : (start log : List Act) (layers : LayerState) → Counts start layers (done log)
     → Behaves (λ new. new ≡ done log) start layers None log
@@ -89,8 +89,8 @@ behaves_answered start log text layers counts =
       new = after_answering text (done log);
       makes = refl;
       counts = counts;
-      held = told_held fits text log;
-      begins = told_begins fits text log;
+      held = answer_leaves_none_held fits text log;
+      begins = answer_begins_one fits text log;
     }
 
 pub behaves_unless : {start : List Act} {layers : LayerState} {awaited : Option Awaited} {fault given : Option Code} {log : List Act}
@@ -119,7 +119,7 @@ pub behaves_follows : {start : List Act} {layers : LayerState} {awaited : Option
 behaves_follows unit front behind outcome log read b =
     record { new = b.new; makes = (outcome, read, b.makes); counts = b.counts; held = b.held; begins = b.begins }
 
-pub behaves_made : {start log made wanted : List Act} {layers : LayerState} {awaited : Option Awaited} → made ≡ wanted
+pub behaves_if_equal_log : {start log made wanted : List Act} {layers : LayerState} {awaited : Option Awaited} → made ≡ wanted
     → Behaves (λ new. new ≡ made) start layers awaited log → Behaves (λ new. new ≡ wanted) start layers awaited log
-behaves_made {start} {log} {made} {wanted} {layers} {awaited} =
+behaves_if_equal_log {start} {log} {made} {wanted} {layers} {awaited} =
     subst (λ (acts : List Act). Behaves (λ new. new ≡ acts) start layers awaited log)

@@ -19,5 +19,5 @@ pub number_printed : (number wide : ℕ) (before text : List ℕ) → before ≡
     → text ≡ decimal number
 number_printed number wide before text empty same is = is ∙ ap (λ (front : List ℕ). front ++ decimal wide) empty ∙ ap decimal same
 
-pub alone : {before piece text : List ℕ} → before ≡ [] → text ≡ before ++ piece → text ≡ piece
-alone {before} {piece} {text} empty is = is ∙ ap (λ (front : List ℕ). front ++ piece) empty
+pub append_to_empty : {before piece text : List ℕ} → before ≡ [] → text ≡ before ++ piece → text ≡ piece
+append_to_empty {before} {piece} {text} empty is = is ∙ ap (λ (front : List ℕ). front ++ piece) empty

@@ -21,7 +21,7 @@ use Rattle.sv_layers.specs.Filter.{rise, fall, enable, has_bit, passes, leaves}
 use Rattle.sv_layers.specs.Event.{EventStands}
 use Rattle.sv_layers.specs.Standard.{IsAsked, cancels, IsPending, Waits, Completes, Occurs, NotCleared, Stands}
 use Rattle.sv_layers.specs.StatusByte.{SummaryBit, ServiceRequested, Master, Reason, Lasts, Request}
-use Rattle.sv_layers.proofs.Transitions.{has_is, no_change}
+use Rattle.sv_layers.proofs.Transitions.{has_bit_is_one, unchanged_bit_passes_none}
 use Rattle.sv_layers.proofs.Bits.{top_bit}
 use Rattle.sv_scan.specs.Scan.{last_reading}
 use Rattle.sv_scan.specs.Condition.{bit, is_overload}
@@ -40,7 +40,7 @@ any_same f g same (k ∷ ks) = rw (same k, any_same f g same ks) refl
 bit_passes_none : (condition : List Act → ℕ) (name : RegisterName) (k : ℕ) (act : Act) (log : List Act)
     → has_bit (condition (act ∷ log)) k ≡ has_bit (condition log) k → passes condition name k (act ∷ log) ≡ false
 bit_passes_none condition name k act log same =
-    rw same (no_change (has_bit (condition log) k) (has_bit (rise name log) k) (has_bit (fall name log) k))
+    rw same (unchanged_bit_passes_none (has_bit (condition log) k) (has_bit (rise name log) k) (has_bit (fall name log) k))
 
 same_condition_passes_none : (condition : List Act → ℕ) (name : RegisterName) (k : ℕ) (act : Act) (log : List Act)
     → condition (act ∷ log) ≡ condition log → passes condition name k (act ∷ log) ≡ false
@@ -95,8 +95,8 @@ bool_by_iff false false same = refl
 
 has_alike : (a b w k : ℕ) → (bit_at a k ≡ 1) ↔ (bit_at w k ≡ 1) → (bit_at b k ≡ 1) ↔ (bit_at w k ≡ 1) → has_bit a k ≡ has_bit b k
 has_alike a b w k one two = bool_by_iff (has_bit a k) (has_bit b k) (
-  (λ h. (has_is b k).1 (two.1 (one.0 ((has_is a k).0 h)))),
-  (λ h. (has_is a k).1 (one.1 (two.0 ((has_is b k).0 h)))),
+  (λ h. (has_bit_is_one b k).1 (two.1 (one.0 ((has_bit_is_one a k).0 h)))),
+  (λ h. (has_bit_is_one a k).1 (one.1 (two.0 ((has_bit_is_one b k).0 h)))),
 )
 
 questionable_same : (k : ℕ) (log : List Act) → k ≢ 9

@@ -6,9 +6,9 @@ use Rattle.sv_layers.specs.Act.{Act, Exchanged}
 use Rattle.sv_layers.specs.Inside.LayerLogs.{layer_logs}
 use Rattle.sv_layers.specs.Inside.Representation.{LayerState, StandsFor, Begun}
 
-pub exchange_acted : {log : List Act} {layered : LayerState} {new : Contents} {act : ExchangeAct} → StandsFor layered log
+pub exchange_act_begun : {log : List Act} {layered : LayerState} {new : Contents} {act : ExchangeAct} → StandsFor layered log
     → Exchanges new (act ∷ (layer_logs log).exchange) → Begun (record layered { exchange = new }) (Exchanged act) log
-exchange_acted h stands = record {
+exchange_act_begun h stands = record {
   status_log = h.status_log;
   are = h.are;
   joined = record {

@@ -5,7 +5,7 @@ use Rattle.std.specs.Int.{bit_at}
 use Rattle.std.proofs.lemmas.Bool.{cases_eq, cases_lt}
 use Rattle.std.proofs.lemmas.Nat.Bits.{bit_at-pow_same, bit_at-pow_other, bit_at-zero, bit_at_above, bit_at_cat_low, bit_at_cat_high}
 use Rattle.sv_scan.specs.Condition.{bit}
-use Rattle.sv_layers.proofs.Either.{unchanged, either_same}
+use Rattle.sv_layers.proofs.Either.{iff_refl, either_congruent}
 
 pub bit_of : (place : ℕ) (b : Bool) (k : ℕ) → (bit_at (bit place b) k ≡ 1) ↔ ((k ≡ place) × (b ≡ true))
 bit_of place true k = (
@@ -45,6 +45,6 @@ above_word place w k fits =
 
 pub top_bit : (place : ℕ) (b : Bool) (w k : ℕ) → w < 2 ^ place
     → (bit_at (bit place b + w) k ≡ 1) ↔ (((k ≡ place) × (b ≡ true)) ⊎ (bit_at w k ≡ 1))
-top_bit place true w k fits = either_same (above_word place w k fits) ((λ e. (e, refl)), (λ h. h.0)) unchanged
+top_bit place true w k fits = either_congruent (above_word place w k fits) ((λ e. (e, refl)), (λ h. h.0)) iff_refl
 top_bit place false w k fits =
     rw (zero-add w) ((λ h. inr h), (λ h. elim h [ inl e ↦ absurd (let none = e.1 in cc) | inr other ↦ other ]))

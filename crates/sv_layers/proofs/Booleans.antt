@@ -12,17 +12,17 @@ same_bool true false p q = sym (q.1 (p.0 refl))
 same_bool false true p q = p.1 (q.0 refl)
 same_bool false false p q = refl
 
-pub bit_is : (k : ℕ) (b : Bool) → cond b (2 ^ k) 0 ≡ bit k b
-bit_is k true = refl
-bit_is k false = refl
+pub cond_is_bit : (k : ℕ) (b : Bool) → cond b (2 ^ k) 0 ≡ bit k b
+cond_is_bit k true = refl
+cond_is_bit k false = refl
 
-pub byte_is : (b : Bool) → from_bool b ≡ bit 0 b
-byte_is true = refl
-byte_is false = refl
+pub from_bool_is_bit : (b : Bool) → from_bool b ≡ bit 0 b
+from_bool_is_bit true = refl
+from_bool_is_bit false = refl
 
-pub any_is : (places : List ℕ) → nat_lt 0 (length places) ≡ is_something places
-any_is [] = refl
-any_is (place ∷ places) = lt-ltb 0 (suc (length places)) (omega arith)
+pub nonempty_by_length : (places : List ℕ) → nat_lt 0 (length places) ≡ is_something places
+nonempty_by_length [] = refl
+nonempty_by_length (place ∷ places) = lt-ltb 0 (suc (length places)) (omega arith)
 
 pub and_both : (a b : Bool) → ((a && b) ≡ true) ↔ ((b ≡ true) × (a ≡ true))
 and_both a true = ((λ h. (refl, (and_parts a true h).0)), (λ h. and_from a true h.1 refl))

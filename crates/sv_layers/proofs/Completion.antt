@@ -11,7 +11,7 @@ use Rattle.sv_layers.specs.Condition.{is_idle}
 use Rattle.sv_layers.specs.Standard.{IsAsked, IsPending, Completes, cancels}
 use Rattle.sv_layers.specs.Inside.LayerLogs.{LayerLogs, after_begin, resets, idles, layer_logs}
 use Rattle.sv_layers.specs.Laws.{SameWaiting, SameCompletion}
-use Rattle.sv_layers.proofs.Either.{unchanged}
+use Rattle.sv_layers.proofs.Either.{iff_refl}
 use Rattle.sv_layers.proofs.Booleans.{and_both, and_not}
 use Rattle.sv_layers.proofs.Projected.{begun_scanner}
 
@@ -29,7 +29,7 @@ begun_waits Purged log at = (step_ended (λ e. absurd cc) (λ e. absurd cc), λ 
 begun_waits (Scanned act) log at = (scanned_waits act log at.waits, λ asked. absurd asked)
 begun_waits Cleared log at = (step_ended (λ e. absurd cc) (λ e. absurd cc), λ asked. absurd asked)
 begun_waits OpcAsked log at = (step_kept refl ((λ e. inl tt), (λ h. refl)), λ asked. refl)
-begun_waits _ log at = (step_same refl (λ none. none) unchanged, λ asked. refl)
+begun_waits _ log at = (step_same refl (λ none. none) iff_refl, λ asked. refl)
 
 -- The first part of an act decides whether a measurement is under way after the act.
 begun_idle : (act : Act) (log : List Act) → idles (after_begin act (layer_logs log)) ≡ is_idle (act ∷ log)

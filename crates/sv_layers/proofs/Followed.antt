@@ -20,12 +20,12 @@ use Rattle.sv_layers.specs.Filter.{start}
 use Rattle.sv_layers.specs.Condition.{effective_acts, condition}
 use Rattle.sv_layers.specs.Inside.LayerLogs.{own, after_begin, register_acts, layer_logs}
 use Rattle.sv_layers.proofs.Projected.{begun_scanner, begun_register}
-use Rattle.sv_layers.proofs.Registered.{seen_register}
+use Rattle.sv_layers.proofs.Registered.{register_acts_after_act}
 
 -- An update with the present condition changes nothing in a register.
-pub stands_told : (start : ℕ) (latches : Latches) (acts : List RegisterAct) (word : ℕ) → word ≡ register.condition acts
+pub same_condition_is_kept : (start : ℕ) (latches : Latches) (acts : List RegisterAct) (word : ℕ) → word ≡ register.condition acts
     → StandsFor start latches acts → StandsFor start latches (Condition word ∷ acts)
-stands_told start latches acts word same is = record {
+same_condition_is_kept start latches acts word same is = record {
   begins = is.begins;
   condition = is.condition ∙ sym same;
   rise = is.rise;
@@ -35,23 +35,23 @@ stands_told start latches acts word same is = record {
 }
 
 -- Each condition word of the scanner that isn't touched is unchanged.
-abbrev pub Leaves : Touched → List ScanAct → List ScanAct → Type 0
-Leaves touched after before = (touched.operation ≡ false → scan.operation after ≡ scan.operation before)
+abbrev pub KeepsUntouched : Touched → List ScanAct → List ScanAct → Type 0
+KeepsUntouched touched after before = (touched.operation ≡ false → scan.operation after ≡ scan.operation before)
     × (touched.questionable ≡ false → scan.questionable after ≡ scan.questionable before)
     × (touched.limit ≡ false → scan.limit after ≡ scan.limit before)
 
-scanned_leaves : (touched : Touched) (act : ScanAct) (acts : List ScanAct) → IsTouched touched (effective (act ∷ acts))
-    → Leaves touched (effective (act ∷ acts)) (effective acts)
-scanned_leaves touched act acts = cond_both (counts (effective acts) act) (act ∷ effective acts) (effective acts)
-    (λ (log : List ScanAct). IsTouched touched log → Leaves touched log (effective acts))
+untouched_words_kept_by_scan : (touched : Touched) (act : ScanAct) (acts : List ScanAct) → IsTouched touched (effective (act ∷ acts))
+    → KeepsUntouched touched (effective (act ∷ acts)) (effective acts)
+untouched_words_kept_by_scan touched act acts = cond_both (counts (effective acts) act) (act ∷ effective acts) (effective acts)
+    (λ (log : List ScanAct). IsTouched touched log → KeepsUntouched touched log (effective acts))
     (λ e is. is)
     (λ e is. ((λ no. refl), (λ no. refl), (λ no. refl)))
 
-pub counted_leaves : (touched : Touched) (act : Act) (log : List Act) → IsTouched touched (effective_acts (act ∷ log))
-    → Leaves touched (effective_acts (act ∷ log)) (effective_acts log)
-counted_leaves touched (Scanned act) log is = scanned_leaves touched act (scan_acts log) is
-counted_leaves touched (Exchanged act) log is = ((λ no. refl), (λ no. refl), (λ no. refl))
-counted_leaves touched _ log is = ((λ no. refl), (λ no. refl), (λ no. refl))
+pub untouched_words_kept : (touched : Touched) (act : Act) (log : List Act) → IsTouched touched (effective_acts (act ∷ log))
+    → KeepsUntouched touched (effective_acts (act ∷ log)) (effective_acts log)
+untouched_words_kept touched (Scanned act) log is = untouched_words_kept_by_scan touched act (scan_acts log) is
+untouched_words_kept touched (Exchanged act) log is = ((λ no. refl), (λ no. refl), (λ no. refl))
+untouched_words_kept touched _ log is = ((λ no. refl), (λ no. refl), (λ no. refl))
 
 -- After the first part of an act the scanner stands for its new log, and each register for its old
 -- log.
@@ -66,25 +66,25 @@ begun_stands name act log latches = subst (λ (acts : List RegisterAct). StandsF
 
 -- A register that got its new condition, and then the direct effect of an act that changes
 -- registers as this act does, stands for its log after this act.
-pub ended_stands : (name : RegisterName) (other act : Act) (log : List Act) (latches : Latches) (word : ℕ)
+pub stands_after_direct_effect : (name : RegisterName) (other act : Act) (log : List Act) (latches : Latches) (word : ℕ)
     → word ≡ condition name (act ∷ log)
     → ((acts : List RegisterAct) → own name other acts ≡ own name act acts)
     → StandsFor (start name) latches (own name other (Condition word ∷ register_acts name (layer_logs log)))
     → StandsFor (start name) latches (register_acts name (layer_logs (act ∷ log)))
-ended_stands name other act log latches word told same =
+stands_after_direct_effect name other act log latches word told same =
     subst (λ (acts : List RegisterAct). StandsFor (start name) latches acts)
     (same (Condition word ∷ register_acts name (layer_logs log))
-    ∙ ap (λ (w : ℕ). own name act (Condition w ∷ register_acts name (layer_logs log))) told ∙ sym (seen_register name act log))
+    ∙ ap (λ (w : ℕ). own name act (Condition w ∷ register_acts name (layer_logs log))) told ∙ sym (register_acts_after_act name act log))
 
 -- Bits 0 and 9 don't overlap, so `or` adds them.
-or_is : (low high : Bool) → bit_or (scan.bit 0 low) (scan.bit 9 high) ≡ scan.bit 0 low + scan.bit 9 high
-or_is true true = refl
-or_is true false = refl
-or_is false true = refl
-or_is false false = refl
+or_of_disjoint_bits : (low high : Bool) → bit_or (scan.bit 0 low) (scan.bit 9 high) ≡ scan.bit 0 low + scan.bit 9 high
+or_of_disjoint_bits true true = refl
+or_of_disjoint_bits true false = refl
+or_of_disjoint_bits false true = refl
+or_of_disjoint_bits false false = refl
 
 pub questionable_is : (low high : ℕ) (acts : List ScanAct) (summary : Bool) → low ≡ scan.questionable acts → high ≡ scan.bit 9 summary
     → bit_or low high ≡ scan.questionable acts + scan.bit 9 summary
 questionable_is low high acts summary first second =
     ap (λ (w : ℕ). bit_or w high) first ∙ ap (λ (w : ℕ). bit_or (scan.questionable acts) w) second
-    ∙ or_is (scan.is_overload (last_reading acts)) summary
+    ∙ or_of_disjoint_bits (scan.is_overload (last_reading acts)) summary

@@ -10,11 +10,11 @@ use Rattle.sv_layers.specs.Act.{Act, exchange_acts, queue_acts, scan_acts}
 use Rattle.sv_layers.specs.Inside.Representation.{LayerState, StandsFor}
 use Rattle.sv_layers.proofs.Projected.{projected}
 
-pub lent_exchange : (layered : LayerState) (log : List Act) → StandsFor layered log → Exchanges layered.exchange (exchange_acts log)
-lent_exchange layered log s = subst (λ (acts : List ExchangeAct). Exchanges layered.exchange acts) (projected log).0 s.joined.exchange
+pub exchange_stands : (layered : LayerState) (log : List Act) → StandsFor layered log → Exchanges layered.exchange (exchange_acts log)
+exchange_stands layered log s = subst (λ (acts : List ExchangeAct). Exchanges layered.exchange acts) (projected log).0 s.joined.exchange
 
-pub lent_errors : (layered : LayerState) (log : List Act) → StandsFor layered log → Queues layered.errors (queue_acts log)
-lent_errors layered log s = subst (λ (acts : List QueueAct). Queues layered.errors acts) (projected log).1 s.joined.errors
+pub errors_stand : (layered : LayerState) (log : List Act) → StandsFor layered log → Queues layered.errors (queue_acts log)
+errors_stand layered log s = subst (λ (acts : List QueueAct). Queues layered.errors acts) (projected log).1 s.joined.errors
 
-pub lent_scanner : (layered : LayerState) (log : List Act) → StandsFor layered log → Scans layered.scanner (scan_acts log)
-lent_scanner layered log s = subst (λ (acts : List ScanAct). Scans layered.scanner acts) (projected log).2 s.joined.scanner
+pub scanner_stands : (layered : LayerState) (log : List Act) → StandsFor layered log → Scans layered.scanner (scan_acts log)
+scanner_stands layered log s = subst (λ (acts : List ScanAct). Scans layered.scanner acts) (projected log).2 s.joined.scanner

@@ -20,13 +20,13 @@ use Rattle.sv_layers.specs.Filter.{is_same, enable, has_bit, passes, leaves}
 use Rattle.sv_layers.specs.Condition.{word, summary, condition}
 use Rattle.sv_layers.specs.Event.{EventStands, Summary}
 use Rattle.sv_layers.proofs.EachRegister.{start_small}
-use Rattle.sv_layers.proofs.Transitions.{has_is}
+use Rattle.sv_layers.proofs.Transitions.{has_bit_is_one}
 
-found_of : (ks : List ℕ) (is_such : ℕ → Bool) → list_any is_such ks ≡ true → (k : ℕ) × (is_such k ≡ true)
-found_of [] is_such e = absurd cc
-found_of (k ∷ ks) is_such e = elim ((either_true (is_such k) (list_any is_such ks)).0 e) [
+some_passes_if_any : (ks : List ℕ) (is_such : ℕ → Bool) → list_any is_such ks ≡ true → (k : ℕ) × (is_such k ≡ true)
+some_passes_if_any [] is_such e = absurd cc
+some_passes_if_any (k ∷ ks) is_such e = elim ((either_true (is_such k) (list_any is_such ks)).0 e) [
   | inl here ↦ (k, here)
-  | inr behind ↦ found_of ks is_such behind
+  | inr behind ↦ some_passes_if_any ks is_such behind
 ]
 
 below_found : (k : ℕ) (is_such : ℕ → Bool) → k < 16 → is_such k ≡ true → list_any is_such (range_with_len 0 16) ≡ true
@@ -35,14 +35,14 @@ below_found k is_such lt e =
     list_any_at is_such (range_with_len 0 16) k 0 lt (ap is_such at ∙ e)
 
 -- A mask is set without bit 15, so it fits in 16 bits.
-small_of : (b : Bool) (mask word : ℕ) → word < 2 ^ 16 → unwrap_or (if b then Some (without_top_bit mask) else None) word < 2 ^ 16
-small_of true mask word small = let below = mod_below mask (2 ^ 15) (omega arith) in omega (arith, below)
-small_of false mask word small = small
+set_mask_is_small : (b : Bool) (mask word : ℕ) → word < 2 ^ 16 → unwrap_or (if b then Some (without_top_bit mask) else None) word < 2 ^ 16
+set_mask_is_small true mask word small = let below = mod_below mask (2 ^ 15) (omega arith) in omega (arith, below)
+set_mask_is_small false mask word small = small
 
 enable_small : (name : RegisterName) (log : List Act) → enable name log < 2 ^ 16
 enable_small name [] = start_small name
 enable_small name (StatusChanged (Register other (Enable mask)) ∷ log) =
-    small_of (is_same name other) mask (enable name log) (enable_small name log)
+    set_mask_is_small (is_same name other) mask (enable name log) (enable_small name log)
 enable_small name (Preset ∷ log) = start_small name
 enable_small name (_ ∷ log) = enable_small name log
 
@@ -63,9 +63,9 @@ same_passing : (word : List Act → ℕ) (name : RegisterName) → IsOf word nam
 same_passing word name is k [] = refl
 same_passing word name is k (act ∷ before) = rw (is before, is (act ∷ before)) refl
 
-stands_is : (word : List Act → ℕ) (name : RegisterName) → IsOf word name → (k : ℕ) (log : List Act)
+search_finds_event_bits : (word : List Act → ℕ) (name : RegisterName) → IsOf word name → (k : ℕ) (log : List Act)
     → (is_since (passes word name k) (leaves name) log ≡ true) ↔ EventStands name k log
-stands_is word name same k log =
+search_finds_event_bits word name same k log =
     let is = is_since_is (passes word name k) (leaves name) log in (
       (λ e. let s = is.0 e in record {
         ago = s.ago;
@@ -82,18 +82,19 @@ nested_summary_is : (word : List Act → ℕ) (name : RegisterName) → IsOf wor
 nested_summary_is word name same log =
     let is_such : ℕ → Bool = λ k. is_since (passes word name k) (leaves name) log && has_bit (enable name log) k in (
       (λ e.
-          let found = found_of (range_with_len 0 16) is_such e in
+          let found = some_passes_if_any (range_with_len 0 16) is_such e in
           let both =
           (both_true (is_since (passes word name found.0) (leaves name) log) (has_bit (enable name log) found.0)).0 found.1 in
-          (found.0, (stands_is word name same found.0 log).0 both.0, (has_is (enable name log) found.0).0 both.1)),
+          (found.0, (search_finds_event_bits word name same found.0 log).0 both.0, (has_bit_is_one (enable name log) found.0).0 both.1)),
       (λ s. below_found s.0 is_such (enabled_below name log s.0 s.2)
           ((both_true (is_since (passes word name s.0) (leaves name) log) (has_bit (enable name log) s.0)).1
-          ((stands_is word name same s.0 log).1 s.1, (has_is (enable name log) s.0).1 s.2))),
+          ((search_finds_event_bits word name same s.0 log).1 s.1, (has_bit_is_one (enable name log) s.0).1 s.2))),
     )
 
 pub summary_is : (name : RegisterName) → IsOf (word name) name → (log : List Act) → (summary name log ≡ true) ↔ Summary name log
 summary_is name whole log = nested_summary_is (word name) name whole log
 
-pub some_same : (ks : List ℕ) (p q : ℕ → Bool) → ((k : ℕ) → p k ≡ q k) → list_any p ks ≡ list_any q ks
-some_same [] p q same = refl
-some_same (k ∷ ks) p q same = ap (λ (b : Bool). b || list_any p ks) (same k) ∙ ap (λ (b : Bool). q k || b) (some_same ks p q same)
+pub any_of_equal_tests : (ks : List ℕ) (p q : ℕ → Bool) → ((k : ℕ) → p k ≡ q k) → list_any p ks ≡ list_any q ks
+any_of_equal_tests [] p q same = refl
+any_of_equal_tests (k ∷ ks) p q same = ap (λ (b : Bool). b || list_any p ks) (same k)
+    ∙ ap (λ (b : Bool). q k || b) (any_of_equal_tests ks p q same)

@@ -7,11 +7,12 @@ use Rattle.sv_layers.specs.declared.change.StatusChange.TheVariants.{ReadStandar
 use Rattle.sv_layers.specs.Act.{Act, Cleared, Preset, StatusChanged}
 use Rattle.sv_layers.specs.Inside.LayerLogs.{own, own_standard, is_plain}
 
-pub plain_leaves : (act : Act) → is_plain act ≡ true → ((name : RegisterName) (acts : List RegisterAct) → acts ≡ own name act acts)
+pub plain_act_has_no_effect : (act : Act) → is_plain act ≡ true
+    → ((name : RegisterName) (acts : List RegisterAct) → acts ≡ own name act acts)
     × ((acts : List StandardAct) → acts ≡ own_standard act acts)
-plain_leaves Cleared plain = absurd cc
-plain_leaves Preset plain = absurd cc
-plain_leaves (StatusChanged ReadStandard) plain = absurd cc
-plain_leaves (StatusChanged (EnableStandard mask)) plain = absurd cc
-plain_leaves (StatusChanged (Register name change)) plain = absurd cc
-plain_leaves _ plain = ((λ name acts. refl), (λ acts. refl))
+plain_act_has_no_effect Cleared plain = absurd cc
+plain_act_has_no_effect Preset plain = absurd cc
+plain_act_has_no_effect (StatusChanged ReadStandard) plain = absurd cc
+plain_act_has_no_effect (StatusChanged (EnableStandard mask)) plain = absurd cc
+plain_act_has_no_effect (StatusChanged (Register name change)) plain = absurd cc
+plain_act_has_no_effect _ plain = ((λ name acts. refl), (λ acts. refl))

@@ -32,14 +32,15 @@ summary_small word at s =
     omega (arith, is, seven, five, four, three, two)
 
 -- The summary bits of the last update fit in a byte.
-told_small : (log : List Act) (status_log : List StatusAct) → IsStatus log status_log → bits status_log < 256
-told_small [] status_log is = rw is (omega arith)
-told_small (act ∷ log) status_log (word, before, summary, earlier, is) = rw is (summary_small word (layer_logs (act ∷ log)) summary)
+last_update_fits_byte : (log : List Act) (status_log : List StatusAct) → IsStatus log status_log → bits status_log < 256
+last_update_fits_byte [] status_log is = rw is (omega arith)
+last_update_fits_byte (act ∷ log) status_log (word, before, summary, earlier, is) =
+    rw is (summary_small word (layer_logs (act ∷ log)) summary)
 
 pub polled_byte : (layered : LayerState) (log : List Act) → StandsFor layered log
     → (word : ℕ) × ((k : ℕ) → (bit_at word k ≡ 1) ↔ PolledBit k log)
 polled_byte layered log s =
-    let small : layered.status.bits < 256 = rw s.joined.status.bits (told_small log s.status_log s.are) in (
+    let small : layered.status.bits < 256 = rw s.joined.status.bits (last_update_fits_byte log s.status_log s.are) in (
       with_bit_six layered.status.request layered.status.bits,
       λ k. iff_transitive (shown_bit layered.status.request layered.status.bits k small)
           (iff_transitive (polled_bit layered.status s.status_log k s.joined.status) (same_status log s.status_log s.are k).0),

@@ -4,10 +4,10 @@ use Rattle.std.specs.Prelude.{Option, Some, None, Ok, Err}
 use Rattle.sv_errors.specs.declared.code.Code.{Code}
 use Rattle.sv_scan.specs.Answered.{refused_by}
 
-pub no_fault : (fault : Option Code) → Ok tt ≡ refused_by fault → fault ≡ None
-no_fault None same = refl
-no_fault (Some code) same = absurd cc
+pub no_fault_if_done : (fault : Option Code) → Ok tt ≡ refused_by fault → fault ≡ None
+no_fault_if_done None same = refl
+no_fault_if_done (Some code) same = absurd cc
 
-pub the_fault : (fault : Option Code) (code : Code) → Err code ≡ refused_by fault → fault ≡ Some code
-the_fault None code same = absurd cc
-the_fault (Some other) code same = cc
+pub fault_of_refusal : (fault : Option Code) (code : Code) → Err code ≡ refused_by fault → fault ≡ Some code
+fault_of_refusal None code same = absurd cc
+fault_of_refusal (Some other) code same = cc

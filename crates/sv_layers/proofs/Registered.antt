@@ -7,6 +7,6 @@ use Rattle.sv_layers.specs.Condition.{condition}
 use Rattle.sv_layers.specs.Inside.LayerLogs.{own, register_acts, layer_logs}
 use Rattle.sv_layers.proofs.Projected.{begun_register}
 
-pub seen_register : (name : RegisterName) (act : Act) (log : List Act) → register_acts name (layer_logs (act ∷ log))
+pub register_acts_after_act : (name : RegisterName) (act : Act) (log : List Act) → register_acts name (layer_logs (act ∷ log))
     ≡ own name act (register.Condition (condition name (act ∷ log)) ∷ register_acts name (layer_logs log))
-seen_register name act log = rw (begun_register name act log) refl
+register_acts_after_act name act log = rw (begun_register name act log) refl

@@ -14,55 +14,55 @@ use Rattle.sv_layers.specs.Condition.{condition}
 use Rattle.sv_layers.specs.Filter.{is_same, rise, fall}
 use Rattle.sv_layers.specs.Inside.LayerLogs.{own, layer_logs, register_acts}
 use Rattle.sv_layers.specs.Laws.{SameEvents}
-use Rattle.sv_layers.proofs.Registered.{seen_register}
-use Rattle.sv_layers.proofs.Either.{unchanged, either_same}
+use Rattle.sv_layers.proofs.Registered.{register_acts_after_act}
+use Rattle.sv_layers.proofs.Either.{iff_refl, either_congruent}
 use Rattle.sv_layers.proofs.Transitions.{Passes, NotCleared, changes_is}
 use Rattle.sv_layers.proofs.SameWords.{same_words}
 
-flip : {P Q : Type 0} → P ↔ Q → Q ↔ P
-flip same = (same.1, same.0)
+iff_sym : {P Q : Type 0} → P ↔ Q → Q ↔ P
+iff_sym same = (same.1, same.0)
 
 -- After a new condition an event bit is set if a transition passes its filter, or if it was set
 -- before.
-at_condition : (name : RegisterName) (k : ℕ) (act : Act) (log : List Act)
+events_after_condition : (name : RegisterName) (k : ℕ) (act : Act) (log : List Act)
     → stands.EventStands k (register.Condition (condition name (act ∷ log)) ∷ register_acts name (layer_logs log))
     ↔ (Passes name k (act ∷ log) ⊎ stands.EventStands k (register_acts name (layer_logs log)))
-at_condition name k act log =
+events_after_condition name k act log =
     let words = same_words name log in
     let told = rw (words.0, words.1, words.2) at (event_condition k (condition name (act ∷ log)) (register_acts name (layer_logs log))) in
     let is = changes_is k (condition name log) (condition name (act ∷ log)) (rise name log) (fall name log) in
-    either_same told (flip is) unchanged
+    either_congruent told (iff_sym is) iff_refl
 
 -- An act of a register that neither sets nor clears event bits may be left out.
-where_event : {R : Type 0} (b : Bool) (k : ℕ) (act : RegisterAct) (acts : List RegisterAct)
+events_if_none_touched : {R : Type 0} (b : Bool) (k : ℕ) (act : RegisterAct) (acts : List RegisterAct)
     → stands.EventStands k (act ∷ acts) ↔ stands.EventStands k acts → stands.EventStands k acts ↔ R
     → stands.EventStands k (if b then act ∷ acts else acts) ↔ R
-where_event true k act acts same h = iff_transitive same h
-where_event false k act acts same h = h
+events_if_none_touched true k act acts same h = iff_transitive same h
+events_if_none_touched false k act acts same h = h
 
 -- A read clears the event register that it names, and no other.
-where_read : {F Q : Type 0} (b : Bool) (k : ℕ) (acts : List RegisterAct) → stands.EventStands k acts ↔ (F ⊎ Q)
+events_after_read : {F Q : Type 0} (b : Bool) (k : ℕ) (acts : List RegisterAct) → stands.EventStands k acts ↔ (F ⊎ Q)
     → stands.EventStands k (if b then register.ReadEvent ∷ acts else acts) ↔ ((not b ≡ true) × (F ⊎ Q))
-where_read true k acts h = step_ended (λ e. absurd cc) (event_read k acts)
-where_read false k acts h = step_kept refl h
+events_after_read true k acts h = step_ended (λ e. absurd cc) (event_read k acts)
+events_after_read false k acts h = step_kept refl h
 
 own_event : (name : RegisterName) (k : ℕ) (act : Act) (log : List Act) (acts : List RegisterAct) (Q : Type 0)
     → stands.EventStands k acts ↔ (Passes name k (act ∷ log) ⊎ Q)
     → stands.EventStands k (own name act acts) ↔ (NotCleared name (act ∷ log) × (Passes name k (act ∷ log) ⊎ Q))
 own_event name k Cleared log acts Q h = step_ended (λ kept. absurd cc) (event_cleared k acts)
 own_event name k Preset log acts Q h = step_kept refl (iff_transitive (event_preset k acts) h)
-own_event name k (StatusChanged (Register other ReadEvents)) log acts Q h = where_read (is_same name other) k acts h
+own_event name k (StatusChanged (Register other ReadEvents)) log acts Q h = events_after_read (is_same name other) k acts h
 own_event name k (StatusChanged (Register other (Enable mask))) log acts Q h =
-    step_kept refl (where_event (is_same name other) k _ acts (event_enable k _ acts) h)
+    step_kept refl (events_if_none_touched (is_same name other) k _ acts (event_enable k _ acts) h)
 own_event name k (StatusChanged (Register other (SetRise mask))) log acts Q h =
-    step_kept refl (where_event (is_same name other) k _ acts (event_filter k _ _ acts) h)
+    step_kept refl (events_if_none_touched (is_same name other) k _ acts (event_filter k _ _ acts) h)
 own_event name k (StatusChanged (Register other (SetFall mask))) log acts Q h =
-    step_kept refl (where_event (is_same name other) k _ acts (event_filter k _ _ acts) h)
+    step_kept refl (events_if_none_touched (is_same name other) k _ acts (event_filter k _ _ acts) h)
 own_event name k _ log acts Q h = step_kept refl h
 
 event_step : (name : RegisterName) (k : ℕ) (act : Act) (log : List Act) → stands.EventStands k (register_acts name (layer_logs (act ∷ log)))
     ↔ (NotCleared name (act ∷ log) × (Passes name k (act ∷ log) ⊎ stands.EventStands k (register_acts name (layer_logs log))))
-event_step name k act log = rw (seen_register name act log) (own_event name k act log _ _ (at_condition name k act log))
+event_step name k act log = rw (register_acts_after_act name act log) (own_event name k act log _ _ (events_after_condition name k act log))
 
 none_first : (name : RegisterName) (k : ℕ) → stands.EventStands k (register_acts name (layer_logs [])) → ⊥
 none_first name k = event_none k

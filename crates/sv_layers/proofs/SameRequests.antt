@@ -15,7 +15,7 @@ use Rattle.sv_layers.specs.Inside.Representation.{IsSummary, IsStatus, own_statu
 use Rattle.sv_layers.specs.Laws.{SameRequests, SameStatus}
 use Rattle.sv_layers.proofs.Projected.{projected}
 use Rattle.sv_layers.proofs.SameSummaries.{same_summaries, no_summary}
-use Rattle.sv_layers.proofs.NothingAtPoll.{polled_asks, polled_ended}
+use Rattle.sv_layers.proofs.NothingAtPoll.{requested_before_poll, poll_ends_request}
 
 -- The act isn't a poll: it adds no poll to the status byte's log, and a pending request lasts
 -- exactly if the master summary is set after it.
@@ -24,36 +24,37 @@ IsOther act = ((status_log : List StatusAct) → own_status act status_log ≡ s
     × ((log : List Act) → Lasts (act ∷ log) ↔ Master (act ∷ log))
 
 -- A proof for all acts, by case: a poll, or any other act.
-by_kind : (P : Act → Type 0) → P Polled → ((act : Act) → IsOther act → P act) → (act : Act) → P act
-by_kind P polled other Polled = polled
-by_kind P polled other _ = other _ ((λ status_log. refl), (λ log. ((λ m. m), (λ m. m))))
+by_poll_or_other : (P : Act → Type 0) → P Polled → ((act : Act) → IsOther act → P act) → (act : Act) → P act
+by_poll_or_other P polled other Polled = polled
+by_poll_or_other P polled other _ = other _ ((λ status_log. refl), (λ log. ((λ m. m), (λ m. m))))
 
 -- The last update has the summary bits and the enable that the instrument's log determines.
-told_bits : (log : List Act) (status_log : List StatusAct) → IsStatus log status_log → (k : ℕ)
+update_has_summary_bits : (log : List Act) (status_log : List StatusAct) → IsStatus log status_log → (k : ℕ)
     → (bit_at (status.bits status_log) k ≡ 1) ↔ SummaryBit k log
-told_bits [] status_log is k = rw is (same_summaries 0 [] no_summary k)
-told_bits (act ∷ log) status_log (word, before, summary, is, made) k = rw made (same_summaries word (act ∷ log) summary k)
+update_has_summary_bits [] status_log is k = rw is (same_summaries 0 [] no_summary k)
+update_has_summary_bits (act ∷ log) status_log (word, before, summary, is, made) k = rw made (same_summaries word (act ∷ log) summary k)
 
-told_enable : (log : List Act) (status_log : List StatusAct) → IsStatus log status_log → status.enable status_log ≡ service log
-told_enable [] status_log is = rw is refl
-told_enable (act ∷ log) status_log (word, before, summary, is, made) = rw made (projected (act ∷ log)).3
+update_has_enable : (log : List Act) (status_log : List StatusAct) → IsStatus log status_log → status.enable status_log ≡ service log
+update_has_enable [] status_log is = rw is refl
+update_has_enable (act ∷ log) status_log (word, before, summary, is, made) = rw made (projected (act ∷ log)).3
 
 -- Bit 6 isn't a summary bit.
 not_six : (k : ℕ) (log : List Act) → SummaryBit k log → k ≢ 6
 not_six k log bit six = grind (arith, bit, six)
 
-told_asks : (log : List Act) (status_log : List StatusAct) → IsStatus log status_log → (k : ℕ)
+update_requests_service : (log : List Act) (status_log : List StatusAct) → IsStatus log status_log → (k : ℕ)
     → status.ServiceRequestedAt k status_log ↔ ServiceRequested k log
-told_asks log status_log is k =
-    let bits = told_bits log status_log is k in
-    let enable = told_enable log status_log is in (
+update_requests_service log status_log is k =
+    let bits = update_has_summary_bits log status_log is k in
+    let enable = update_has_enable log status_log is in (
       (λ h. (bits.0 h.1, ap (λ (w : ℕ). bit_at w k) (sym enable) ∙ h.2)),
       (λ h. (not_six k log h.0, bits.1 h.0, ap (λ (w : ℕ). bit_at w k) enable ∙ h.1)),
     )
 
-told_master : (log : List Act) (status_log : List StatusAct) → IsStatus log status_log → status.Master status_log ↔ Master log
-told_master log status_log is =
-    ((λ m. (m.0, (told_asks log status_log is m.0).0 m.1)), (λ m. (m.0, (told_asks log status_log is m.0).1 m.1)))
+update_has_master : (log : List Act) (status_log : List StatusAct) → IsStatus log status_log → status.Master status_log ↔ Master log
+update_has_master log status_log is =
+    ((λ m. (m.0, (update_requests_service log status_log is m.0).0 m.1)),
+        (λ m. (m.0, (update_requests_service log status_log is m.0).1 m.1)))
 
 -- If the logs agree on whether a request is pending before the act, they agree after it.
 abbrev RequestStep : Act → Type 0
@@ -63,13 +64,13 @@ RequestStep act = (log : List Act) (word : ℕ) (before : List StatusAct) → Is
 
 polled_step : RequestStep Polled
 polled_step log word before summary is same =
-    let now = told_asks (Polled ∷ log) _ (word, before, summary, is, refl) in
-    let was = told_asks log before is in (
+    let now = update_requests_service (Polled ∷ log) _ (word, before, summary, is, refl) in
+    let was = update_requests_service log before is in (
       (λ s. elim ((request_updated word (layer_logs (Polled ∷ log)).service (Poll ∷ before)).0 s).1 [
-        | inl r ↦ absurd (r.2 ((was r.0).1 (polled_asks r.0 log ((now r.0).0 r.1))))
+        | inl r ↦ absurd (r.2 ((was r.0).1 (requested_before_poll r.0 log ((now r.0).0 r.1))))
         | inr q ↦ absurd (request_polled before q)
       ]),
-      (λ s. absurd (polled_ended log s)),
+      (λ s. absurd (poll_ends_request log s)),
     )
 
 other_step : (act : Act) → IsOther act → RequestStep act
@@ -77,8 +78,8 @@ other_step act other log word before summary is same =
     let mask = (layer_logs (act ∷ log)).service in
     let made : Update word mask ∷ before ≡ Update word mask ∷ own_status act before =
     ap (λ (acts : List StatusAct). Update word mask ∷ acts) (sym (other.0 before)) in
-    let now = told_asks (act ∷ log) (Update word mask ∷ before) (word, before, summary, is, made) in
-    let was = told_asks log before is in
+    let now = update_requests_service (act ∷ log) (Update word mask ∷ before) (word, before, summary, is, made) in
+    let was = update_requests_service log before is in
     let law = request_updated word mask before in
     let step = since_step Reason Lasts act log in
     let lasts = other.1 log in
@@ -102,7 +103,7 @@ pub same_requests : SameRequests
 same_requests [] status_log is =
     rw is ((λ s. absurd (request_none s)), (λ s. absurd ((since_empty Reason Lasts).0 s).0))
 same_requests (act ∷ log) status_log (word, before, summary, is, made) =
-    rw made (by_kind RequestStep polled_step other_step act log word before summary is (same_requests log before is))
+    rw made (by_poll_or_other RequestStep polled_step other_step act log word before summary is (same_requests log before is))
 
 -- If the logs agree on whether a request is pending before the act and after it, they agree on
 -- whether the act raises one.
@@ -114,7 +115,7 @@ RaisedStep act = (log : List Act) (now : StatusAct) (before : List StatusAct)
 
 polled_raised : RaisedStep Polled
 polled_raised log now before stands same =
-    ((λ r. absurd (polled_ended log (stands.0 r.0))), (λ r. absurd (polled_ended log r.0)))
+    ((λ r. absurd (poll_ends_request log (stands.0 r.0))), (λ r. absurd (poll_ends_request log r.0)))
 
 other_raised : (act : Act) → IsOther act → RaisedStep act
 other_raised act other log now before stands same = (
@@ -122,10 +123,10 @@ other_raised act other log now before stands same = (
   (λ r. (stands.1 r.0, λ q. r.1 (same.0 (rw (other.0 before) at q)))),
 )
 
-pub told_raised : (log : List Act) (status_log : List StatusAct) → IsStatus log status_log → status.IsRaised status_log ↔ IsRaised log
-told_raised [] status_log is = rw is ((λ r. absurd r), (λ r. absurd r))
-told_raised (act ∷ log) status_log (word, before, summary, is, made) =
-    rw made (by_kind RaisedStep polled_raised other_raised act log _ before
+pub same_raised : (log : List Act) (status_log : List StatusAct) → IsStatus log status_log → status.IsRaised status_log ↔ IsRaised log
+same_raised [] status_log is = rw is ((λ r. absurd r), (λ r. absurd r))
+same_raised (act ∷ log) status_log (word, before, summary, is, made) =
+    rw made (by_poll_or_other RaisedStep polled_raised other_raised act log _ before
     (same_requests (act ∷ log) _ (word, before, summary, is, refl)) (same_requests log before is))
 
 -- Equivalent summary bits and an equivalent bit 6 give equivalent bits of the status byte.
@@ -138,5 +139,5 @@ shown k log bit same = (
 
 pub same_status : SameStatus
 same_status log status_log is k =
-    let bits = told_bits log status_log is k in
-    (shown k log bits (same_requests log status_log is), shown k log bits (told_master log status_log is))
+    let bits = update_has_summary_bits log status_log is k in
+    (shown k log bits (same_requests log status_log is), shown k log bits (update_has_master log status_log is))

@@ -17,15 +17,15 @@ use Rattle.sv_layers.specs.Standard.{Completes, Occurs, NotCleared, enable}
 use Rattle.sv_layers.specs.Inside.LayerLogs.{report_bits, layer_logs}
 use Rattle.sv_layers.specs.Laws.{SameEnable, SameStandardEvents}
 use Rattle.sv_layers.proofs.Bits.{bit_of}
-use Rattle.sv_layers.proofs.Either.{unchanged, either_same, both_same, equal_same, four_same}
+use Rattle.sv_layers.proofs.Either.{iff_refl, either_congruent, both_congruent, iff_from_equal, four_reordered}
 use Rattle.sv_layers.proofs.Projected.{projected}
 use Rattle.sv_layers.proofs.Completion.{completes, completes_is}
 
 -- An act that completes an `*OPC` sets bit 0.
 completed : (k : ℕ) (act : Act) (log : List Act) (acts : List StandardAct)
     → stands.Stands k (standard.Occur (bit 0 (completes act log)) ∷ acts) ↔ (((k ≡ 0) × Completes (act ∷ log)) ⊎ stands.Stands k acts)
-completed k act log acts = either_same (stands_occurred k (bit 0 (completes act log)) acts)
-    (iff_transitive (bit_of 0 (completes act log) k) (both_same (completes_is act log))) unchanged
+completed k act log acts = either_congruent (stands_occurred k (bit 0 (completes act log)) acts)
+    (iff_transitive (bit_of 0 (completes act log) k) (both_congruent (completes_is act log))) iff_refl
 
 -- A reported error sets the bit of its class, bit 3 if the queue overflows, and bit 0 if an `*OPC`
 -- completes.
@@ -37,9 +37,9 @@ reported k code log =
     let full = is_full (layer_logs log).errors in
     let event = standard_event_of code in
     let queue = ap (λ (acts : List QueueAct). is_full acts) (projected log).1 in
-    let overflow = iff_transitive (bit_of 3 full k) (both_same (equal_same full _ queue)) in
-    four_same (completed k (Reported code) log (report_bits code full (layer_logs log).standard))
-    (either_same (stands_occurred k (bit 3 full) (standard.Occur event ∷ (layer_logs log).standard)) overflow unchanged)
+    let overflow = iff_transitive (bit_of 3 full k) (both_congruent (iff_from_equal full _ queue)) in
+    four_reordered (completed k (Reported code) log (report_bits code full (layer_logs log).standard))
+    (either_congruent (stands_occurred k (bit 3 full) (standard.Occur event ∷ (layer_logs log).standard)) overflow iff_refl)
     (stands_occurred k event (layer_logs log).standard)
 
 -- After an act, a bit is set if the act doesn't clear it, and it occurs at the act or was set

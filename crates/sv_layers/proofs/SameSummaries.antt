@@ -20,7 +20,7 @@ use Rattle.sv_layers.specs.Standard.{Summary as StandardSummary}
 use Rattle.sv_layers.specs.Inside.LayerLogs.{layer_logs, register_acts}
 use Rattle.sv_layers.specs.Inside.Representation.{IsSummary}
 use Rattle.sv_layers.specs.Laws.{SameSummaries}
-use Rattle.sv_layers.proofs.Either.{either_same, both_same, equal_same}
+use Rattle.sv_layers.proofs.Either.{either_congruent, both_congruent, iff_from_equal}
 use Rattle.sv_layers.proofs.Bits.{bit_le, bit_of, top_bit}
 use Rattle.sv_layers.proofs.Projected.{projected}
 use Rattle.sv_layers.proofs.SameWords.{same_words}
@@ -49,14 +49,14 @@ same_summaries word log is k =
     omega arith in
     let exchange = ap (λ (acts : List ExchangeAct). is_something (response acts)) (projected log).0 in
     let queue = ap (λ (acts : List QueueAct). is_something (entries acts)) (projected log).1 in
-    let operation = both_same (iff_transitive is.operation (same_summary Operation log)) in
-    let standard = both_same (iff_transitive is.standard (same_standard_summary log)) in
-    let questionable = both_same (iff_transitive is.questionable (same_summary Questionable log)) in
-    rw same_word (either_same (top_bit 7 is.operates _ k (omega arith)) operation
-    (either_same (top_bit 5 is.happened _ k (omega arith)) standard
-    (either_same (top_bit 4 available _ k (omega arith)) (both_same (equal_same available _ exchange))
-    (either_same (top_bit 3 is.questioned _ k (omega arith)) questionable
-    (iff_transitive (bit_of 2 errors k) (both_same (equal_same errors _ queue)))))))
+    let operation = both_congruent (iff_transitive is.operation (same_summary Operation log)) in
+    let standard = both_congruent (iff_transitive is.standard (same_standard_summary log)) in
+    let questionable = both_congruent (iff_transitive is.questionable (same_summary Questionable log)) in
+    rw same_word (either_congruent (top_bit 7 is.operates _ k (omega arith)) operation
+    (either_congruent (top_bit 5 is.happened _ k (omega arith)) standard
+    (either_congruent (top_bit 4 available _ k (omega arith)) (both_congruent (iff_from_equal available _ exchange))
+    (either_congruent (top_bit 3 is.questioned _ k (omega arith)) questionable
+    (iff_transitive (bit_of 2 errors k) (both_congruent (iff_from_equal errors _ queue)))))))
 
 -- Before all acts no summary bit is set.
 pub no_summary : IsSummary 0 (layer_logs [])

@@ -16,7 +16,7 @@ use Rattle.sv_layers.specs.Filter.{is_same, start, rise, fall, enable}
 use Rattle.sv_layers.specs.Inside.LayerLogs.{own, layer_logs, register_acts}
 use Rattle.sv_layers.specs.Laws.{SameWords}
 use Rattle.sv_layers.proofs.EachRegister.{first_condition}
-use Rattle.sv_layers.proofs.Registered.{seen_register}
+use Rattle.sv_layers.proofs.Registered.{register_acts_after_act}
 
 -- These acts give the register this condition, these filters and this enable.
 abbrev Words : ℕ → List RegisterAct → ℕ → ℕ → ℕ → ℕ → Type 0
@@ -76,5 +76,5 @@ pub same_words : SameWords
 same_words name [] = (sym (first_condition name), refl, refl, refl)
 same_words name (act ∷ log) =
     let h = same_words name log in
-    subst (λ (acts : List RegisterAct). WordsOf name acts (act ∷ log)) (sym (seen_register name act log))
+    subst (λ (acts : List RegisterAct). WordsOf name acts (act ∷ log)) (sym (register_acts_after_act name act log))
     (own_words name act log (Condition (condition name (act ∷ log)) ∷ register_acts name (layer_logs log)) (refl, h.1, h.2, h.3))

@@ -10,7 +10,7 @@ use Rattle.sv_status.specs.declared.register_name.RegisterName.{RegisterName}
 use Rattle.sv_layers.specs.Act.{Act}
 use Rattle.sv_layers.specs.Condition.{condition}
 use Rattle.sv_layers.specs.Filter.{has_bit, passes, leaves}
-use Rattle.sv_layers.proofs.Either.{either_same}
+use Rattle.sv_layers.proofs.Either.{either_congruent}
 
 -- At the newest act a bit of the condition passes its filter.
 abbrev pub Passes : RegisterName → ℕ → List Act → Type 0
@@ -20,15 +20,15 @@ Passes name k log = passes (condition name) name k log ≡ true
 abbrev pub NotCleared : RegisterName → List Act → Type 0
 NotCleared name log = leaves name log ≡ true
 
-pub has_is : (word k : ℕ) → (has_bit word k ≡ true) ↔ (bit_at word k ≡ 1)
-has_is word k = (eqb-true (bit_at word k) 1, eq-eqb (bit_at word k) 1)
+pub has_bit_is_one : (word k : ℕ) → (has_bit word k ≡ true) ↔ (bit_at word k ≡ 1)
+has_bit_is_one word k = (eqb-true (bit_at word k) 1, eq-eqb (bit_at word k) 1)
 
 not_true : (b : Bool) → not b ≡ true → b ≡ false
 not_true true e = cc
 not_true false e = refl
 
-lacks_is : (word k : ℕ) → (not (has_bit word k) ≡ true) ↔ (bit_at word k ≡ 0)
-lacks_is word k = (
+lacks_bit_is_zero : (word k : ℕ) → (not (has_bit word k) ≡ true) ↔ (bit_at word k ≡ 0)
+lacks_bit_is_zero word k = (
   (λ h. let ne = eqb-false (bit_at word k) 1 (not_true (has_bit word k) h) in let small = bit_at-lt word k in omega (arith, ne, small)),
   (λ e. rw (ne_eqb (bit_at word k) 1 (λ one. absurd (omega (arith, e, one)))) refl),
 )
@@ -46,8 +46,8 @@ rises_is k old new up =
       (λ e.
           let h = first.0 e in
           let both = second.0 h.1 in
-          ((lacks_is old k).0 h.0, (has_is new k).0 both.0, (has_is up k).0 both.1)),
-      (λ h. first.1 ((lacks_is old k).1 h.0, second.1 ((has_is new k).1 h.1, (has_is up k).1 h.2))),
+          ((lacks_bit_is_zero old k).0 h.0, (has_bit_is_one new k).0 both.0, (has_bit_is_one up k).0 both.1)),
+      (λ h. first.1 ((lacks_bit_is_zero old k).1 h.0, second.1 ((has_bit_is_one new k).1 h.1, (has_bit_is_one up k).1 h.2))),
     )
 
 falls_is : (k old new down : ℕ) → ((has_bit old k && (not (has_bit new k) && has_bit down k)) ≡ true)
@@ -58,19 +58,19 @@ falls_is k old new down =
       (λ e.
           let h = first.0 e in
           let both = second.0 h.1 in
-          ((has_is old k).0 h.0, (lacks_is new k).0 both.0, (has_is down k).0 both.1)),
-      (λ h. first.1 ((has_is old k).1 h.0, second.1 ((lacks_is new k).1 h.1, (has_is down k).1 h.2))),
+          ((has_bit_is_one old k).0 h.0, (lacks_bit_is_zero new k).0 both.0, (has_bit_is_one down k).0 both.1)),
+      (λ h. first.1 ((has_bit_is_one old k).1 h.0, second.1 ((lacks_bit_is_zero new k).1 h.1, (has_bit_is_one down k).1 h.2))),
     )
 
 pub changes_is : (k old new up down : ℕ) → (changes k old new up down ≡ true)
     ↔ (((bit_at old k ≡ 0) × (bit_at new k ≡ 1) × (bit_at up k ≡ 1)) ⊎ ((bit_at old k ≡ 1) × (bit_at new k ≡ 0) × (bit_at down k ≡ 1)))
 changes_is k old new up down =
-    either_same (
+    either_congruent (
     either_true (not (has_bit old k) && (has_bit new k && has_bit up k)) (has_bit old k && (not (has_bit new k) && has_bit down k))
     )
     (rises_is k old new up) (falls_is k old new down)
 
 -- A bit that doesn't change passes no filter.
-pub no_change : (b r f : Bool) → ((not b && (b && r)) || (b && (not b && f))) ≡ false
-no_change true r f = refl
-no_change false r f = refl
+pub unchanged_bit_passes_none : (b r f : Bool) → ((not b && (b && r)) || (b && (not b && f))) ≡ false
+unchanged_bit_passes_none true r f = refl
+unchanged_bit_passes_none false r f = refl

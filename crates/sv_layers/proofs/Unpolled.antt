@@ -6,6 +6,6 @@ use Rattle.sv_layers.specs.declared.change.Change.TheVariants as changes
 use Rattle.sv_layers.specs.Change.{act_of}
 use Rattle.sv_layers.specs.Inside.Representation.{own_status}
 
-pub unpolled : (change : Change) (status_log : List StatusAct) → status_log ≡ own_status (act_of change) status_log
-unpolled (changes.Scan act) status_log = refl
-unpolled _ status_log = refl
+pub change_is_no_poll : (change : Change) (status_log : List StatusAct) → status_log ≡ own_status (act_of change) status_log
+change_is_no_poll (changes.Scan act) status_log = refl
+change_is_no_poll _ status_log = refl

@@ -21,9 +21,9 @@ use Rattle.sv_layers.specs.Condition.{word, summary, condition, effective_acts, 
 use Rattle.sv_layers.specs.Event.{EventStands}
 use Rattle.sv_layers.specs.Standard as standard
 use Rattle.sv_layers.specs.StatusByte.{SummaryBit, service, ServiceRequested, Master, Reason, Lasts, Request, IsRaised, PolledBit, MasterBit}
-use Rattle.sv_layers.proofs.Either.{unchanged, either_same, both_same, equal_same}
-use Rattle.sv_layers.proofs.Transitions.{Passes, NotCleared, changes, no_change}
-use Rattle.sv_layers.proofs.LimitSummary.{some_same}
+use Rattle.sv_layers.proofs.Either.{iff_refl, either_congruent, both_congruent, iff_from_equal}
+use Rattle.sv_layers.proofs.Transitions.{Passes, NotCleared, changes, unchanged_bit_passes_none}
+use Rattle.sv_layers.proofs.LimitSummary.{any_of_equal_tests}
 use Rattle.sv_layers.proofs.EachRegister.{condition_same}
 use Rattle.sv_laws.proofs.Cuts.SameExchange.{SameExchange, same_exchange_refl, act_keeps_same_exchange, text_keeps_same_exchange, same_exchange_sym, response_same}
 
@@ -57,7 +57,7 @@ pub record SameStatus (log other : List Act) : Type 0 where
 
 nested_same : (name : RegisterName) (log other : List Act) → enable name log ≡ enable name other
     → ((k : ℕ) → set_by_scanner name k log ≡ set_by_scanner name k other) → summary name log ≡ summary name other
-nested_same name log other mask same = some_same (range_with_len 0 16) _ _ (λ k.
+nested_same name log other mask same = any_of_equal_tests (range_with_len 0 16) _ _ (λ k.
     ap (λ (b : Bool). b && has_bit (enable name log) k) (same k) ∙ ap (λ (w : ℕ). set_by_scanner name k other && has_bit w k) mask)
 
 pub status_condition : (name : RegisterName) (log other : List Act) → SameParts log other → condition name log ≡ condition name other
@@ -79,12 +79,13 @@ summary_same P Q mask also same events = (
 )
 
 summary_bits_same : (k : ℕ) (log other : List Act) → SameParts log other → SummaryBit k log ↔ SummaryBit k other
-summary_bits_same k log other v = either_same unchanged (both_same (summary_same _ _ _ _ (v.enables Operation) (v.events Operation)))
-    (either_same unchanged (both_same (summary_same _ _ _ _ v.standards v.stands))
-    (either_same unchanged
-    (both_same (equal_same _ _ (ap is_something (response_same (exchange_acts log) (exchange_acts other) v.exchange))))
-    (either_same unchanged (both_same (summary_same _ _ _ _ (v.enables Questionable) (v.events Questionable)))
-    (both_same (equal_same _ _ (ap (λ (l : List QueueAct). is_something (entries l)) v.queued))))))
+summary_bits_same k log other v =
+    either_congruent iff_refl (both_congruent (summary_same _ _ _ _ (v.enables Operation) (v.events Operation)))
+    (either_congruent iff_refl (both_congruent (summary_same _ _ _ _ v.standards v.stands))
+    (either_congruent iff_refl
+    (both_congruent (iff_from_equal _ _ (ap is_something (response_same (exchange_acts log) (exchange_acts other) v.exchange))))
+    (either_congruent iff_refl (both_congruent (summary_same _ _ _ _ (v.enables Questionable) (v.events Questionable)))
+    (both_congruent (iff_from_equal _ _ (ap (λ (l : List QueueAct). is_something (entries l)) v.queued))))))
 
 service_requested_same : (k : ℕ) (log other : List Act) → SameParts log other → ServiceRequested k log ↔ ServiceRequested k other
 service_requested_same k log other v =
@@ -103,7 +104,7 @@ request_act act log other now was before = since_agrees Reason Lasts act log oth
 ) (lasts act now) before
   where
     lasts : (act : Act) → SameParts (act ∷ log) (act ∷ other) → Lasts (act ∷ log) ↔ Lasts (act ∷ other)
-    lasts Polled now = unchanged
+    lasts Polled now = iff_refl
     lasts act now = masters_same (act ∷ log) (act ∷ other) now
 
 -- ---- the same act
@@ -125,7 +126,7 @@ exchange_more _ log other v = v
 
 passes_act : (name : RegisterName) (k : ℕ) (act : Act) (log other : List Act) → condition name (act ∷ log) ≡ condition name (act ∷ other)
     → SameParts log other → Passes name k (act ∷ log) ↔ Passes name k (act ∷ other)
-passes_act name k act log other now v = rw (now, status_condition name log other v, v.rises name, v.falls name) unchanged
+passes_act name k act log other now v = rw (now, status_condition name log other v, v.rises name, v.falls name) iff_refl
 
 leaves_act : (name : RegisterName) (act : Act) (log other : List Act) → leaves name (act ∷ log) ≡ leaves name (act ∷ other)
 leaves_act name (StatusChanged (Register which ReadEvents)) log other = refl
@@ -139,8 +140,8 @@ stood_act name k act log other now v =
 -- ---- standard events
 
 asked_act : (act : Act) (log other : List Act) → standard.IsAsked (act ∷ log) ↔ standard.IsAsked (act ∷ other)
-asked_act OpcAsked log other = unchanged
-asked_act _ log other = unchanged
+asked_act OpcAsked log other = iff_refl
+asked_act _ log other = iff_refl
 
 completes_act : (act : Act) (log other : List Act) → is_idle (act ∷ log) ≡ is_idle (act ∷ other) → SameParts log other
     → standard.Completes (act ∷ log) ↔ standard.Completes (act ∷ other)
@@ -152,14 +153,14 @@ completes_act act log other same v =
 
 occurs_act : (k : ℕ) (act : Act) (log other : List Act) → is_idle (act ∷ log) ≡ is_idle (act ∷ other) → SameParts log other
     → standard.Occurs k (act ∷ log) ↔ standard.Occurs k (act ∷ other)
-occurs_act k (Reported code) log other same v = either_same unchanged unchanged (either_same unchanged
-    (both_same (equal_same _ _ (ap (λ (l : List QueueAct). is_full l) v.queued)))
-    (both_same (completes_act (Reported code) log other same v)))
-occurs_act k act log other same v = both_same (completes_act act log other same v)
+occurs_act k (Reported code) log other same v = either_congruent iff_refl iff_refl (either_congruent iff_refl
+    (both_congruent (iff_from_equal _ _ (ap (λ (l : List QueueAct). is_full l) v.queued)))
+    (both_congruent (completes_act (Reported code) log other same v)))
+occurs_act k act log other same v = both_congruent (completes_act act log other same v)
 
 kept_act : (act : Act) (log other : List Act) → standard.NotCleared (act ∷ log) ↔ standard.NotCleared (act ∷ other)
-kept_act (StatusChanged ReadStandard) log other = unchanged
-kept_act _ log other = unchanged
+kept_act (StatusChanged ReadStandard) log other = iff_refl
+kept_act _ log other = iff_refl
 
 -- ---- the same act in both logs
 
@@ -181,8 +182,8 @@ parts_act act log other v =
       standards = rw v.standards refl;
       serves = rw v.serves refl;
       events = λ name k. since_agrees (Passes name k) (NotCleared name) act log other (passes_act name k act log other (now name) v)
-          (rw (leaves_act name act log other) unchanged) (v.events name k);
-      waits = since_agrees standard.IsAsked standard.IsPending act log other (asked_act act log other) (rw idle unchanged) v.waits;
+          (rw (leaves_act name act log other) iff_refl) (v.events name k);
+      waits = since_agrees standard.IsAsked standard.IsPending act log other (asked_act act log other) (rw idle iff_refl) v.waits;
       stands = λ k. since_agrees (standard.Occurs k) standard.NotCleared act log other (occurs_act k act log other idle v)
           (kept_act act log other) (v.stands k);
       exchange = exchange_more act log other v.exchange;
@@ -201,7 +202,7 @@ accepted bytes ended = Exchanged (Accepted bytes ended)
 stood_over : (name : RegisterName) (k : ℕ) (bytes : List ℕ) (ended : Bool) (log : List Act)
     → set_by_scanner name k (accepted bytes ended ∷ log) ≡ set_by_scanner name k log
 stood_over name k bytes ended log = ap (λ (b : Bool). b || set_by_scanner name k log)
-    (no_change (has_bit (word name log) k) (has_bit (rise name log) k) (has_bit (fall name log) k))
+    (unchanged_bit_passes_none (has_bit (word name log) k) (has_bit (rise name log) k) (has_bit (fall name log) k))
 
 never_passes : (name : RegisterName) (k : ℕ) (bytes : List ℕ) (ended : Bool) (log : List Act)
     → Passes name k (accepted bytes ended ∷ log) → ⊥
@@ -210,7 +211,8 @@ never_passes name k bytes ended log h =
     (λ below. nested_same below (accepted bytes ended ∷ log) log refl (λ bit. stood_over below bit bytes ended log)) in
     let told : changes k (condition name log) (condition name log) (rise name log) (fall name log) ≡ true =
     sym (ap (λ (w : ℕ). changes k (condition name log) w (rise name log) (fall name log)) same) ∙ h in
-    let none = sym (no_change (has_bit (condition name log) k) (has_bit (rise name log) k) (has_bit (fall name log) k)) ∙ told in
+    let none = sym (unchanged_bit_passes_none (has_bit (condition name log) k) (has_bit (rise name log) k) (has_bit (fall name log) k))
+        ∙ told in
     absurd cc
 
 pending_over : (bytes : List ℕ) (ended : Bool) (log : List Act) → standard.Waits log → standard.IsPending (accepted bytes ended ∷ log)
@@ -269,10 +271,11 @@ pub text_raises_no_request : (bytes : List ℕ) (ended : Bool) (log : List Act) 
 text_raises_no_request bytes ended log h = h.1 ((request_over bytes ended log).0 h.0)
 
 pub polled_same : (k : ℕ) (log other : List Act) → SameStatus log other → PolledBit k log ↔ PolledBit k other
-polled_same k log other v = either_same unchanged (summary_bits_same k log other v.parts) (both_same v.request)
+polled_same k log other v = either_congruent iff_refl (summary_bits_same k log other v.parts) (both_congruent v.request)
 
 pub master_same : (k : ℕ) (log other : List Act) → SameStatus log other → MasterBit k log ↔ MasterBit k other
-master_same k log other v = either_same unchanged (summary_bits_same k log other v.parts) (both_same (masters_same log other v.parts))
+master_same k log other v = either_congruent iff_refl (summary_bits_same k log other v.parts)
+    (both_congruent (masters_same log other v.parts))
 
 iff_sym : {P Q : Type 0} → P ↔ Q → Q ↔ P
 iff_sym same = (same.1, same.0)
@@ -284,4 +287,4 @@ same_status_sym log other v = record {
 }
 
 pub same_status_refl : (log : List Act) → SameStatus log log
-same_status_refl log = record { parts = parts_same log; request = unchanged }
+same_status_refl log = record { parts = parts_same log; request = iff_refl }

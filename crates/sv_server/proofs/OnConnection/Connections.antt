@@ -17,9 +17,9 @@ use Rattle.sv_server.specs.Connection.Inside.NextCall.{kept_next}
 
 -- ---- lists
 
-abbrev none_left : List (List ℕ) → Bool
-none_left [] = true
-none_left (r ∷ rs) = false
+abbrev is_empty_list : List (List ℕ) → Bool
+is_empty_list [] = true
+is_empty_list (r ∷ rs) = false
 
 eqb_suc : (n m : ℕ) → eqb n m ≡ eqb (suc n) (suc m)
 eqb_suc n m = elim (cases_eq n m) [
@@ -28,26 +28,26 @@ eqb_suc n m = elim (cases_eq n m) [
       rw (ne_eqb n m ne, ne_eqb (suc n) (suc m) (λ e. ne (omega arith))) refl
 ]
 
-all_dropped : (xs : List (List ℕ)) (n : ℕ) → n ≤ length xs → none_left (drop n xs) ≡ eqb n (length xs)
-all_dropped [] zero h = refl
-all_dropped [] (suc n) h = absurd (omega arith)
-all_dropped (x ∷ xs) zero h = sym (ne_eqb 0 (length (x ∷ xs)) (λ e. absurd (omega arith)))
-all_dropped (x ∷ xs) (suc n) h = all_dropped xs n (omega arith) ∙ eqb_suc n (length xs)
+drop_all_is_empty : (xs : List (List ℕ)) (n : ℕ) → n ≤ length xs → is_empty_list (drop n xs) ≡ eqb n (length xs)
+drop_all_is_empty [] zero h = refl
+drop_all_is_empty [] (suc n) h = absurd (omega arith)
+drop_all_is_empty (x ∷ xs) zero h = sym (ne_eqb 0 (length (x ∷ xs)) (λ e. absurd (omega arith)))
+drop_all_is_empty (x ∷ xs) (suc n) h = drop_all_is_empty xs n (omega arith) ∙ eqb_suc n (length xs)
 
-first_left : (xs : List (List ℕ)) (n : ℕ) → slice_get (drop n xs) 0 ≡ slice_get xs n
-first_left [] zero = refl
-first_left [] (suc n) = refl
-first_left (x ∷ xs) zero = refl
-first_left (x ∷ xs) (suc n) = first_left xs n
+first_of_drop : (xs : List (List ℕ)) (n : ℕ) → slice_get (drop n xs) 0 ≡ slice_get xs n
+first_of_drop [] zero = refl
+first_of_drop [] (suc n) = refl
+first_of_drop (x ∷ xs) zero = refl
+first_of_drop (x ∷ xs) (suc n) = first_of_drop xs n
 
 -- Appending to a list that isn't empty keeps its first element.
-pub first_stays : (xs ys : List (List ℕ)) → xs ≢ [] → slice_get (xs ++ ys) 0 ≡ slice_get xs 0
-first_stays [] ys some = absurd (some refl)
-first_stays (x ∷ xs) ys some = refl
+pub first_kept_by_append : (xs ys : List (List ℕ)) → xs ≢ [] → slice_get (xs ++ ys) 0 ≡ slice_get xs 0
+first_kept_by_append [] ys some = absurd (some refl)
+first_kept_by_append (x ∷ xs) ys some = refl
 
-pub some_stay : (xs ys zs : List (List ℕ)) → zs ≡ xs ++ ys → xs ≢ [] → zs ≢ []
-some_stay [] ys zs e some = absurd (some refl)
-some_stay (x ∷ xs) ys zs e some = λ none. absurd (let z = sym none ∙ e in cc)
+pub nonempty_after_append : (xs ys zs : List (List ℕ)) → zs ≡ xs ++ ys → xs ≢ [] → zs ≢ []
+nonempty_after_append [] ys zs e some = absurd (some refl)
+nonempty_after_append (x ∷ xs) ys zs e some = λ none. absurd (let z = sym none ∙ e in cc)
 
 -- ---- the input
 
@@ -63,19 +63,19 @@ few_ended : (kept : Connection) (acts : List ConnAct) → IsConnection kept acts
 few_ended kept acts is =
     omega (arith, is.input.bounded, ap length (read_alone (stream acts) is.input.all kept.input.tail is.input.splits).0)
 
-pub next_is : (kept : Connection) (acts : List ConnAct) → IsConnection kept acts → kept_next kept ≡ next_call acts
-next_is kept acts is =
+pub kept_next_is_next : (kept : Connection) (acts : List ConnAct) → IsConnection kept acts → kept_next kept ≡ next_call acts
+kept_next_is_next kept acts is =
     ap (λ (b : Bool). cond (b || kept.busy) None (slice_get kept.input.records 0)) is.faulted
     ∙ ap (λ (b : Bool). cond (took_no_call acts || b) None (slice_get kept.input.records 0)) is.busy
     ∙ ap (cond (took_no_call acts || is_busy acts) None)
-    (ap (λ (rs : List (List ℕ)). slice_get rs 0) (records_are kept acts is) ∙ first_left (records_of (stream acts)) (records_ended acts))
+    (ap (λ (rs : List (List ℕ)). slice_get rs 0) (records_are kept acts is) ∙ first_of_drop (records_of (stream acts)) (records_ended acts))
 
 -- Whether the buffer returns a fault.
 abbrev pub is_fault : Result (Option (List ℕ)) RpcFault → Bool
 is_fault (Ok found) = false
 is_fault (Err RecordTooLong) = true
 
-fault_among : (records : List (List ℕ)) (tail : Tail) → is_fault (next_among records tail) ≡ (ends_overlong tail && none_left records)
+fault_among : (records : List (List ℕ)) (tail : Tail) → is_fault (next_among records tail) ≡ (ends_overlong tail && is_empty_list records)
 fault_among (r ∷ rs) (Header payload header) = refl
 fault_among (r ∷ rs) (Data payload missing last) = refl
 fault_among (r ∷ rs) TooLong = refl
@@ -83,32 +83,33 @@ fault_among [] (Header payload header) = refl
 fault_among [] (Data payload missing last) = refl
 fault_among [] TooLong = refl
 
-turned : (a b : Bool) → (a || b) ≡ (b || a)
-turned true true = refl
-turned true false = refl
-turned false true = refl
-turned false false = refl
+or_commutes : (a b : Bool) → (a || b) ≡ (b || a)
+or_commutes true true = refl
+or_commutes true false = refl
+or_commutes false true = refl
+or_commutes false false = refl
 
 -- A connection is faulted if its buffer returns a fault, or if it took a record that isn't a call.
 pub faulted_is : (kept : Connection) (acts : List ConnAct) → IsConnection kept acts
     → (is_fault (next_among kept.input.records kept.input.tail) || kept.faulted) ≡ is_faulted acts
 faulted_is kept acts is =
-    let left : none_left kept.input.records ≡ eqb (records_ended acts) (length (records_of (stream acts))) =
-    ap none_left (records_are kept acts is) ∙ all_dropped (records_of (stream acts)) (records_ended acts) (few_ended kept acts is) in
-    turned (is_fault (next_among kept.input.records kept.input.tail)) kept.faulted
+    let left : is_empty_list kept.input.records ≡ eqb (records_ended acts) (length (records_of (stream acts))) =
+    ap is_empty_list (records_are kept acts is) ∙ drop_all_is_empty (records_of (stream acts)) (records_ended acts) (few_ended kept acts is)
+        in
+    or_commutes (is_fault (next_among kept.input.records kept.input.tail)) kept.faulted
     ∙ ap (λ (b : Bool). b || is_fault (next_among kept.input.records kept.input.tail)) is.faulted
     ∙ ap (λ (b : Bool). took_no_call acts || b) (fault_among kept.input.records kept.input.tail
     ∙ ap (λ (b : Bool). ends_overlong kept.input.tail && b) left
     ∙ ap (λ (t : Tail). ends_overlong t && eqb (records_ended acts) (length (records_of (stream acts)))) (tail_is kept acts is))
 
 -- A record that is too long is the only fault of the buffer.
-one_fault : (fault : RpcFault) (answer : Result (Option (List ℕ)) RpcFault) → answer ≡ Err fault → is_fault answer ≡ true
-one_fault RecordTooLong answer e = ap is_fault e
+any_fault_is_fault : (fault : RpcFault) (answer : Result (Option (List ℕ)) RpcFault) → answer ≡ Err fault → is_fault answer ≡ true
+any_fault_is_fault RecordTooLong answer e = ap is_fault e
 
-pub faulted_told : (kept : Connection) (acts : List ConnAct) → IsConnection kept acts → (fault : RpcFault)
+pub fault_means_faulted : (kept : Connection) (acts : List ConnAct) → IsConnection kept acts → (fault : RpcFault)
     → next_among kept.input.records kept.input.tail ≡ Err fault → true ≡ is_faulted acts
-faulted_told kept acts is fault e =
-    sym (ap (λ (b : Bool). b || kept.faulted) (one_fault fault _ e)) ∙ faulted_is kept acts is
+fault_means_faulted kept acts is fault e =
+    sym (ap (λ (b : Bool). b || kept.faulted) (any_fault_is_fault fault _ e)) ∙ faulted_is kept acts is
 
 pub overlong_is : (kept : Connection) (acts : List ConnAct) → IsConnection kept acts → ends_overlong kept.input.tail ≡ is_overlong acts
 overlong_is kept acts is = ap ends_overlong (tail_is kept acts is)
@@ -126,9 +127,9 @@ no_room kept acts is shut =
 
 -- ---- a call that is taken
 
-not_none : (b : Bool) (found : Option (List ℕ)) (call : List ℕ) → cond b None found ≡ Some call → found ≡ Some call
-not_none true found call e = absurd cc
-not_none false found call e = e
+some_from_cond : (b : Bool) (found : Option (List ℕ)) (call : List ℕ) → cond b None found ≡ Some call → found ≡ Some call
+some_from_cond true found call e = absurd cc
+some_from_cond false found call e = e
 
 pub took_call : (kept : Connection) (acts : List ConnAct) (call : List ℕ) → IsConnection kept acts → next_call acts ≡ Some call
     → IsConnection (record kept { busy = true }) (CallTaken call ∷ acts)
@@ -139,13 +140,13 @@ took_call kept acts call is next = record {
   bounded = is.bounded;
   faulted = is.faulted;
   busy = refl;
-  call = λ busy. not_none (kept.faulted || kept.busy) _ call (next_is kept acts is ∙ next);
+  call = λ busy. some_from_cond (kept.faulted || kept.busy) _ call (kept_next_is_next kept acts is ∙ next);
 }
 
 -- No call is found exactly if the connection is idle.
-pub idle_told : (found : Option (Bor (List ℕ))) (none : Bool) (acts : List ConnAct) → is_some found ≡ not none
+pub idle_if_none_found : (found : Option (Bor (List ℕ))) (none : Bool) (acts : List ConnAct) → is_some found ≡ not none
     → option_map (λ call. call.now) found ≡ next_call acts → none ≡ is_idle acts
-idle_told None true acts told e = ap is_none e
-idle_told None false acts told e = absurd cc
-idle_told (Some call) true acts told e = absurd cc
-idle_told (Some call) false acts told e = ap is_none e
+idle_if_none_found None true acts told e = ap is_none e
+idle_if_none_found None false acts told e = absurd cc
+idle_if_none_found (Some call) true acts told e = absurd cc
+idle_if_none_found (Some call) false acts told e = ap is_none e

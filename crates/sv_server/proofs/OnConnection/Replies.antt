@@ -27,8 +27,8 @@ pub success_is_short : (xid : ℕ) → length (concat (map spelling (reply_field
 success_is_short xid = refl
 
 -- Opaque data are spelled as one word with the length, and the data padded to whole words.
-text_is_short : (words : ℕ) (bytes : List ℕ) → length bytes ≤ 4 * words + 4 → length (spelling (Opaque bytes)) ≤ 4 * words + 8
-text_is_short words bytes h = omega (
+opaque_is_short : (words : ℕ) (bytes : List ℕ) → length bytes ≤ 4 * words + 4 → length (spelling (Opaque bytes)) ≤ 4 * words + 8
+opaque_is_short words bytes h = omega (
   arith,
   length-append bytes (replicate (pad_len (length bytes)) 0),
   length-replicate {A = ℕ} (pad_len (length bytes)) 0,
@@ -40,10 +40,10 @@ result_is_short : (words : ℕ) (outcome : Outcome) → length (data_of outcome)
     → length (concat (map spelling (result_fields outcome))) ≤ 4 * words + 16
 result_is_short words (Read error reason bytes) h =
     let text = data_of (Read error reason bytes) in
-    omega (arith, text_is_short words text h, length-append (spelling (Opaque text)) [])
+    omega (arith, opaque_is_short words text h, length-append (spelling (Opaque text)) [])
 result_is_short words (Data error bytes) h =
     let text = data_of (Data error bytes) in
-    omega (arith, text_is_short words text h, length-append (spelling (Opaque text)) [])
+    omega (arith, opaque_is_short words text h, length-append (spelling (Opaque text)) [])
 result_is_short words _ h = omega arith
 
 -- The header of a reply and its fields are both written completely if they fit.

@@ -17,7 +17,7 @@ use Rattle.sv_history.specs.Requests.{HearsOf}
 use Rattle.sv_server.specs.Device.Representation.{Device, IsDevice, IsReserved, AreOwned, AreReady}
 use Rattle.sv_history.proofs.Projections.{wait_acts_links}
 use Rattle.sv_server.proofs.OnDevice.Parts.{dials_left}
-use Rattle.sv_server.proofs.OnDevice.Owned.{room_for, owned_enabled}
+use Rattle.sv_server.proofs.OnDevice.Owned.{room_to_enable_srq, owned_enabled}
 
 -- A channel acts, and the rest of the device stays.
 pub device_channel : (kept : Device) (intr : Channels) (config : Config) (acts : List DeviceAct) (act : ChannelAct)
@@ -106,7 +106,8 @@ pub room_there : (kept : Device) (config : Config) (acts : List DeviceAct) (lid 
     → owner lid (link_acts acts) ≡ Some conn → HasRoomFor lid kept.intr
 room_there kept config acts lid conn is owns =
     let (channel_log, tells, are, owned) = is.6 in
-    room_for kept.intr.enabled (link_acts acts) lid conn (rw are.enabled (enabled_sorted channel_log)) owned owns (omega (arith, is.5.0))
+    room_to_enable_srq kept.intr.enabled (link_acts acts) lid conn (rw are.enabled (enabled_sorted channel_log)) owned owns
+        (omega (arith, is.5.0))
 
 pub device_enabled : (kept : Device) (intr : Channels) (config : Config) (acts : List DeviceAct) (lid conn : ℕ) (handle : List ℕ)
     → IsDevice kept config acts → owner lid (link_acts acts) ≡ Some conn

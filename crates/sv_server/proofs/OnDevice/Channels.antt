@@ -26,16 +26,16 @@ channels_of kept config acts channel_log is tells =
     subst (λ (l : List ChannelAct). AreChannels kept.intr l) (channel_log_unique acts is.6.0 channel_log is.6.1 tells) is.6.2
 
 -- Bytes wait only on an open channel.
-waits_where : (open_now : Bool) (bytes : List ℕ) → 0 < length (cond open_now bytes []) → open_now ≡ true
-waits_where true bytes some = refl
-waits_where false bytes some = absurd (omega arith)
+open_if_some_wait : (open_now : Bool) (bytes : List ℕ) → 0 < length (cond open_now bytes []) → open_now ≡ true
+open_if_some_wait true bytes some = refl
+open_if_some_wait false bytes some = absurd (omega arith)
 
-waits_nowhere : (open_now : Bool) (bytes : List ℕ) → open_now ≡ false → cond open_now bytes [] ≡ []
-waits_nowhere open_now bytes shut = ap (λ (b : Bool). cond b bytes []) shut
+none_wait_if_shut : (open_now : Bool) (bytes : List ℕ) → open_now ≡ false → cond open_now bytes [] ≡ []
+none_wait_if_shut open_now bytes shut = ap (λ (b : Bool). cond b bytes []) shut
 
-pub channel_open : (c : ℕ) (channel_log : List ChannelAct) → 0 < length (channel_waiting c channel_log)
+pub channel_open_if_some_wait : (c : ℕ) (channel_log : List ChannelAct) → 0 < length (channel_waiting c channel_log)
     → is_channel_open c channel_log ≡ true
-channel_open c channel_log some = waits_where (is_channel_open c channel_log)
+channel_open_if_some_wait c channel_log some = open_if_some_wait (is_channel_open c channel_log)
     (concat (calls_left (bytes_taken c channel_log) (calls c channel_log))) some
 
 -- No channel with a number above 15 is open.
@@ -45,11 +45,11 @@ beyond_shut : (kept : KeptDevice) (config : Config) (acts : List DeviceAct) (cha
 beyond_shut kept config acts channel_log c is tells above =
     ap (λ (o : Option Peer). is_some o) ((channels_of kept config acts channel_log is tells).beyond c above)
 
-pub none_beyond : (kept : KeptDevice) (config : Config) (acts : List DeviceAct) (channel_log : List ChannelAct) (c : ℕ)
+pub none_wait_beyond : (kept : KeptDevice) (config : Config) (acts : List DeviceAct) (channel_log : List ChannelAct) (c : ℕ)
     → IsDevice kept config acts
     → HearsOf acts channel_log → 16 ≤ c → channel_waiting c channel_log ≡ []
-none_beyond kept config acts channel_log c is tells above =
-    waits_nowhere (is_channel_open c channel_log) (concat (calls_left (bytes_taken c channel_log) (calls c channel_log)))
+none_wait_beyond kept config acts channel_log c is tells above =
+    none_wait_if_shut (is_channel_open c channel_log) (concat (calls_left (bytes_taken c channel_log) (calls c channel_log)))
     (beyond_shut kept config acts channel_log c is tells above)
 
 pub channel_within : (kept : KeptDevice) (config : Config) (acts : List DeviceAct) (channel_log : List ChannelAct) (c : ℕ)
@@ -63,8 +63,8 @@ channel_within kept config acts channel_log c is tells there = elim (cases_lt c 
 pub channel_shut_is : (c : ℕ) (log : List Act) (b : Bool) → c < 16 → has_channel c (device_acts log) ≡ b → is_channel_shut c log ≡ not b
 channel_shut_is c log b lt e = rw (le-ltb 15 c (omega arith), e) refl
 
-pub channel_there : (c : ℕ) (log : List Act) → is_channel_shut c log ≡ false → has_channel c (device_acts log) ≡ true
-channel_there c log unshut = neither (nat_lt 15 c) (has_channel c (device_acts log)) unshut
+pub has_channel_if_open : (c : ℕ) (log : List Act) → is_channel_shut c log ≡ false → has_channel c (device_acts log) ≡ true
+has_channel_if_open c log unshut = neither (nat_lt 15 c) (has_channel c (device_acts log)) unshut
   where
     neither : (a b : Bool) → (a || not b) ≡ false → b ≡ true
     neither a true e = refl
@@ -75,9 +75,9 @@ pub channel_beyond : (c : ℕ) (log : List Act) → 16 ≤ c → is_channel_shut
 channel_beyond c log above = rw (lt-ltb 15 c (omega arith)) refl
 
 -- A Took of one channel leaves the bytes that wait on another.
-pub took_other : (c d count : ℕ) (channel_log : List ChannelAct) → d ≢ c
+pub took_leaves_other_channel : (c d count : ℕ) (channel_log : List ChannelAct) → d ≢ c
     → channel_waiting c (ChannelTaken d count ∷ channel_log) ≡ channel_waiting c channel_log
-took_other c d count channel_log ne = rw (ne_eqb d c ne) refl
+took_leaves_other_channel c d count channel_log ne = rw (ne_eqb d c ne) refl
 
 -- A Took is refused exactly if it counts more bytes than wait.
 pub took_refused : (count : ℕ) (bytes found : List ℕ) → found ≡ bytes → length found < count → took_refusal count bytes ≡ Some NotSent
@@ -87,8 +87,8 @@ pub took_allowed : (count : ℕ) (bytes found : List ℕ) → found ≡ bytes �
 took_allowed count bytes found same few = rw (← same, le-ltb (length found) count few) refl
 
 -- A connection whose create_intr_chan waits for its peer has a suspended call.
-pub dialing_waits : (c : ℕ) (acts : List WaitAct) → is_dialing c acts ≡ true → waits c acts ≡ None → ⊥
-dialing_waits c acts e none = absurd (let z : false ≡ true = sym (ap is_dial none) ∙ e in cc)
+pub dialing_call_is_suspended : (c : ℕ) (acts : List WaitAct) → is_dialing c acts ≡ true → waits c acts ≡ None → ⊥
+dialing_call_is_suspended c acts e none = absurd (let z : false ≡ true = sym (ap is_dial none) ∙ e in cc)
 
 -- The peer to connect to is the one that the suspended create_intr_chan names.
 pub dial_is : (c : ℕ) (log : List Act) (call : Option CoreCall) → is_dialing c (wait_acts (device_acts log)) ≡ true

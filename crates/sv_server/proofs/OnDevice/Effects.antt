@@ -45,14 +45,14 @@ taken_parts : (c : ℕ) (effect : Effect) (call : List ℕ) (log : List Act)
     → (acts_of c effect ++ On c (CallTaken call) ∷ []) ++ log ≡ acts_of c effect ++ On c (CallTaken call) ∷ log
 taken_parts c effect call log = append_assoc (acts_of c effect) (On c (CallTaken call) ∷ []) log
 
-pub of_taken : (c : ℕ) (effect : Effect) (call : List ℕ) (log : List Act)
+pub own_acts_after_taken : (c : ℕ) (effect : Effect) (call : List ℕ) (log : List Act)
     → of c ((acts_of c effect ++ On c (CallTaken call) ∷ []) ++ log) ≡ effect.own ++ CallTaken call ∷ of c log
-of_taken c effect call log = ap (of c) (taken_parts c effect call log) ∙ of_effect c effect (On c (CallTaken call) ∷ log)
+own_acts_after_taken c effect call log = ap (of c) (taken_parts c effect call log) ∙ of_effect c effect (On c (CallTaken call) ∷ log)
     ∙ ap (λ (acts : List ConnAct). effect.own ++ acts) (of_own_act c (CallTaken call) log)
 
-pub others_taken : (c d : ℕ) (effect : Effect) (call : List ℕ) (log : List Act) → d ≢ c
+pub other_acts_after_taken : (c d : ℕ) (effect : Effect) (call : List ℕ) (log : List Act) → d ≢ c
     → of d ((acts_of c effect ++ On c (CallTaken call) ∷ []) ++ log) ≡ of d log
-others_taken c d effect call log ne = ap (of d) (taken_parts c effect call log)
+other_acts_after_taken c d effect call log ne = ap (of d) (taken_parts c effect call log)
     ∙ of_others_effect c d effect (On c (CallTaken call) ∷ log) ne ∙ of_other_act c d (CallTaken call) log ne
 
 pub device_taken : (c : ℕ) (effect : Effect) (call : List ℕ) (log : List Act)
@@ -60,5 +60,5 @@ pub device_taken : (c : ℕ) (effect : Effect) (call : List ℕ) (log : List Act
 device_taken c effect call log = ap device_acts (taken_parts c effect call log) ∙ device_effect c effect (On c (CallTaken call) ∷ log)
 
 -- An effect without acts of its connection leaves the acts of every connection.
-pub of_same : (c d : ℕ) (effect : Effect) (log : List Act) → effect.own ≡ [] → of d (acts_of c effect ++ log) ≡ of d log
-of_same c d effect log none = rw none (of_device_acts d effect.adds log)
+pub acts_of_effect_without_own : (c d : ℕ) (effect : Effect) (log : List Act) → effect.own ≡ [] → of d (acts_of c effect ++ log) ≡ of d log
+acts_of_effect_without_own c d effect log none = rw none (of_device_acts d effect.adds log)

@@ -31,10 +31,10 @@ all_join : (P : Enabled → Type 0) (links more : List Enabled) → AllByRecursi
 all_join P [] more h k = k
 all_join P (link ∷ links) more h k = (h.0, all_join P links more h.1 k)
 
-all_of : (P Q : Enabled → Type 0) (links : List Enabled) → ((link : Enabled) → P link → Q link) → AllByRecursion P links
+all_implied : (P Q : Enabled → Type 0) (links : List Enabled) → ((link : Enabled) → P link → Q link) → AllByRecursion P links
     → AllByRecursion Q links
-all_of P Q [] so h = tt
-all_of P Q (link ∷ links) so h = (so link h.0, all_of P Q links so h.1)
+all_implied P Q [] so h = tt
+all_implied P Q (link ∷ links) so h = (so link h.0, all_implied P Q links so h.1)
 
 -- ---- the owner of a link number
 
@@ -42,11 +42,11 @@ abbrev owner_in : ℕ → List Link → Option ℕ
 owner_in lid xs = option_map (λ link. link.conn) (find (λ link. eqb link.lid lid) xs)
 
 -- Appending links keeps the owner of a number.
-owner_push : (lid conn : ℕ) (xs ys : List Link) → owner_in lid xs ≡ Some conn → owner_in lid (xs ++ ys) ≡ Some conn
-owner_push lid conn [] ys h = absurd cc
-owner_push lid conn (x ∷ xs) ys h = elim (cases_Bool (eqb x.lid lid)) [
+owner_kept_by_append : (lid conn : ℕ) (xs ys : List Link) → owner_in lid xs ≡ Some conn → owner_in lid (xs ++ ys) ≡ Some conn
+owner_kept_by_append lid conn [] ys h = absurd cc
+owner_kept_by_append lid conn (x ∷ xs) ys h = elim (cases_Bool (eqb x.lid lid)) [
   | inl e ↦ rw e (rw e at h)
-  | inr e ↦ rw e (owner_push lid conn xs ys (rw e at h))
+  | inr e ↦ rw e (owner_kept_by_append lid conn xs ys (rw e at h))
 ]
 
 -- A filter that each link with this number passes keeps the owner.
@@ -70,9 +70,9 @@ owner_other gone lid conn xs ne h =
 
 -- Creating a link keeps the owners of the other links.
 pub owned_made : (links : List Enabled) (acts : List LinkAct) (lid conn : ℕ) → AreOwned links acts → AreOwned links (Made lid conn ∷ acts)
-owned_made links acts lid conn owned = all_of (λ link. owner link.lid acts ≡ Some link.conn)
+owned_made links acts lid conn owned = all_implied (λ link. owner link.lid acts ≡ Some link.conn)
     (λ link. owner link.lid (Made lid conn ∷ acts) ≡ Some link.conn) links
-    (λ link h. owner_push link.lid link.conn (live acts) (record { lid = lid; conn = conn } ∷ []) h) owned
+    (λ link h. owner_kept_by_append link.lid link.conn (live acts) (record { lid = lid; conn = conn } ∷ []) h) owned
 
 not_same : (a b : ℕ) → not (eqb a b) ≡ true → a ≢ b
 not_same a b e same = absurd (let z : not true ≡ true = rw (eq-eqb a b same) at e in cc)
@@ -97,16 +97,16 @@ owned_enabled links acts lid conn handle owned own =
 -- ---- a connection that is closed
 
 -- Whether the number is in the list.
-abbrev named : ℕ → List ℕ → Bool
-named lid numbers = list_any (λ number. eqb number lid) numbers
+abbrev is_among : ℕ → List ℕ → Bool
+is_among lid numbers = list_any (λ number. eqb number lid) numbers
 
-none_named : (x : Link) (xs : List Link) → AllByRecursion (IsOlder x) xs → named x.lid (map (λ link. link.lid) xs) ≡ false
+none_named : (x : Link) (xs : List Link) → AllByRecursion (IsOlder x) xs → is_among x.lid (map (λ link. link.lid) xs) ≡ false
 none_named x [] h = refl
 none_named x (y ∷ xs) h = rw (ne_eqb y.lid x.lid (λ e. absurd (omega (arith, h.0, e)))) (none_named x xs h.1)
 
 -- A number is among those of the connection's links exactly if the connection owns it.
 named_owner : (c lid : ℕ) (xs : List Link) (last : ℕ) → IsRising xs last
-    → named lid (map (λ link. link.lid) (filter (λ link. eqb link.conn c) xs)) ≡ is_of c (owner_in lid xs)
+    → is_among lid (map (λ link. link.lid) (filter (λ link. eqb link.conn c) xs)) ≡ is_of c (owner_in lid xs)
 named_owner c lid [] last r = refl
 named_owner c lid (x ∷ xs) last r = elim (cases_Bool (eqb x.lid lid)) [
   | inl e ↦ elim (cases_Bool (eqb x.conn c)) [
@@ -134,12 +134,12 @@ filter_agree p q (link ∷ links) h = elim (cases_Bool (q link)) [
 
 -- Filtering out one number and then others is filtering out all of them.
 filter_more : (number : ℕ) (numbers : List ℕ) (links : List Enabled)
-    → filter (λ link. not (named link.lid numbers)) (filter (λ link. not (eqb link.lid number)) links)
-    ≡ filter (λ link. not (named link.lid (number ∷ numbers))) links
+    → filter (λ link. not (is_among link.lid numbers)) (filter (λ link. not (eqb link.lid number)) links)
+    ≡ filter (λ link. not (is_among link.lid (number ∷ numbers))) links
 filter_more number numbers [] = refl
 filter_more number numbers (link ∷ links) = elim (cases_eq number link.lid) [
   | inl e ↦ rw (eq-eqb number link.lid e, eq-eqb link.lid number (sym e)) (filter_more number numbers links)
-  | inr ne ↦ elim (cases_Bool (named link.lid numbers)) [
+  | inr ne ↦ elim (cases_Bool (is_among link.lid numbers)) [
     | inl k ↦ rw (ne_eqb number link.lid ne, ne_eqb link.lid number (λ e. ne (sym e)), k) (filter_more number numbers links)
     | inr k ↦ rw (ne_eqb number link.lid ne, ne_eqb link.lid number (λ e. ne (sym e)), k)
         (ap (λ (l : List Enabled). link ∷ l) (filter_more number numbers links))
@@ -147,7 +147,7 @@ filter_more number numbers (link ∷ links) = elim (cases_eq number link.lid) [
 ]
 
 disabled_named : (numbers behind : List ℕ) (links : List Enabled)
-    → without_links (reverse_aux numbers behind) links ≡ filter (λ link. not (named link.lid numbers)) (without_links behind links)
+    → without_links (reverse_aux numbers behind) links ≡ filter (λ link. not (is_among link.lid numbers)) (without_links behind links)
 disabled_named [] behind links = sym (filter_all (without_links behind links))
 disabled_named (number ∷ numbers) behind links =
     disabled_named numbers (number ∷ behind) links ∙ filter_more number numbers (without_links behind links)
@@ -156,9 +156,9 @@ disabled_named (number ∷ numbers) behind links =
 pub closed_disabled : (links : List Enabled) (acts : List LinkAct) (c last : ℕ) → IsRising (live acts) last → AreOwned links acts
     → without_links (reverse (links_of c acts)) links ≡ of_others c links
 closed_disabled links acts c last rising owned = disabled_named (links_of c acts) [] links
-    ∙ filter_agree (λ link. not (named link.lid (links_of c acts))) (λ link. not (eqb link.conn c)) links
-    (all_of (λ link. owner link.lid acts ≡ Some link.conn)
-    (λ link. not (named link.lid (links_of c acts)) ≡ not (eqb link.conn c)) links
+    ∙ filter_agree (λ link. not (is_among link.lid (links_of c acts))) (λ link. not (eqb link.conn c)) links
+    (all_implied (λ link. owner link.lid acts ≡ Some link.conn)
+    (λ link. not (is_among link.lid (links_of c acts)) ≡ not (eqb link.conn c)) links
     (λ link h. ap (λ (b : Bool). not b) (named_owner c link.lid (live acts) last rising ∙ ap (is_of c) h)) owned)
 
 -- Turning numbers into acts commutes with reversing them.
@@ -196,19 +196,19 @@ tells_closed c acts channel_log tells = rw (closing_numbers c (link_acts acts))
 
 -- ---- how many links have service requests enabled
 
-no_more : (test : Link → Bool) (xs : List Link) → length (filter test xs) ≤ length xs
-no_more test [] = omega arith
-no_more test (x ∷ xs) = elim (cases_Bool (test x)) [
-  | inl e ↦ rw e (omega (arith, no_more test xs))
-  | inr e ↦ rw e (omega (arith, no_more test xs))
+filter_is_no_longer : (test : Link → Bool) (xs : List Link) → length (filter test xs) ≤ length xs
+filter_is_no_longer test [] = omega arith
+filter_is_no_longer test (x ∷ xs) = elim (cases_Bool (test x)) [
+  | inl e ↦ rw e (omega (arith, filter_is_no_longer test xs))
+  | inr e ↦ rw e (omega (arith, filter_is_no_longer test xs))
 ]
 
 -- Filtering out a link that exists leaves fewer links.
-fewer : (lid conn : ℕ) (xs : List Link) → owner_in lid xs ≡ Some conn → length (filter (other_than lid) xs) < length xs
-fewer lid conn [] h = absurd cc
-fewer lid conn (x ∷ xs) h = elim (cases_Bool (eqb x.lid lid)) [
-  | inl e ↦ rw e (omega (arith, no_more (other_than lid) xs))
-  | inr e ↦ rw e (omega (arith, fewer lid conn xs (rw e at h)))
+filter_is_shorter : (lid conn : ℕ) (xs : List Link) → owner_in lid xs ≡ Some conn → length (filter (other_than lid) xs) < length xs
+filter_is_shorter lid conn [] h = absurd cc
+filter_is_shorter lid conn (x ∷ xs) h = elim (cases_Bool (eqb x.lid lid)) [
+  | inl e ↦ rw e (omega (arith, filter_is_no_longer (other_than lid) xs))
+  | inr e ↦ rw e (omega (arith, filter_is_shorter lid conn xs (rw e at h)))
 ]
 
 owned_above : (lid : ℕ) (xs : List Link) (links : List Enabled) → AllByRecursion (λ other. lid < other.lid) links
@@ -221,20 +221,20 @@ owned_above lid xs (link ∷ links) high owned = (
 )
 
 -- At most as many links have service requests enabled as there are live links.
-no_more_than : (links : List Enabled) (xs : List Link) → IsSorted links
+enabled_no_more_than_live : (links : List Enabled) (xs : List Link) → IsSorted links
     → AllByRecursion (λ link. owner_in link.lid xs ≡ Some link.conn) links → length links ≤ length xs
-no_more_than [] xs sorted owned = omega arith
-no_more_than (link ∷ links) xs sorted owned = omega (
+enabled_no_more_than_live [] xs sorted owned = omega arith
+enabled_no_more_than_live (link ∷ links) xs sorted owned = omega (
   arith,
-  no_more_than links (filter (other_than link.lid) xs) sorted.1 (owned_above link.lid xs links sorted.0 owned.1),
-  fewer link.lid link.conn xs owned.0,
+  enabled_no_more_than_live links (filter (other_than link.lid) xs) sorted.1 (owned_above link.lid xs links sorted.0 owned.1),
+  filter_is_shorter link.lid link.conn xs owned.0,
 )
 
 -- So there is room for each live link to enable service requests.
-pub room_for : (links : List Enabled) (acts : List LinkAct) (lid conn : ℕ) → IsSorted links → AreOwned links acts
+pub room_to_enable_srq : (links : List Enabled) (acts : List LinkAct) (lid conn : ℕ) → IsSorted links → AreOwned links acts
     → owner lid acts ≡ Some conn → length (live acts) ≤ max_links → length (filter (λ other. not (other.lid == lid)) links) < max_links
-room_for links acts lid conn sorted owned own within =
+room_to_enable_srq links acts lid conn sorted owned own within =
     let left : length (filter (λ (other : Enabled). not (eqb other.lid lid)) links) ≤ length (filter (other_than lid) (live acts))
-    = no_more_than (filter (λ other. not (eqb other.lid lid)) links) (filter (other_than lid) (live acts))
+    = enabled_no_more_than_live (filter (λ other. not (eqb other.lid lid)) links) (filter (other_than lid) (live acts))
     (sorted_filter (λ other. not (eqb other.lid lid)) links sorted) (owned_destroyed links acts lid owned) in
-    omega (arith, left, fewer lid conn (live acts) own, within)
+    omega (arith, left, filter_is_shorter lid conn (live acts) own, within)

@@ -27,20 +27,20 @@ use Rattle.sv_server.specs.Replay.Replays.{Replays}
 use Rattle.sv_server.specs.Replay.Inside.Showing.{Left}
 use Rattle.sv_server.specs.Explain.Telling.{Explains, Told, Tells, ToldOf, IsStillTick, clock_at, clock_after, taken_line}
 use Rattle.sv_server.specs.Explain.Inside.Steps.{IsActed, lines_before, tick_line}
-use Rattle.sv_server.proofs.OnServer.Steps.{polled_now, told_now}
-use Rattle.sv_server.proofs.OnServer.Standing.{stands_acted, answered}
-use Rattle.sv_server.proofs.OnReplay.Telling.{AllTold, event_lines, refused_lines}
+use Rattle.sv_server.proofs.OnServer.Steps.{polled_now, channel_log_exists}
+use Rattle.sv_server.proofs.OnServer.Standing.{stands_acted, answers_by_log}
+use Rattle.sv_server.proofs.OnReplay.Telling.{AllStepsTold, event_lines, refused_lines}
 
 -- ---- the explanation of an event
 
 -- The event was refused.
-pub told_refused : (line : ℕ) (config : Config) (event : PlainEvent) (log : List Act) (refused : Refused) (old new : State)
+pub refused_event_is_explained : (line : ℕ) (config : Config) (event : PlainEvent) (log : List Act) (refused : Refused) (old new : State)
     (w0 w1 w2 : Option (List ℕ)) (f0 f1 f2 : Bool)
     → Represents old config log → Acts config event log (Err refused) new → new ≡ old
     → Prints w0 f0 w1 f1 (lines_before line config event log) → Prints w1 f1 w2 f2 (tick_line line new.device.clock event)
     → IsActed config event log (Err refused) old new
     × ((told : List ℕ) × ToldOf line config event log (Err refused) told × Prints w0 f0 w2 f2 told)
-told_refused line config event log refused old new w0 w1 w2 f0 f1 f2 rep acts same first second = (
+refused_event_is_explained line config event log refused old new w0 w1 w2 f0 f1 f2 rep acts same first second = (
   (subst (λ (s : State). Acts config event log (Err refused) s) same acts, same),
   (
     head_line line (clock_at config log) ++ taken_line event log,
@@ -65,7 +65,7 @@ module _ (line : ℕ) (config : Config) (event : PlainEvent) (log : List Act) (d
   pub told_applied : Represents old config log → Acts config event log (Ok did) mid → IsShown before log
       → Prints w0 f0 w1 f1 (lines_before line config event log) → Prints w1 f1 w2 f2 (tick_line line mid.device.clock event)
       → ((k : Config) (l : List Act) → Represents mid k l → IsShown after l × Prints w2 f2 w3 f3 (changes before after))
-      → AllTold mid new after w3 f3 w4 f4
+      → AllStepsTold mid new after w3 f3 w4 f4
       → IsActed config event log (Ok did) old new
       × ((told : List ℕ) × ToldOf line config event log (Ok did) told × Prints w0 f0 w4 f4 told)
   told_applied rep (free, does, makes) shows first second tell settle =
@@ -125,19 +125,19 @@ module _ (line : ℕ) (config : Config) (c : ℕ) (piece : List ℕ) (log : List
         ),
       )
 
-pub all_tells : (line : ℕ) (config : Config) (event : PlainEvent) (log : List Act) (did : Result Did Refused) (old new : State)
+pub told_of_tells : (line : ℕ) (config : Config) (event : PlainEvent) (log : List Act) (did : Result Did Refused) (old new : State)
     (w0 w1 : Option (List ℕ)) (f0 f1 : Bool)
     → IsActed config event log did old new × ((told : List ℕ) × ToldOf line config event log did told × Prints w0 f0 w1 f1 told)
     → IsActed config event log did old new × ((told : List ℕ) × Tells line config event log did told × Prints w0 f0 w1 f1 told)
-all_tells line config event log did old new w0 w1 f0 f1 (acted, (told, is, put)) = (acted, (told, inl is, put))
+told_of_tells line config event log did old new w0 w1 f0 f1 (acted, (told, is, put)) = (acted, (told, inl is, put))
 
 -- The same for an event that is equal to this Bytes.
-pub bytes_tell : (line : ℕ) (config : Config) (event : PlainEvent) (log : List Act) (did : Result Did Refused) (old new : State)
+pub bytes_tell_of_equal : (line : ℕ) (config : Config) (event : PlainEvent) (log : List Act) (did : Result Did Refused) (old new : State)
     (w0 w1 : Option (List ℕ)) (f0 f1 : Bool) (n c : ℕ) (piece : List ℕ) → event ≡ Bytes c piece → n ≡ c
     → IsActed config (Bytes n piece) log did old new
     × ((told : List ℕ) × Tells line config (Bytes n piece) log did told × Prints w0 f0 w1 f1 told)
     → IsActed config event log did old new × ((told : List ℕ) × Tells line config event log did told × Prints w0 f0 w1 f1 told)
-bytes_tell line config event log did old new w0 w1 f0 f1 n c piece is same told = subst (λ (e : PlainEvent).
+bytes_tell_of_equal line config event log did old new w0 w1 f0 f1 n c piece is same told = subst (λ (e : PlainEvent).
     IsActed config e log did old new × ((told : List ℕ) × Tells line config e log did told × Prints w0 f0 w1 f1 told))
     (ap (λ (k : ℕ). Bytes k piece) same ∙ sym is) told
 
@@ -169,30 +169,32 @@ acted_stands config history event (Err refused) old new s is (acts, same) = subs
 acted_answers : (config : Config) (event : PlainEvent) (log : List Act) (did : Result Did Refused) (old new : State)
     → Represents old config log → IsActed config event log did old new → Answers config event log did
 acted_answers config event log (Ok what) old new rep (free, does, settles) =
-    let (channel_log, tells) = told_now old.device config (device_acts log) rep.device in
+    let (channel_log, tells) = channel_log_exists old.device config (device_acts log) rep.device in
     (channel_log, tells, (free channel_log tells, does))
-acted_answers config event log (Err refused) old new rep (acts, same) = answered config event log (Err refused) old old rep acts
+acted_answers config event log (Err refused) old new rep (acts, same) = answers_by_log config event log (Err refused) old old rep acts
 
 -- The explanation is the same for an equal log and an equal result.
-told_same : (line : ℕ) (config : Config) (event : PlainEvent) (a b : List Act) (did so : Result Did Refused) (told : List ℕ)
+told_of_equal : (line : ℕ) (config : Config) (event : PlainEvent) (a b : List Act) (did so : Result Did Refused) (told : List ℕ)
     → b ≡ a → so ≡ did → Told line config event a did told → Told line config event b so told
-told_same line config event a b did so told e f is =
+told_of_equal line config event a b did so told e f is =
     subst (λ (l : List Act). Told line config event l so told) (sym e)
     (subst (λ (r : Result Did Refused). Told line config event a r told) (sym f) is)
 
 -- An explained replay of the event leads to this state, and appends what it writes to the writer's
 -- contents.
-abbrev pub LeftAloud : Config → ℕ → List PlainEvent → PlainEvent → Result ⊤ ReplayFault → State → Option (List ℕ) → Option (List ℕ) → Type 0
-LeftAloud config line history event fault new first last = (text : List ℕ) × (after : List PlainEvent)
+abbrev pub LeftByExplain : Config → ℕ → List PlainEvent → PlainEvent → Result ⊤ ReplayFault → State → Option (List ℕ) → Option (List ℕ)
+    → Type 0
+LeftByExplain config line history event fault new first last = (text : List ℕ) × (after : List PlainEvent)
     × Explains config line history event fault text after × StandsFor new config after × Appends first last text
 
 -- A Tick at which nothing is due has no explanation.
-pub explained_still : (config : Config) (line : ℕ) (history : List PlainEvent) (event : PlainEvent) (old : State) (w0 w1 : Option (List ℕ))
+pub still_tick_is_explained : (config : Config) (line : ℕ) (history : List PlainEvent) (event : PlainEvent) (old : State)
+    (w0 w1 : Option (List ℕ))
     (s : StandsFor old config history)
     → IsStillTick config event s.log → (fault : Result ⊤ ReplayFault) (new : State) (text : List ℕ) (after : List PlainEvent)
     → Replays config history event fault text after → StandsFor new config after → Appends w0 w1 text
-    → LeftAloud config line history event fault new w0 w1
-explained_still config line history event old w0 w1 s still fault new text after replays stands put = (
+    → LeftByExplain config line history event fault new w0 w1
+still_tick_is_explained config line history event old w0 w1 s still fault new text after replays stands put = (
   text,
   after,
   record {
@@ -217,7 +219,7 @@ module _ (config : Config) (line : ℕ) (history : List PlainEvent) (event : Pla
   -- The writer took the whole explanation, and then what it took of the replay.
   pub explained : (s : StandsFor old config history) → (told : List ℕ) → Told line config event s.log did told → Appends w0 w1 told
       → (fault : Result ⊤ ReplayFault) (new : State) (w2 : Option (List ℕ))
-      → Left config history event s.log did fault new w1 w2 → LeftAloud config line history event fault new w0 w2
+      → Left config history event s.log did fault new w1 w2 → LeftByExplain config line history event fault new w0 w2
   explained s told is first fault new w2 (text, after, replays, same, also, stands, more) = (
     told ++ text,
     after,
@@ -226,7 +228,7 @@ module _ (config : Config) (line : ℕ) (history : List PlainEvent) (event : Pla
       part = told;
       printed = text;
       replays = replays;
-      tells = told_same line config event s.log replays.before did replays.did told same also is;
+      tells = told_of_equal line config event s.log replays.before did replays.did told same also is;
       front = ([], sym (append-nil told));
       whole = inl refl;
       text_is = refl;
@@ -238,10 +240,10 @@ module _ (config : Config) (line : ℕ) (history : List PlainEvent) (event : Pla
   -- The writer failed in the explanation.
   pub explained_part : (s : StandsFor old config history) → IsEvent event → IsActed config event s.log did old mid
       → (told part : List ℕ) → Told line config event s.log did told → IsFront part told → Appends w0 w1 part
-      → LeftAloud config line history event (Err Write) mid w0 w1
+      → LeftByExplain config line history event (Err Write) mid w0 w1
   explained_part s is_event acted told part is front put =
       let stands = acted_stands config history event did old mid s is_event acted in
-      let (channel_log, tells) = told_now mid.device config (device_acts stands.log) stands.represents.device in (
+      let (channel_log, tells) = channel_log_exists mid.device config (device_acts stands.log) stands.represents.device in (
         part,
         history_after event did history,
         record {
@@ -272,7 +274,7 @@ module _ (config : Config) (line : ℕ) (history : List PlainEvent) (event : Pla
   pub explained_acted : (s : StandsFor old config history) → (IsStillTick config event s.log → ⊥) → IsEvent event
       → IsActed config event s.log did old mid
       → (failed : Bool) → (told : List ℕ) × Tells line config event s.log did told × Prints w0 false w1 failed told
-      → failed ≡ true → LeftAloud config line history event (Err Write) mid w0 w1
+      → failed ≡ true → LeftByExplain config line history event (Err Write) mid w0 w1
   explained_acted s loud is_event acted true (told, tells, (part, front, put)) e =
       explained_part s is_event acted told part (inr (loud, tells)) front put
   explained_acted s loud is_event acted false told e = absurd cc
@@ -283,7 +285,7 @@ module _ (config : Config) (line : ℕ) (history : List PlainEvent) (event : Pla
       → failed ≡ false → (fault : Result ⊤ ReplayFault) (new : State) (w2 : Option (List ℕ))
       → (IsLogOf config history s.log → Answers config event s.log did → StandsFor mid config (history_after event did history)
       → Left config history event s.log did fault new w1 w2)
-      → LeftAloud config line history event fault new w0 w2
+      → LeftByExplain config line history event fault new w0 w2
   explained_whole s loud is_event acted false (told, tells, put) e fault new w2 prints =
       explained s told (inr (loud, tells)) put fault new w2
       (prints s.is_log (acted_answers config event s.log did old mid s.represents acted)

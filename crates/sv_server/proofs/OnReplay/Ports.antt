@@ -17,14 +17,14 @@ use Rattle.sv_server.specs.Server.State.{State}
 use Rattle.sv_history.specs.Print.{port_of, below, ports, port_line, port_name, lines_of, with_took, with_tooks}
 use Rattle.sv_server.specs.Replay.Inside.Showing.{StandsBy, ShowsPort, ShowsAll, log_with_took, told_with_took}
 use Rattle.sv_history.proofs.Projections.{of_other_act}
-use Rattle.sv_server.proofs.OnDevice.Channels.{took_other}
+use Rattle.sv_server.proofs.OnDevice.Channels.{took_leaves_other_channel}
 use Rattle.sv_print.proofs.Taking.{appends_then}
 
 -- The line of a port on which bytes wait.
-pub line_is : (port : Port) (bytes : List ℕ) → (length bytes == 0) ≡ false
+pub line_of_waiting_bytes : (port : Port) (bytes : List ℕ) → (length bytes == 0) ≡ false
     → port_line port bytes ≡ port_name port ++ 32 ∷ (encode_lower bytes ++ 10 ∷ [])
-line_is port [] h = absurd cc
-line_is port (byte ∷ bytes) h = refl
+line_of_waiting_bytes port [] h = absurd cc
+line_of_waiting_bytes port (byte ∷ bytes) h = refl
 
 -- The first `n` ports.
 abbrev pub first_ports : ℕ → List Port
@@ -75,18 +75,18 @@ ports_split n h =
     (map port_of others, ap (map port_of) e ∙ map-append port_of (below n) (n ∷ others))
 
 -- A Took of one port leaves the bytes that wait on a later port.
-shown_other : (n m : ℕ) (bytes : List ℕ) (channel_log : List ChannelAct) (log : List Act) → n < m
+took_leaves_later_port : (n m : ℕ) (bytes : List ℕ) (channel_log : List ChannelAct) (log : List Act) → n < m
     → waiting_on (told_with_took (port_of n) bytes channel_log) (port_of m) (log_with_took (port_of n) bytes log)
     ≡ waiting_on channel_log (port_of m) log
-shown_other n m [] channel_log log less = refl
-shown_other n m (byte ∷ bytes) channel_log log less = elim (cases_lt n 16) [
+took_leaves_later_port n m [] channel_log log less = refl
+took_leaves_later_port n m (byte ∷ bytes) channel_log log less = elim (cases_lt n 16) [
   | inl within ↦ rw (lt-ltb n 16 within) (elim (cases_lt m 16) [
     | inl near ↦ rw (lt-ltb m 16 near)
         (ap waiting (of_other_act n m (BytesTaken (length (byte ∷ bytes))) log (λ e. omega (arith, e))))
     | inr far ↦ rw (le-ltb m 16 far) refl
   ])
   | inr beyond ↦ rw (le-ltb n 16 beyond, le-ltb m 16 (omega arith))
-      (took_other (m - 16) (n - 16) (length (byte ∷ bytes)) channel_log (λ e. omega (arith, e, beyond, less)))
+      (took_leaves_other_channel (m - 16) (n - 16) (length (byte ∷ bytes)) channel_log (λ e. omega (arith, e, beyond, less)))
 ]
 
 -- The lines of the first ports were written, and the peers took the bytes that these lines show.
@@ -110,20 +110,20 @@ pub so_far_more : (config : Config) (history : List PlainEvent) (channel_log : L
     → (line : List ℕ) × Appends mid last line × ShowsPort (port_of n) config h after now (Ok tt) new line)
     → (whole : List ℕ) × Appends first last whole × SoFar config history channel_log log next new whole
 so_far_more config history channel_log log n next old new text first mid last up (is, after, now, s, same) put shows =
-    let (line, more, (line_is, stands)) = shows (with_tooks channel_log (first_ports n) log history) after now s in
+    let (line, more, (line_of_waiting_bytes, stands)) = shows (with_tooks channel_log (first_ports n) log history) after now s in
     let here : waiting_on after (port_of n) now ≡ waiting_on channel_log (port_of n) log = same n (omega arith) in (
       text ++ line,
       appends_then first mid last text line put more,
       rw up (
         ap (λ (l : List ℕ). l ++ line) is ∙ ap (λ (l : List ℕ). lines_of channel_log (first_ports n) log ++ l)
-            (line_is ∙ ap (port_line (port_of n)) here) ∙ sym (lines_more channel_log n log),
+            (line_of_waiting_bytes ∙ ap (port_line (port_of n)) here) ∙ sym (lines_more channel_log n log),
         told_with_took (port_of n) (waiting_on after (port_of n) now) after,
         log_with_took (port_of n) (waiting_on after (port_of n) now) now,
         subst (λ (h : List PlainEvent). StandsBy new config h (told_with_took (port_of n) (waiting_on after (port_of n) now) after)
             (log_with_took (port_of n) (waiting_on after (port_of n) now) now))
             (ap (λ (bytes : List ℕ). with_took (port_of n) bytes (with_tooks channel_log (first_ports n) log history)) here
             ∙ sym (tooks_more channel_log n log history)) stands,
-        λ m h. shown_other n m (waiting_on after (port_of n) now) after now (omega arith) ∙ same m (omega arith),
+        λ m h. took_leaves_later_port n m (waiting_on after (port_of n) now) after now (omega arith) ∙ same m (omega arith),
       ),
     )
 

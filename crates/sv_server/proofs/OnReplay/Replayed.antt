@@ -19,31 +19,31 @@ use Rattle.sv_print.specs.TakenByWriter.{IsTakenByWriter}
 use Rattle.sv_history.specs.Print.{ports, ports_after, with_tooks, head_of, refusal_line, is_no_memory}
 use Rattle.sv_server.specs.Replay.Replays.{IsReplayWritten}
 use Rattle.sv_server.specs.Replay.Inside.Showing.{StandsBy, ShowsAll, Left}
-use Rattle.sv_server.proofs.OnServer.Steps.{told_now}
+use Rattle.sv_server.proofs.OnServer.Steps.{channel_log_exists}
 use Rattle.sv_print.proofs.Taking.{appends_then}
 
 -- The result of writing, as the result of the replay.
-abbrev pub Told : Result ⊤ WriteFault → Result ⊤ ReplayFault → Type 0
-Told (Ok all) fault = fault ≡ Ok tt
-Told (Err e) fault = fault ≡ Err Write
+abbrev pub IsWriteResult : Result ⊤ WriteFault → Result ⊤ ReplayFault → Type 0
+IsWriteResult (Ok all) fault = fault ≡ Ok tt
+IsWriteResult (Err e) fault = fault ≡ Err Write
 
 -- The result of the event is the one that the history determines.
 abbrev pub AnswersNow : Config → List PlainEvent → PlainEvent → Result Did Refused → Type 0
 AnswersNow config history event did = (log : List Act) × IsLogOf config history log × Answers config event log did
 
 -- The lines of the ports were written after the line of the refusal.
-writes_all : (did : Result Did Refused) (channel_log : List ChannelAct) (log : List Act) (history : List PlainEvent)
+replay_writes_lines : (did : Result Did Refused) (channel_log : List ChannelAct) (log : List Act) (history : List PlainEvent)
     (r : Result ⊤ WriteFault)
     (fault : Result ⊤ ReplayFault)
     (config : Config) (new : State) (head text : List ℕ)
-    → did ≢ Err refused.NoMemory → ports_after did ≡ ports → head ≡ head_of did → Told r fault
+    → did ≢ Err refused.NoMemory → ports_after did ≡ ports → head ≡ head_of did → IsWriteResult r fault
     → ShowsAll config history channel_log log r new text
     → (after : List PlainEvent) × (so : List ChannelAct) × (now : List Act)
     × IsReplayWritten did channel_log log history fault (head ++ text) after
     × StandsBy new config after so now
-writes_all did channel_log log history (Ok all) fault config new head text some shown is came (lines, so, now, stands) =
+replay_writes_lines did channel_log log history (Ok all) fault config new head text some shown is came (lines, so, now, stands) =
     (with_tooks channel_log ports log history, so, now, rw (came, is, lines, shown) (some, refl, refl), stands)
-writes_all did channel_log log history (Err e) fault config new head text some shown is came
+replay_writes_lines did channel_log log history (Err e) fault config new head text some shown is came
     (first, others, part, split, front, lines, so, now, stands) = (
       with_tooks channel_log first log history,
       so,
@@ -62,16 +62,16 @@ writes_all did channel_log log history (Err e) fault config new head text some s
 
 pub replay_shown : (config : Config) (history : List PlainEvent) (event : PlainEvent) (did : Result Did Refused) (mid new : State)
     (head : List ℕ) (first put last : Option (List ℕ)) (r : Result ⊤ WriteFault)
-    (fault : Result ⊤ ReplayFault) → did ≢ Err refused.NoMemory → ports_after did ≡ ports → head ≡ head_of did → Told r fault
+    (fault : Result ⊤ ReplayFault) → did ≢ Err refused.NoMemory → ports_after did ≡ ports → head ≡ head_of did → IsWriteResult r fault
     → (answers : AnswersNow config history event did)
     → StandsFor mid config (history_after event did history) → Appends first put head
     → ((h : List PlainEvent) (channel_log : List ChannelAct) (log : List Act) → StandsBy mid config h channel_log log
     → (text : List ℕ) × Appends put last text × ShowsAll config h channel_log log r new text)
     → Left config history event answers.0 did fault new first last
 replay_shown config history event did mid new head first put last r fault some shown is came answers s begun shows =
-    let (channel_log, tells) = told_now mid.device config (device_acts s.log) s.represents.device in
+    let (channel_log, tells) = channel_log_exists mid.device config (device_acts s.log) s.represents.device in
     let (text, more, all) = shows (history_after event did history) channel_log s.log (s.is_log, s.represents, s.settled, tells) in
-    let (after, so, now, writes, stands) = writes_all did channel_log s.log
+    let (after, so, now, writes, stands) = replay_writes_lines did channel_log s.log
     (history_after event did history) r fault config new head text some shown is came all in (
       head ++ text,
       after,
@@ -108,8 +108,8 @@ replay_stopped config history event refusal mid first last e fault came answers 
     answers = answers.2;
     log = s.log;
     is_log = s.is_log;
-    channel_log = (told_now mid.device config (device_acts s.log) s.represents.device).0;
-    tells = (told_now mid.device config (device_acts s.log) s.represents.device).1;
+    channel_log = (channel_log_exists mid.device config (device_acts s.log) s.represents.device).0;
+    tells = (channel_log_exists mid.device config (device_acts s.log) s.represents.device).1;
     writes = rw came (inl (front, refl));
   },
   refl,
@@ -132,8 +132,8 @@ replay_no_memory config history event refused.NoMemory mid first last is answers
     answers = answers.2;
     log = s.log;
     is_log = s.is_log;
-    channel_log = (told_now mid.device config (device_acts s.log) s.represents.device).0;
-    tells = (told_now mid.device config (device_acts s.log) s.represents.device).1;
+    channel_log = (channel_log_exists mid.device config (device_acts s.log) s.represents.device).0;
+    tells = (channel_log_exists mid.device config (device_acts s.log) s.represents.device).1;
     writes = (refl, sym (append-nil (refusal_line refused.NoMemory)), refl);
   },
   refl,

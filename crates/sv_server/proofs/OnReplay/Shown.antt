@@ -18,7 +18,7 @@ use Rattle.sv_history.specs.PolledStatus.{IsPolled}
 use Rattle.sv_history.proofs.StillSettled.{still_settled, channel_settled}
 use Rattle.sv_server.proofs.OnServer.Steps.{polled_now}
 use Rattle.sv_history.proofs.Telling.{channel_open_by_channel_log}
-use Rattle.sv_server.proofs.OnDevice.Channels.{channel_open, channel_within, channel_shut_is}
+use Rattle.sv_server.proofs.OnDevice.Channels.{channel_open_if_some_wait, channel_within, channel_shut_is}
 use Rattle.sv_history.specs.Connection.{is_open, bytes_left, waiting, waiting_on}
 use Rattle.sv_history.specs.History.{refusal, took_refusal, own_acts, wants_memory, is_shut, is_channel_shut}
 use Rattle.sv_server.specs.Server.State.{State, Represents}
@@ -34,12 +34,12 @@ if_false : {A : Type 0} (b : Bool) (x y : A) → b ≡ false → cond b x y ≡ 
 if_false b x y e = ap (λ (c : Bool). cond c x y) e
 
 -- Bytes wait only on an open connection.
-opened_by : (open_now : Bool) (bytes : List ℕ) → 0 < length (cond open_now bytes []) → open_now ≡ true
-opened_by true bytes some = refl
-opened_by false bytes some = absurd (omega arith)
+open_if_some_wait : (open_now : Bool) (bytes : List ℕ) → 0 < length (cond open_now bytes []) → open_now ≡ true
+open_if_some_wait true bytes some = refl
+open_if_some_wait false bytes some = absurd (omega arith)
 
 pub waits_open : (c : ℕ) (log : List Act) → 0 < length (waiting (of c log)) → is_open (of c log) ≡ true
-waits_open c log some = opened_by (is_open (of c log)) (bytes_left (of c log)) some
+waits_open c log some = open_if_some_wait (is_open (of c log)) (bytes_left (of c log)) some
 
 -- An open connection has a number up to 15.
 pub waits_within : (c : ℕ) (state : State) (config : Config) (log : List Act) → Represents state config log → is_open (of c log) ≡ true
@@ -51,59 +51,60 @@ waits_within c state config log rep o = elim (cases_lt c 16) [
 ]
 
 -- A Took of all bytes that wait isn't refused.
-few_taken : (count : ℕ) (bytes : List ℕ) → count ≡ length bytes → took_refusal count bytes ≡ None
-few_taken count bytes e = if_false (nat_lt (length bytes) count) _ _ (le-ltb (length bytes) count (omega arith))
+took_of_all_allowed : (count : ℕ) (bytes : List ℕ) → count ≡ length bytes → took_refusal count bytes ≡ None
+took_of_all_allowed count bytes e = if_false (nat_lt (length bytes) count) _ _ (le-ltb (length bytes) count (omega arith))
 
-pub took_free : (c count : ℕ) (config : Config) (channel_log : List ChannelAct) (log : List Act) → c ≤ 15 → is_open (of c log) ≡ true
+pub took_of_conn_allowed : (c count : ℕ) (config : Config) (channel_log : List ChannelAct) (log : List Act) → c ≤ 15
+    → is_open (of c log) ≡ true
     → count ≡ length (waiting (of c log)) → refusal config channel_log (Took (Conn c) count) log ≡ None
-took_free c count config channel_log log within o e =
+took_of_conn_allowed c count config channel_log log within o e =
     let shut : is_shut c log ≡ false = ap (λ (b : Bool). b || not (is_open (of c log))) (le-ltb 15 c within) ∙ ap not o in
-    if_false (is_shut c log) _ _ shut ∙ few_taken count (waiting (of c log)) e
+    if_false (is_shut c log) _ _ shut ∙ took_of_all_allowed count (waiting (of c log)) e
 
-channel_free : (c count : ℕ) (config : Config) (channel_log : List ChannelAct) (log : List Act) → c ≤ 15
+took_of_channel_allowed : (c count : ℕ) (config : Config) (channel_log : List ChannelAct) (log : List Act) → c ≤ 15
     → has_channel c (device_acts log) ≡ true
     → count ≡ length (channel_waiting c channel_log) → refusal config channel_log (Took (Intr c) count) log ≡ None
-channel_free c count config channel_log log within there e =
+took_of_channel_allowed c count config channel_log log within there e =
     if_false (is_channel_shut c log) _ _ (channel_shut_is c log true (omega arith) there)
-    ∙ few_taken count (channel_waiting c channel_log) e
+    ∙ took_of_all_allowed count (channel_waiting c channel_log) e
 
 -- So the Took is applied.
-never_refused : (config : Config) (event : PlainEvent) (channel_log : List ChannelAct) (log : List Act) (r : Refused)
+allowed_isnt_refused : (config : Config) (event : PlainEvent) (channel_log : List ChannelAct) (log : List Act) (r : Refused)
     → HearsOf (device_acts log) channel_log → refusal config channel_log event log ≡ None → IsRefusal config event log (Some r) → ⊥
-never_refused config event channel_log log r tells none why = absurd (let z : None ≡ Some r = sym none ∙ why channel_log tells in cc)
+allowed_isnt_refused config event channel_log log r tells none why = absurd (let z : None ≡ Some r = sym none ∙ why channel_log tells in cc)
 
-makes_none : (port : Port) (count : ℕ) (config : Config) (log : List Act) (polled : ℕ) (result : Result Did Refused) (new : State)
+took_needs_no_memory : (port : Port) (count : ℕ) (config : Config) (log : List Act) (polled : ℕ) (result : Result Did Refused) (new : State)
     → IsPolled polled (device_acts log) → wants_memory (device_acts (own_acts config polled (Took port count) log)) ≡ false
     → Acts config (Took port count) log result new → result ≢ Err NoMemory
-makes_none port count config log polled result new said none acts e = absurd (let z : true ≡ false =
+took_needs_no_memory port count config log polled result new said none acts e = absurd (let z : true ≡ false =
     sym ((subst (λ (r : Result Did Refused). Acts config (Took port count) log r new) e acts).1 polled said) ∙ none in cc)
 
-took_done : (event : PlainEvent) (config : Config) (channel_log : List ChannelAct) (log : List Act) (polled : ℕ)
+took_is_applied : (event : PlainEvent) (config : Config) (channel_log : List ChannelAct) (log : List Act) (polled : ℕ)
     (result : Result Did Refused)
     (new : State)
     → IsPolled polled (device_acts log) → HearsOf (device_acts log) channel_log → refusal config channel_log event log ≡ None
     → Acts config event log result new
     → result ≢ Err NoMemory → Represents new config (own_acts config polled event log ++ log)
-took_done event config channel_log log polled (Ok what) new said tells none (free_of, done, rep) other = rep polled said
-took_done event config channel_log log polled (Err NoMemory) new said tells none h other = absurd (other refl)
-took_done event config channel_log log polled (Err ConnInUse) new said tells none h other =
-    absurd (never_refused config event channel_log log ConnInUse tells none h)
-took_done event config channel_log log polled (Err NoConn) new said tells none h other =
-    absurd (never_refused config event channel_log log NoConn tells none h)
-took_done event config channel_log log polled (Err NoRoom) new said tells none h other =
-    absurd (never_refused config event channel_log log NoRoom tells none h)
-took_done event config channel_log log polled (Err NotSent) new said tells none h other =
-    absurd (never_refused config event channel_log log NotSent tells none h)
-took_done event config channel_log log polled (Err NoDial) new said tells none h other =
-    absurd (never_refused config event channel_log log NoDial tells none h)
-took_done event config channel_log log polled (Err NotRefusable) new said tells none h other =
-    absurd (never_refused config event channel_log log NotRefusable tells none h)
-took_done event config channel_log log polled (Err BadChannel) new said tells none h other =
-    absurd (never_refused config event channel_log log BadChannel tells none h)
-took_done event config channel_log log polled (Err BadInput) new said tells none h other =
-    absurd (never_refused config event channel_log log BadInput tells none h)
-took_done event config channel_log log polled (Err TimeOver) new said tells none h other =
-    absurd (never_refused config event channel_log log TimeOver tells none h)
+took_is_applied event config channel_log log polled (Ok what) new said tells none (free_of, done, rep) other = rep polled said
+took_is_applied event config channel_log log polled (Err NoMemory) new said tells none h other = absurd (other refl)
+took_is_applied event config channel_log log polled (Err ConnInUse) new said tells none h other =
+    absurd (allowed_isnt_refused config event channel_log log ConnInUse tells none h)
+took_is_applied event config channel_log log polled (Err NoConn) new said tells none h other =
+    absurd (allowed_isnt_refused config event channel_log log NoConn tells none h)
+took_is_applied event config channel_log log polled (Err NoRoom) new said tells none h other =
+    absurd (allowed_isnt_refused config event channel_log log NoRoom tells none h)
+took_is_applied event config channel_log log polled (Err NotSent) new said tells none h other =
+    absurd (allowed_isnt_refused config event channel_log log NotSent tells none h)
+took_is_applied event config channel_log log polled (Err NoDial) new said tells none h other =
+    absurd (allowed_isnt_refused config event channel_log log NoDial tells none h)
+took_is_applied event config channel_log log polled (Err NotRefusable) new said tells none h other =
+    absurd (allowed_isnt_refused config event channel_log log NotRefusable tells none h)
+took_is_applied event config channel_log log polled (Err BadChannel) new said tells none h other =
+    absurd (allowed_isnt_refused config event channel_log log BadChannel tells none h)
+took_is_applied event config channel_log log polled (Err BadInput) new said tells none h other =
+    absurd (allowed_isnt_refused config event channel_log log BadInput tells none h)
+took_is_applied event config channel_log log polled (Err TimeOver) new said tells none h other =
+    absurd (allowed_isnt_refused config event channel_log log TimeOver tells none h)
 
 -- The history and the logs after the Took.
 with_some : (port : Port) (bytes : List ℕ) (history : List PlainEvent) → 0 < length bytes
@@ -131,7 +132,7 @@ told_with_channel c [] channel_log some = absurd (omega arith)
 told_with_channel c (byte ∷ bytes) channel_log some = refl
 
 -- After the Took of all bytes that wait, the server stands for the longer history.
-pub stands_taken : (port : Port) (bytes : List ℕ) (config : Config) (history : List PlainEvent) (channel_log : List ChannelAct)
+pub stands_after_took : (port : Port) (bytes : List ℕ) (config : Config) (history : List PlainEvent) (channel_log : List ChannelAct)
     (log : List Act)
     (old new : State) (result : Result Did Refused) → StandsBy old config history channel_log log
     → bytes ≡ waiting_on channel_log port log → 0 < length bytes → length bytes ≤ max_output
@@ -139,16 +140,16 @@ pub stands_taken : (port : Port) (bytes : List ℕ) (config : Config) (history :
     → StandsBy new config (with_took port (waiting_on channel_log port log) history)
     (told_with_took port (waiting_on channel_log port log) channel_log)
     (log_with_took port (waiting_on channel_log port log) log)
-stands_taken (Intr c) bytes config history channel_log log old new result (is_log, rep, settled, tells) is some few acts =
+stands_after_took (Intr c) bytes config history channel_log log old new result (is_log, rep, settled, tells) is some few acts =
     let act = ChannelTaken c (length bytes) in
     let some_wait : 0 < length (channel_waiting c channel_log) = rw (← is) some in
-    let o = channel_open c channel_log some_wait in
+    let o = channel_open_if_some_wait c channel_log some_wait in
     let within = channel_within old.device config (device_acts log) channel_log c rep.device tells o in
     let there : has_channel c (device_acts log) ≡ true = sym (channel_open_by_channel_log c (device_acts log) channel_log tells) ∙ o in
-    let none = channel_free c (length bytes) config channel_log log within there (ap (λ (l : List ℕ). length l) is) in
+    let none = took_of_channel_allowed c (length bytes) config channel_log log within there (ap (λ (l : List ℕ). length l) is) in
     let (polled, said) = polled_now old.device config (device_acts log) rep.device in
-    let makes = makes_none (Intr c) (length bytes) config log polled result new said refl acts in
-    let new_rep = took_done (Took (Intr c) (length bytes)) config channel_log log polled result new said tells none acts makes in
+    let makes = took_needs_no_memory (Intr c) (length bytes) config log polled result new said refl acts in
+    let new_rep = took_is_applied (Took (Intr c) (length bytes)) config channel_log log polled result new said tells none acts makes in
     let still = channel_settled act config log settled in
     rw (
       with_some (Intr c) (channel_waiting c channel_log) history some_wait,
@@ -161,14 +162,14 @@ stands_taken (Intr c) bytes config history channel_log log old new result (is_lo
       still,
       (channel_log, tells, refl),
     )
-stands_taken (Conn c) bytes config history channel_log log old new result (is_log, rep, settled, tells) is some few acts =
+stands_after_took (Conn c) bytes config history channel_log log old new result (is_log, rep, settled, tells) is some few acts =
     let some_wait : 0 < length (waiting (of c log)) = rw (← is) some in
     let o = waits_open c log some_wait in
     let within = waits_within c old config log rep o in
-    let none = took_free c (length bytes) config channel_log log within o (ap (λ (l : List ℕ). length l) is) in
+    let none = took_of_conn_allowed c (length bytes) config channel_log log within o (ap (λ (l : List ℕ). length l) is) in
     let (polled, said) = polled_now old.device config (device_acts log) rep.device in
-    let makes = makes_none (Conn c) (length bytes) config log polled result new said refl acts in
-    let new_rep = took_done (Took (Conn c) (length bytes)) config channel_log log polled result new said tells none acts makes in
+    let makes = took_needs_no_memory (Conn c) (length bytes) config log polled result new said refl acts in
+    let new_rep = took_is_applied (Took (Conn c) (length bytes)) config channel_log log polled result new said tells none acts makes in
     let still = still_settled c (BytesTaken (length bytes)) config log settled in
     rw (
       with_some (Conn c) (waiting (of c log)) history some_wait,
@@ -194,12 +195,13 @@ nothing_shown port [] config history channel_log log state first last s is none 
 nothing_shown port (byte ∷ bytes) config history channel_log log state first last s is none put = absurd (omega arith)
 
 -- The writer failed in the line, so nothing is taken.
-pub show_stopped : (port : Port) (bytes : List ℕ) (config : Config) (history : List PlainEvent) (channel_log : List ChannelAct)
+pub part_shown_if_writer_fails : (port : Port) (bytes : List ℕ) (config : Config) (history : List PlainEvent)
+    (channel_log : List ChannelAct)
     (log : List Act)
     (state : State) (first last : Option (List ℕ)) (e : WriteFault) (r : Result ⊤ WriteFault)
     → StandsBy state config history channel_log log
     → bytes ≡ waiting_on channel_log port log → IsErr r → IsTakenByWriter first last (Err e) (port_line port bytes)
     → (line : List ℕ) × Appends first last line × ShowsPort port config history channel_log log r state line
-show_stopped port bytes config history channel_log log state first last e (Ok all) s is failed taken = absurd cc
-show_stopped port bytes config history channel_log log state first last e (Err f) s is failed (part, front, put) =
+part_shown_if_writer_fails port bytes config history channel_log log state first last e (Ok all) s is failed taken = absurd cc
+part_shown_if_writer_fails port bytes config history channel_log log state first last e (Err f) s is failed (part, front, put) =
     (part, put, (subst (λ (l : List ℕ). IsFront part (port_line port l)) is front, s))

@@ -21,42 +21,44 @@ use Rattle.sv_server.specs.Server.State.{State, Represents}
 use Rattle.sv_server.specs.Explain.Telling.{Names, TellsIn, clock_at, clock_after, taken_line}
 use Rattle.sv_server.specs.Explain.Inside.Steps.{Goes, Ends, lines_before, tick_line}
 use Rattle.sv_server.proofs.OnServer.Naming.{nothing_line}
-use Rattle.sv_server.proofs.OnServer.Steps.{goes_none, goes_more, goes_then, goes_settled}
+use Rattle.sv_server.proofs.OnServer.Steps.{reaches_itself, reaches_by_step, reaches_trans, settles_if_reached}
 
 -- Whatever the log, some of the steps that were due led from `first` to `now`, and their lines were
 -- written. The contents of the writer, and whether it has failed, were `old` and `f`, and are `new`
 -- and `g`.
-abbrev pub AnyTold : State → State → Shown → Shown → Option (List ℕ) → Bool → Option (List ℕ) → Bool → Type 0
-AnyTold first now shown next old f new g = (config : Config) (log : List Act) → Represents first config log → IsShown shown log
+abbrev pub SomeStepsTold : State → State → Shown → Shown → Option (List ℕ) → Bool → Option (List ℕ) → Bool → Type 0
+SomeStepsTold first now shown next old f new g = (config : Config) (log : List Act) → Represents first config log → IsShown shown log
     → (text : List ℕ) × Goes config log shown next text now × Prints old f new g text
 
 -- The same for all steps that were due.
-abbrev pub AllTold : State → State → Shown → Option (List ℕ) → Bool → Option (List ℕ) → Bool → Type 0
-AllTold first now shown old f new g = (config : Config) (log : List Act) → Represents first config log → IsShown shown log
+abbrev pub AllStepsTold : State → State → Shown → Option (List ℕ) → Bool → Option (List ℕ) → Bool → Type 0
+AllStepsTold first now shown old f new g = (config : Config) (log : List Act) → Represents first config log → IsShown shown log
     → (text : List ℕ) × Ends config log shown text now × Prints old f new g text
 
 -- Whatever the log, the step that was due leads from `old` to `new`.
-abbrev pub AnyStep : State → State → Type 0
-AnyStep old new = (config : Config) (log : List Act) → Represents old config log
+abbrev pub StepIsTaken : State → State → Type 0
+StepIsTaken old new = (config : Config) (log : List Act) → Represents old config log
     → (next : List Act) × IsNext config log next × Represents new config next
 
 -- Whatever the log, the step that is due has this name.
-abbrev pub AnyNames : State → Due → Type 0
-AnyNames now name = (config : Config) (log : List Act) → Represents now config log → Names name config log
+abbrev pub StepHasName : State → Due → Type 0
+StepHasName now name = (config : Config) (log : List Act) → Represents now config log → Names name config log
 
-regroup : (a b c d : List ℕ) → (a ++ (b ++ c)) ++ d ≡ a ++ (b ++ (c ++ d))
-regroup a b c d = append_assoc a (b ++ c) d ∙ ap (λ (l : List ℕ). a ++ l) (append_assoc b c d)
+append_regrouped : (a b c d : List ℕ) → (a ++ (b ++ c)) ++ d ≡ a ++ (b ++ (c ++ d))
+append_regrouped a b c d = append_assoc a (b ++ c) d ∙ ap (λ (l : List ℕ). a ++ l) (append_assoc b c d)
 
 -- No step was taken yet.
-pub told_none : (s : State) (shown : Shown) (old : Option (List ℕ)) (f : Bool) → AnyTold s s shown shown old f old f
-told_none s shown old f = λ config log rep is. ([], (log, (λ n new rest t. (n, t)), goes_none config log, is, rep), prints_none old f)
+pub no_step_told : (s : State) (shown : Shown) (old : Option (List ℕ)) (f : Bool) → SomeStepsTold s s shown shown old f old f
+no_step_told s shown old f =
+    λ config log rep is. ([], (log, (λ n new rest t. (n, t)), reaches_itself config log, is, rep), prints_none old f)
 
 module _ (first mid now : State) (shown was next : Shown) (w0 w1 w2 w3 : Option (List ℕ)) (f0 f1 f2 f3 : Bool) (name : Due) where
   -- One more step is taken.
-  pub told_step : AnyTold first mid shown was w0 f0 w1 f1 → AnyNames mid name → AnyStep mid now → Prints w1 f1 w2 f2 (step_line name)
+  pub told_step : SomeStepsTold first mid shown was w0 f0 w1 f1 → StepHasName mid name → StepIsTaken mid now
+      → Prints w1 f1 w2 f2 (step_line name)
       → ((config : Config)
       (log : List Act) → Represents now config log → IsShown next log × Prints w2 f2 w3 f3 (changes was next))
-      → AnyTold first now shown next w0 f0 w3 f3
+      → SomeStepsTold first now shown next w0 f0 w3 f3
   told_step gone names step line tell = λ config log rep is.
       let (text, (middle, by, reached, shows, held), put) = gone config log rep is in
       let (last, goes, stands) = step config middle held in
@@ -69,9 +71,9 @@ module _ (first mid now : State) (shown was next : Shown) (w0 w1 w2 w3 : Option 
               (last, name, next, rest, goes, names config middle held, seen, refl, t) in (
                 there.0,
                 subst (λ (l : List ℕ). TellsIn there.0 config log shown l new)
-                    (sym (regroup text (step_line name) (changes was next) rest)) there.1,
+                    (sym (append_regrouped text (step_line name) (changes was next) rest)) there.1,
               )),
-          goes_more config log middle last reached goes,
+          reaches_by_step config log middle last reached goes,
           seen,
           stands,
         ),
@@ -81,10 +83,10 @@ module _ (first mid now : State) (shown was next : Shown) (w0 w1 w2 w3 : Option 
 
 -- No step is due any more.
 module _ (first mid now : State) (shown was : Shown) (w0 w1 w2 : Option (List ℕ)) (f0 f1 f2 : Bool) (name : Due) where
-  pub told_ended : AnyTold first mid shown was w0 f0 w1 f1 → AnyNames mid name → AnyNames mid Nothing
+  pub told_ended : SomeStepsTold first mid shown was w0 f0 w1 f1 → StepHasName mid name → StepHasName mid Nothing
       → ((config : Config)
       (log : List Act) → Represents mid config log → IsSettled config log × Represents now config log)
-      → Prints w1 f1 w2 f2 (step_line name) → AllTold first now shown w0 f0 w2 f2
+      → Prints w1 f1 w2 f2 (step_line name) → AllStepsTold first now shown w0 f0 w2 f2
   told_ended gone names nothing none line = λ config log rep is.
       let (text, (middle, by, reached, shows, held), put) = gone config log rep is in
       let (still, stands) = none config middle held in
@@ -95,7 +97,7 @@ module _ (first mid now : State) (shown was : Shown) (w0 w1 w2 : Option (List �
           middle,
           there.0,
           subst (λ (l : List ℕ). TellsIn there.0 config log shown l middle) (append-nil text) there.1,
-          goes_settled config log middle reached still,
+          settles_if_reached config log middle reached still,
           stands,
         ),
         prints_equal_text w0 w2 f0 f2 (text ++ step_line name) text (ap (λ (l : List ℕ). text ++ l) empty ∙ append-nil text)
@@ -104,8 +106,8 @@ module _ (first mid now : State) (shown was : Shown) (w0 w1 w2 : Option (List �
 
 -- Some steps are taken, and then some more.
 module _ (first mid now : State) (shown was next : Shown) (w0 w1 w2 : Option (List ℕ)) (f0 f1 f2 : Bool) where
-  pub told_more : AnyTold first mid shown was w0 f0 w1 f1 → AnyTold mid now was next w1 f1 w2 f2
-      → AnyTold first now shown next w0 f0 w2 f2
+  pub told_more : SomeStepsTold first mid shown was w0 f0 w1 f1 → SomeStepsTold mid now was next w1 f1 w2 f2
+      → SomeStepsTold first now shown next w0 f0 w2 f2
   told_more gone other = λ config log rep is.
       let (text, (middle, by, reached, shows, held), put) = gone config log rep is in
       let (more, (last, further, goes, seen, stands), lines) = other config middle held shows in (
@@ -116,7 +118,7 @@ module _ (first mid now : State) (shown was next : Shown) (w0 w1 w2 : Option (Li
               let there = further n new rest t in
               let all = by there.0 new (more ++ rest) there.1 in
               (all.0, subst (λ (l : List ℕ). TellsIn all.0 config log shown l new) (sym (append_assoc text more rest)) all.1)),
-          goes_then config log middle last reached goes,
+          reaches_trans config log middle last reached goes,
           seen,
           stands,
         ),
@@ -125,7 +127,8 @@ module _ (first mid now : State) (shown was next : Shown) (w0 w1 w2 : Option (Li
 
 -- Some steps are taken, and then all that remain.
 module _ (first mid now : State) (shown was : Shown) (w0 w1 w2 : Option (List ℕ)) (f0 f1 f2 : Bool) where
-  pub told_all : AnyTold first mid shown was w0 f0 w1 f1 → AllTold mid now was w1 f1 w2 f2 → AllTold first now shown w0 f0 w2 f2
+  pub told_all : SomeStepsTold first mid shown was w0 f0 w1 f1 → AllStepsTold mid now was w1 f1 w2 f2
+      → AllStepsTold first now shown w0 f0 w2 f2
   told_all gone other = λ config log rep is.
       let (text, (middle, by, reached, shows, held), put) = gone config log rep is in
       let (more, (last, n, tells, settles, stands), lines) = other config middle held shows in

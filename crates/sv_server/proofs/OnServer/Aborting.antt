@@ -21,16 +21,16 @@ waiting_with c lid acts e none =
     let some = some_waits (is_some (waits c (wait_acts acts))) lid (link c (wait_acts acts)) e in
     let z : false ≡ true = sym (ap is_some none) ∙ some in cc
 
-some_if : (b : Bool) (c d : ℕ) → cond b (Some c) None ≡ Some d → (b ≡ true) × (c ≡ d)
-some_if true c d e = (refl, cc)
-some_if false c d e = absurd cc
+some_from_cond : (b : Bool) (c d : ℕ) → cond b (Some c) None ≡ Some d → (b ≡ true) × (c ≡ d)
+some_from_cond true c d e = (refl, cc)
+some_from_cond false c d e = absurd cc
 
 where_aborted : (owner lid : Option ℕ) (acts : List DeviceAct) (d : ℕ) → if_waiting owner lid acts ≡ Some d
     → waits d (wait_acts acts) ≡ None → ⊥
 where_aborted None lid acts d e none = cc
 where_aborted (Some c) None acts d e none = cc
 where_aborted (Some c) (Some lid) acts d e none =
-    let (so, same) = some_if (is_some (waits c (wait_acts acts)) && is_this lid (link c (wait_acts acts))) c d e in
+    let (so, same) = some_from_cond (is_some (waits c (wait_acts acts)) && is_this lid (link c (wait_acts acts))) c d e in
     waiting_with c lid acts so (ap (λ (n : ℕ). waits n (wait_acts acts)) same ∙ none)
 
 pub request_aborts : (config : Config) (polled c : ℕ) (request : Request) (acts : List DeviceAct) (d : ℕ) → aborts request acts ≡ Some d

@@ -26,10 +26,10 @@ use Rattle.sv_server.specs.Server.Inside.Acting.{TakesStep}
 use Rattle.sv_server.specs.Device.Inside.Outcome.{InstrumentSteps, MayResume, MayWaitAnew}
 use Rattle.sv_server.specs.Server.Inside.Ending.{HasPlaceOfLink}
 use Rattle.sv_history.proofs.Projections.{of_others_effect}
-use Rattle.sv_server.proofs.OnDevice.Effects.{of_same}
-use Rattle.sv_server.proofs.OnServer.Taken.{taken_without, taken_anew, taken_one}
+use Rattle.sv_server.proofs.OnDevice.Effects.{acts_of_effect_without_own}
+use Rattle.sv_server.proofs.OnServer.Taken.{taken_after_leaving, taken_anew, holds_for_entry}
 use Rattle.sv_server.proofs.OnServer.Used.{unanswered_used}
-use Rattle.sv_server.proofs.OnServer.Logs.{shared_acts, resumed}
+use Rattle.sv_server.proofs.OnServer.Logs.{stands_after_device_acts, stands_after_call_continues}
 
 -- ---- the suspended call of a connection
 
@@ -49,64 +49,66 @@ entry_there : (c : ℕ) (acts : List WaitAct) (found : Option Entry) → waits c
 entry_there c acts None all does = absurd (does all)
 entry_there c acts (Some entry) all does = (entry, refl)
 
-pub taken_of : (state : State) (config : Config) (log : List Act) (c : ℕ) → Represents state config log
+pub suspended_was_taken : (state : State) (config : Config) (log : List Act) (c : ℕ) → Represents state config log
     → (waits c (wait_acts (device_acts log)) ≡ None → ⊥) → (call : List ℕ) × (pending_call (of c log) ≡ Some call)
-taken_of state config log c rep does =
+suspended_was_taken state config log c rep does =
     let (entry, found) = entry_there c (wait_acts (device_acts log)) (entry_of c state.device.waiting) (rep.device.4.all c) does in
-    let (call, known, makes) = taken_one (IsTaken log) c state.device.waiting entry rep.taken found in
+    let (call, known, makes) = holds_for_entry (IsTaken log) c state.device.waiting entry rep.taken found in
     (call, subst (λ (d : ℕ). pending_call (of d log) ≡ Some call) (entry_conn c state.device.waiting entry found) known)
 
 -- Only a connection below 16 has a suspended call.
-pub within_of : (state : State) (config : Config) (log : List Act) (c : ℕ) → Represents state config log
+pub suspended_is_below_16 : (state : State) (config : Config) (log : List Act) (c : ℕ) → Represents state config log
     → (waits c (wait_acts (device_acts log)) ≡ None → ⊥) → 16 ≤ c → ⊥
-within_of state config log c rep does above =
-    let (call, known) = taken_of state config log c rep does in
+suspended_is_below_16 state config log c rep does above =
+    let (call, known) = suspended_was_taken state config log c rep does in
     let none : pending_call (of c log) ≡ None = ap pending_call (rep.beyond c above) in
     let z : Some call ≡ None = sym known ∙ none in cc
 
 -- ---- a suspended call times out
 
-pub gave_up_stands : (state : State) (config : Config) (log : List Act) (c : ℕ) (effect : Effect) (kept : Connection) (device : KeptDevice)
+pub stands_after_time_out : (state : State) (config : Config) (log : List Act) (c : ℕ) (effect : Effect) (kept : Connection)
+    (device : KeptDevice)
     → Represents state config log → length state.connections ≡ 16 → c < 16
     → Concludes effect config (of c log) (device_acts log) kept device → device.waiting ≡ without c state.device.waiting
     → (call : List ℕ) → pending_call (of c log) ≡ Some call
     → Represents (record state { connections = set state.connections c kept; device = device }) config (acts_of c effect ++ log)
-gave_up_stands state config log c effect kept device rep sixteen lt done left call known =
-    resumed state config log c effect kept device rep sixteen lt done
-    (rw left (taken_without c log (acts_of c effect ++ log) state.device.waiting (λ d ne. of_others_effect c d effect log ne) rep.taken))
+stands_after_time_out state config log c effect kept device rep sixteen lt done left call known =
+    stands_after_call_continues state config log c effect kept device rep sixteen lt done
+    (rw left (taken_after_leaving c log (acts_of c effect ++ log) state.device.waiting (λ d ne. of_others_effect c d effect log ne)
+        rep.taken))
     (unanswered_used (of c log) call known)
 
 -- ---- a suspended call resumes
 
-went_taken : (c : ℕ) (log : List Act) (call : List ℕ) (effect : Effect) (old new : List Entry) → pending_call (of c log) ≡ Some call
+taken_after_resume : (c : ℕ) (log : List Act) (call : List ℕ) (effect : Effect) (old new : List Entry) → pending_call (of c log) ≡ Some call
     → MayWaitAnew (effect.own ≡ []) c (creates_link (core_call call)) old new → AllByRecursion (IsTaken log) old
     → AllByRecursion (IsTaken (acts_of c effect ++ log)) new
-went_taken c log call effect old new known (inl left) taken =
-    rw left (taken_without c log (acts_of c effect ++ log) old (λ d ne. of_others_effect c d effect log ne) taken)
-went_taken c log call effect old new known (inr (none, wait, deadline, is, other)) taken =
-    rw is (taken_anew c wait deadline log (acts_of c effect ++ log) old (λ d. of_same c d effect log none)
+taken_after_resume c log call effect old new known (inl left) taken =
+    rw left (taken_after_leaving c log (acts_of c effect ++ log) old (λ d ne. of_others_effect c d effect log ne) taken)
+taken_after_resume c log call effect old new known (inr (none, wait, deadline, is, other)) taken =
+    rw is (taken_anew c wait deadline log (acts_of c effect ++ log) old (λ d. acts_of_effect_without_own c d effect log none)
     (λ its e. let same : call ≡ its = one_call call its (sym known ∙ e) in
     ap (λ (l : List ℕ). creates_link (core_call l)) (sym same) ∙ other) taken)
   where
     one_call : (a b : List ℕ) → Some a ≡ Some b → a ≡ b
     one_call a b e = cc
 
-pub went_on_stands : (state : State) (config : Config) (log : List Act) (c : ℕ) (call : List ℕ) (effect : Effect) (kept : Connection)
+pub stands_after_resume : (state : State) (config : Config) (log : List Act) (c : ℕ) (call : List ℕ) (effect : Effect) (kept : Connection)
     (device : KeptDevice)
     → Represents state config log → length state.connections ≡ 16 → c < 16 → pending_call (of c log) ≡ Some call
     → ConcludesResumed effect c (core_call call) config (of c log) (device_acts log) state.device.waiting kept device
     → Represents (record state { connections = set state.connections c kept; device = device }) config (acts_of c effect ++ log)
-went_on_stands state config log c call effect kept device rep sixteen lt known (done, waits) =
-    resumed state config log c effect kept device rep sixteen lt done
-    (went_taken c log call effect state.device.waiting device.waiting known waits rep.taken) (unanswered_used (of c log) call known)
+stands_after_resume state config log c call effect kept device rep sixteen lt known (done, waits) =
+    stands_after_call_continues state config log c effect kept device rep sixteen lt done
+    (taken_after_resume c log call effect state.device.waiting device.waiting known waits rep.taken) (unanswered_used (of c log) call known)
 
 -- A create_link that can resume finds the lock free.
-free_for : (locked : Option ℕ) (can_write can_read : Bool) (wait : Wait) (lid : Option ℕ)
+lock_free_if_resumable : (locked : Option ℕ) (can_write can_read : Bool) (wait : Wait) (lid : Option ℕ)
     → is_there locked can_write can_read lid (Some wait) ≡ true → wait ≡ Lock → lid ≡ None → is_locked_out locked None ≡ false
-free_for None can_write can_read wait lid there w l = refl
-free_for (Some other) can_write can_read Lock None there w l = absurd cc
-free_for (Some other) can_write can_read Lock (Some lid) there w l = absurd cc
-free_for (Some other) can_write can_read _ lid there w l = absurd cc
+lock_free_if_resumable None can_write can_read wait lid there w l = refl
+lock_free_if_resumable (Some other) can_write can_read Lock None there w l = absurd cc
+lock_free_if_resumable (Some other) can_write can_read Lock (Some lid) there w l = absurd cc
+lock_free_if_resumable (Some other) can_write can_read _ lid there w l = absurd cc
 
 there_as : (locked : Option ℕ) (can_write can_read : Bool) (wait : Wait) (lid named : Option ℕ) (waited : Option Wait)
     → waited ≡ Some wait → named ≡ lid → is_there locked can_write can_read named waited ≡ true
@@ -120,35 +122,37 @@ creates_for Lock None e = (refl, refl)
 creates_for Lock (Some lid) e = absurd cc
 creates_for _ lid e = absurd cc
 
-pub may_go_on : (kept : KeptDevice) (entry : Entry) (log : List Act) (call : List ℕ)
+pub may_resume : (kept : KeptDevice) (entry : Entry) (log : List Act) (call : List ℕ)
     → CanResume (device_acts log) entry.conn → IsEntry (wait_acts (device_acts log)) entry
     → (creates entry ≡ true → creations (without entry.conn kept.waiting) < creations kept.waiting)
     → (creates_link (core_call call) ≡ true → creates entry ≡ true)
     → MayResume (Able entry.wait) entry.conn (HasPlaceOfLink (core_call call) entry.conn kept (device_acts log)) (device_acts log)
-may_go_on kept entry log call able is fewer makes = (
+may_resume kept entry log call able is fewer makes = (
   λ none. let z : Some entry.wait ≡ None = sym is.0 ∙ none in cc,
   λ creates_it.
       let so = makes creates_it in
       let (w, l) = creates_for entry.wait entry.lid so in (
         fewer so,
-        free_for (holder (link_acts (device_acts log))) _ _ entry.wait entry.lid
+        lock_free_if_resumable (holder (link_acts (device_acts log))) _ _ entry.wait entry.lid
             (there_as (holder (link_acts (device_acts log))) _ _ entry.wait entry.lid _ _ is.0 is.2 able) w l,
       ),
 )
 
 -- ---- the instrument takes a step
 
-happens_none : (IsSuch : List InstrumentAct → List InstrumentAct → Type 0) (log : List Act)
+no_instrument_step : (IsSuch : List InstrumentAct → List InstrumentAct → Type 0) (log : List Act)
     → ((new : List InstrumentAct) → IsSuch (instrument_acts (device_acts log)) new → ⊥) → (new : List Act) → InstrumentDoes IsSuch log new
     → ⊥
-happens_none IsSuch log none new (adds, such, is) = none (adds ++ instrument_acts (device_acts log)) such
+no_instrument_step IsSuch log none new (adds, such, is) = none (adds ++ instrument_acts (device_acts log)) such
 
-pub happens_step : (IsSuch : List InstrumentAct → List InstrumentAct → Type 0) (state : State) (device : KeptDevice) (config : Config)
+pub instrument_takes_step : (IsSuch : List InstrumentAct → List InstrumentAct → Type 0) (state : State) (device : KeptDevice)
+    (config : Config)
     (log : List Act) (done : Bool)
     → Represents state config log → InstrumentSteps IsSuch done config (device_acts log) state.device device
     → device.waiting ≡ state.device.waiting
     → TakesStep (λ k. InstrumentDoes IsSuch) done config log state (record state { device = device })
-happens_step IsSuch state device config log false rep (none, same) kept =
-    (happens_none IsSuch log none, ap (λ (b : KeptDevice). record state { device = b }) same)
-happens_step IsSuch state device config log true rep (adds, such, held) kept =
-    (map OnDevice (map Applied adds) ++ log, (adds, such, refl), shared_acts state config log device (map Applied adds) rep held kept)
+instrument_takes_step IsSuch state device config log false rep (none, same) kept =
+    (no_instrument_step IsSuch log none, ap (λ (b : KeptDevice). record state { device = b }) same)
+instrument_takes_step IsSuch state device config log true rep (adds, such, held) kept =
+    (map OnDevice (map Applied adds) ++ log, (adds, such, refl), stands_after_device_acts state config log device (map Applied adds) rep
+        held kept)

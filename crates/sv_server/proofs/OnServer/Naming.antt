@@ -18,9 +18,9 @@ use Rattle.sv_explain.specs.declared.step.Due.TheVariants.{Nothing, Fire, Resume
 use Rattle.sv_explain.specs.Steps.{step_line}
 use Rattle.sv_server.specs.Explain.Telling.{Names}
 
-pub not_fired : (log : List Act) → ((next : List Act) → InstrumentDoes IsFired log next → ⊥)
+pub no_trigger_due : (log : List Act) → ((next : List Act) → InstrumentDoes IsFired log next → ⊥)
     → is_fire_due (instrument_acts (device_acts log)) ≡ false
-not_fired log none = by (trigger_fault (effective_acts (instrument_acts (device_acts log))) Immediate) refl
+no_trigger_due log none = by (trigger_fault (effective_acts (instrument_acts (device_acts log))) Immediate) refl
   where
     by : (fault : Option Code) → trigger_fault (effective_acts (instrument_acts (device_acts log))) Immediate ≡ fault
         → is_fire_due (instrument_acts (device_acts log)) ≡ false

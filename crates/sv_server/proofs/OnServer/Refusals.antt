@@ -19,9 +19,9 @@ use Rattle.sv_server.specs.Server.State.{State, Represents}
 use Rattle.sv_server.specs.Server.Inside.Acting.{Acts, Refuses, IsInput}
 use Rattle.sv_history.proofs.Projections.{of_own_act, of_other_act}
 use Rattle.sv_history.specs.Limits.{longest_reply}
-use Rattle.sv_server.proofs.OnServer.Taken.{taken_acted}
-use Rattle.sv_server.proofs.OnServer.Used.{unshut_used, used_acted}
-use Rattle.sv_server.proofs.OnServer.Logs.{acted, busy_idle}
+use Rattle.sv_server.proofs.OnServer.Taken.{taken_after_act}
+use Rattle.sv_server.proofs.OnServer.Used.{unshut_used, used_after_act}
+use Rattle.sv_server.proofs.OnServer.Logs.{acted, pending_call_is_busy}
 use Rattle.sv_server.proofs.OnServer.Turning.{not_busy}
 
 -- The next call of an open connection determines what a Refuse can answer.
@@ -32,23 +32,23 @@ refusable_is acts role found opened next = ap (λ (r : Option Role). refusable_c
 
 -- A Refuse is refused if there is no call that it can answer. It isn't refused if there is one and
 -- the reply fits.
-pub refused_none : (acts : List ConnAct) → refusable acts ≡ None → refuse_refusal acts ≡ Some NotRefusable
-refused_none acts e = rw e refl
+pub refuse_without_call : (acts : List ConnAct) → refusable acts ≡ None → refuse_refusal acts ≡ Some NotRefusable
+refuse_without_call acts e = rw e refl
 
-pub refused_not : (acts : List ConnAct) (call : CoreCall) → refusable acts ≡ Some call → nat_lt (free acts) longest_reply ≡ false
+pub refuse_allowed : (acts : List ConnAct) (call : CoreCall) → refusable acts ≡ Some call → nat_lt (free acts) longest_reply ≡ false
     → refuse_refusal acts ≡ None
-refused_not acts call e roomy = rw (e, roomy) refl
+refuse_allowed acts call e roomy = rw (e, roomy) refl
 
 -- Out of memory is no reason to refuse a Refuse.
-other_reason : (none short : Bool) → cond none (Some NotRefusable) (cond short (Some NoRoom) None) ≡ Some NoMemory → ⊥
-other_reason true short e = absurd (let z : Some NotRefusable ≡ Some NoMemory = e in cc)
-other_reason false true e = absurd (let z : Some NoRoom ≡ Some NoMemory = e in cc)
-other_reason false false e = absurd (let z : None ≡ Some NoMemory = e in cc)
+refuse_isnt_no_memory : (none short : Bool) → cond none (Some NotRefusable) (cond short (Some NoRoom) None) ≡ Some NoMemory → ⊥
+refuse_isnt_no_memory true short e = absurd (let z : Some NotRefusable ≡ Some NoMemory = e in cc)
+refuse_isnt_no_memory false true e = absurd (let z : Some NoRoom ≡ Some NoMemory = e in cc)
+refuse_isnt_no_memory false false e = absurd (let z : None ≡ Some NoMemory = e in cc)
 
 pub refuse_refused : (config : Config) (c : ℕ) (log : List Act) (r : Refused) (kept : Connection) (new : State)
     → is_shut c log ≡ false → Refuses (of c log) (Err r) kept → Acts config (Refuse c) log (Err r) new
 refuse_refused config c log NoMemory kept new open_now why =
-    absurd (other_reason (is_none (refusable (of c log))) (nat_lt (free (of c log)) longest_reply) why)
+    absurd (refuse_isnt_no_memory (is_none (refusable (of c log))) (nat_lt (free (of c log)) longest_reply) why)
 refuse_refused config c log _ kept new open_now why = λ channel_log tells. rw open_now why
 
 -- A Refuse that isn't refused answers the next call of the connection.
@@ -68,20 +68,21 @@ refuse_done state config log c kept rep sixteen lt open_now (none, bytes, call, 
           (λ (adds : List Act). Represents (record state { connections = set state.connections c kept }) config (adds ++ log))
           (sym (ap (λ (found : Option (List ℕ)). refuse_acts c found (refusable (of c log))) next ∙ ap (refuse_acts c (Some bytes)) known))
           (acted state config log (On c answered ∷ mid) c kept state.device rep sixteen lt (rw here mine) rep.device others
-          (taken_acted c log (On c answered ∷ mid) state.device.waiting others
-          (λ other waits. absurd {0} (busy_idle (of c log) other waits (not_busy c log bytes next))) rep.taken) state.connections_used
-          (used_acted state.connections_used c log (On c answered ∷ mid) rep.connections_used (unshut_used c log open_now)
+          (taken_after_act c log (On c answered ∷ mid) state.device.waiting others
+          (λ other waits. absurd {0} (pending_call_is_busy (of c log) other waits (not_busy c log bytes next))) rep.taken)
+              state.connections_used
+          (used_after_act state.connections_used c log (On c answered ∷ mid) rep.connections_used (unshut_used c log open_now)
           (λ z. let e : answered ∷ CallTaken bytes ∷ of c log ≡ [] = sym here ∙ z in absurd cc) others)),
     )
 
 -- An Input is refused for its channel or its voltage, and never for out of memory.
-other_input : (none far : Bool) → Some NoMemory ≡ cond none (Some BadChannel) (cond far (Some BadInput) None) → ⊥
-other_input true far e = absurd (let z : Some NoMemory ≡ Some BadChannel = e in cc)
-other_input false true e = absurd (let z : Some NoMemory ≡ Some BadInput = e in cc)
-other_input false false e = absurd (let z : Some NoMemory ≡ None = e in cc)
+input_isnt_no_memory : (none far : Bool) → Some NoMemory ≡ cond none (Some BadChannel) (cond far (Some BadInput) None) → ⊥
+input_isnt_no_memory true far e = absurd (let z : Some NoMemory ≡ Some BadChannel = e in cc)
+input_isnt_no_memory false true e = absurd (let z : Some NoMemory ≡ Some BadInput = e in cc)
+input_isnt_no_memory false false e = absurd (let z : Some NoMemory ≡ None = e in cc)
 
 pub input_refused : (config : Config) (channel : ℕ) (microvolts : ℤ) (log : List Act) (r : Refused) (new : State)
     → IsInput channel microvolts (Err r) → Acts config (Input channel microvolts) log (Err r) new
 input_refused config channel microvolts log NoMemory new why =
-    absurd (other_input (not (is_channel channel)) (is_beyond microvolts) why)
+    absurd (input_isnt_no_memory (not (is_channel channel)) (is_beyond microvolts) why)
 input_refused config channel microvolts log _ new why = λ channel_log tells. sym why

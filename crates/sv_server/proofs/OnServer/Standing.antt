@@ -16,7 +16,7 @@ use Rattle.sv_history.specs.History.{own_acts, refusal, Answers}
 use Rattle.sv_server.specs.Server.State.{State, Represents, StandsFor}
 use Rattle.sv_server.specs.Server.Inside.Acting.{Acts, IsRefusal, Settled, is_quiet}
 use Rattle.sv_history.proofs.StillSettled.{still_settled, channel_settled}
-use Rattle.sv_server.proofs.OnServer.Steps.{polled_now, told_now}
+use Rattle.sv_server.proofs.OnServer.Steps.{polled_now, channel_log_exists}
 
 nothing_due : (n : ℕ) (config : Config) (log new : List Act) → SettlesIn n config log new → IsSettled config new
 nothing_due zero config log new (none, same) = subst (λ (end : List Act). IsSettled config end) (sym same) none
@@ -29,7 +29,7 @@ pub stands_acted : (config : Config) (history : List PlainEvent) (event : PlainE
     → StandsFor new config (event ∷ history)
 stands_acted config history event old new s is_event free settles =
     let (polled, said) = polled_now old.device config (device_acts s.log) s.represents.device in
-    let (channel_log, tells) = told_now old.device config (device_acts s.log) s.represents.device in
+    let (channel_log, tells) = channel_log_exists old.device config (device_acts s.log) s.represents.device in
     let (last, steps, held) = settles polled said in
     record {
       log = last;
@@ -64,7 +64,7 @@ stands_at_once : (config : Config) (history : List PlainEvent) (event : PlainEve
 stands_at_once config history event old mid did quiet s is_event acts =
     let (free, done, makes) = acts config s.log s.represents in
     let (polled, said) = polled_now old.device config (device_acts s.log) s.represents.device in
-    let (channel_log, tells) = told_now old.device config (device_acts s.log) s.represents.device in
+    let (channel_log, tells) = channel_log_exists old.device config (device_acts s.log) s.represents.device in
     let none = quiet_settled config polled event s.log quiet s.settled in
     record {
       log = own_acts config polled event s.log ++ s.log;
@@ -84,46 +84,47 @@ stands_unless config history event old mid new did false loud s is_event acts se
     stands_after config history event old mid new did s is_event acts (λ k log rep. settles k log rep refl)
 
 -- Before all events no step is due.
-pub none_due : (config : Config) → IsSettled config []
-none_due config new (inl fires) = absurd (let none = fires.1.0 in cc)
-none_due config new (inr (none, inl goes)) = absurd (let z : None ≡ Some goes.1 = goes.4 in cc)
-none_due config new (inr (none, inr (still, inl step))) = step.1
-none_due config new (inr (none, inr (still, inr (idle, gives)))) = absurd (let z : None ≡ Some gives.1 = gives.3 in cc)
+pub none_due_at_start : (config : Config) → IsSettled config []
+none_due_at_start config new (inl fires) = absurd (let none = fires.1.0 in cc)
+none_due_at_start config new (inr (none, inl goes)) = absurd (let z : None ≡ Some goes.1 = goes.4 in cc)
+none_due_at_start config new (inr (none, inr (still, inl step))) = step.1
+none_due_at_start config new (inr (none, inr (still, inr (idle, gives)))) = absurd (let z : None ≡ Some gives.1 = gives.3 in cc)
 
 -- ---- refusals
 
 -- The interrupt channels have a log, and it determines why the event is refused.
-told_so : (config : Config) (event : PlainEvent) (log : List Act) (what : Option Refused) (old : State) → Represents old config log
+refusal_is_known : (config : Config) (event : PlainEvent) (log : List Act) (what : Option Refused) (old : State) → Represents old config log
     → IsRefusal config event log what
     → (channel_log : List ChannelAct) × HearsOf (device_acts log) channel_log × (refusal config channel_log event log ≡ what)
-told_so config event log what old rep why =
-    let (channel_log, tells) = told_now old.device config (device_acts log) rep.device in (channel_log, tells, why channel_log tells)
+refusal_is_known config event log what old rep why =
+    let (channel_log, tells) = channel_log_exists old.device config (device_acts log) rep.device in
+        (channel_log, tells, why channel_log tells)
 
 -- The result is the one that the log determines.
-pub answered : (config : Config) (event : PlainEvent) (log : List Act) (r : Result Did Refused) (old new : State)
+pub answers_by_log : (config : Config) (event : PlainEvent) (log : List Act) (r : Result Did Refused) (old new : State)
     → Represents old config log → Acts config event log r new → Answers config event log r
-answered config event log (Ok what) old new rep (none, does, more) =
-    let (channel_log, tells, free) = told_so config event log None old rep none in (channel_log, tells, (free, does))
-answered config event log (Err NoMemory) old new rep (none, wants) =
-    let (channel_log, tells, free) = told_so config event log None old rep none in
+answers_by_log config event log (Ok what) old new rep (none, does, more) =
+    let (channel_log, tells, free) = refusal_is_known config event log None old rep none in (channel_log, tells, (free, does))
+answers_by_log config event log (Err NoMemory) old new rep (none, wants) =
+    let (channel_log, tells, free) = refusal_is_known config event log None old rep none in
     let (polled, said) = polled_now old.device config (device_acts log) rep.device in
     (channel_log, tells, (free, polled, said, wants polled said))
-answered config event log (Err ConnInUse) old new rep why = told_so config event log (Some ConnInUse) old rep why
-answered config event log (Err NoConn) old new rep why = told_so config event log (Some NoConn) old rep why
-answered config event log (Err NoRoom) old new rep why = told_so config event log (Some NoRoom) old rep why
-answered config event log (Err NotSent) old new rep why = told_so config event log (Some NotSent) old rep why
-answered config event log (Err NoDial) old new rep why = told_so config event log (Some NoDial) old rep why
-answered config event log (Err NotRefusable) old new rep why = told_so config event log (Some NotRefusable) old rep why
-answered config event log (Err BadChannel) old new rep why = told_so config event log (Some BadChannel) old rep why
-answered config event log (Err BadInput) old new rep why = told_so config event log (Some BadInput) old rep why
-answered config event log (Err TimeOver) old new rep why = told_so config event log (Some TimeOver) old rep why
+answers_by_log config event log (Err ConnInUse) old new rep why = refusal_is_known config event log (Some ConnInUse) old rep why
+answers_by_log config event log (Err NoConn) old new rep why = refusal_is_known config event log (Some NoConn) old rep why
+answers_by_log config event log (Err NoRoom) old new rep why = refusal_is_known config event log (Some NoRoom) old rep why
+answers_by_log config event log (Err NotSent) old new rep why = refusal_is_known config event log (Some NotSent) old rep why
+answers_by_log config event log (Err NoDial) old new rep why = refusal_is_known config event log (Some NoDial) old rep why
+answers_by_log config event log (Err NotRefusable) old new rep why = refusal_is_known config event log (Some NotRefusable) old rep why
+answers_by_log config event log (Err BadChannel) old new rep why = refusal_is_known config event log (Some BadChannel) old rep why
+answers_by_log config event log (Err BadInput) old new rep why = refusal_is_known config event log (Some BadInput) old rep why
+answers_by_log config event log (Err TimeOver) old new rep why = refusal_is_known config event log (Some TimeOver) old rep why
 
-pub passed_on : {A E : Type 0} (r : Result A E) (e : E) → IsErr r → IsErrAnd r (λ x. x ≡ e) → r ≡ Err e
-passed_on (Ok a) e failed is = absurd cc
-passed_on (Err x) e failed is = ap Err is
+pub error_passed_on : {A E : Type 0} (r : Result A E) (e : E) → IsErr r → IsErrAnd r (λ x. x ≡ e) → r ≡ Err e
+error_passed_on (Ok a) e failed is = absurd cc
+error_passed_on (Err x) e failed is = ap Err is
 
 -- An event of a connection or a channel that isn't open is refused.
 pub no_connection : (config : Config) (event : PlainEvent) (log : List Act) (r : Result Did Refused) (passed : Refused) (new : State)
     {IsShut : Type 0} → IsErr r × IsErrAnd r (λ x. x ≡ passed) → (passed ≡ NoConn) × IsShut
     → (IsShut → IsRefusal config event log (Some NoConn)) → Acts config event log r new
-no_connection config event log r passed new (failed, is) (none, shut) why = rw (passed_on r passed failed is ∙ ap Err none) (why shut)
+no_connection config event log r passed new (failed, is) (none, shut) why = rw (error_passed_on r passed failed is ∙ ap Err none) (why shut)

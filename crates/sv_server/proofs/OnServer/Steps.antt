@@ -16,30 +16,32 @@ pub polled_now : (kept : KeptDevice) (config : Config) (acts : List DeviceAct) �
 polled_now kept config acts is = polled_byte kept.instrument.layers (instrument_acts acts) is.1.layers.stands
 
 -- There is a log of the interrupt channels.
-pub told_now : (kept : KeptDevice) (config : Config) (acts : List DeviceAct) → IsDevice kept config acts
+pub channel_log_exists : (kept : KeptDevice) (config : Config) (acts : List DeviceAct) → IsDevice kept config acts
     → (channel_log : List ChannelAct) × HearsOf acts channel_log
-told_now kept config acts is = (is.6.0, is.6.1)
+channel_log_exists kept config acts is = (is.6.0, is.6.1)
 
 -- No step is due if no step of any kind is possible.
 first_none : (A B : List Act → Type 0) → ((x : List Act) → A x → ⊥) → ((x : List Act) → B x → ⊥) → (x : List Act) → First A B x → ⊥
 first_none A B one other x (inl a) = one x a
 first_none A B one other x (inr b) = other x b.1
 
-pub none_next : {A B C D : List Act → Type 0} → ((x : List Act) → A x → ⊥) → ((x : List Act) → B x → ⊥) → ((x : List Act) → C x → ⊥)
+pub no_step_if_none_possible : {A B C D : List Act → Type 0} → ((x : List Act) → A x → ⊥) → ((x : List Act) → B x → ⊥)
+    → ((x : List Act) → C x → ⊥)
     → ((x : List Act) → D x → ⊥) → (x : List Act) → First A (First B (First C D)) x → ⊥
-none_next {A} {B} {C} {D} a b c d = first_none A (First B (First C D)) a (first_none B (First C D) b (first_none C D c d))
+no_step_if_none_possible {A} {B} {C} {D} a b c d = first_none A (First B (First C D)) a (first_none B (First C D) b (first_none C D c d))
 
 -- ---- sequences of steps
 
-pub goes_none : (config : Config) (log : List Act) → Reaches config log log
-goes_none config log = λ n new s. (n, s)
+pub reaches_itself : (config : Config) (log : List Act) → Reaches config log log
+reaches_itself config log = λ n new s. (n, s)
 
-pub goes_more : (config : Config) (log mid next : List Act) → Reaches config log mid → IsNext config mid next → Reaches config log next
-goes_more config log mid next goes one = λ n new s. goes (suc n) new (next, one, s)
+pub reaches_by_step : (config : Config) (log mid next : List Act) → Reaches config log mid → IsNext config mid next
+    → Reaches config log next
+reaches_by_step config log mid next goes one = λ n new s. goes (suc n) new (next, one, s)
 
-pub goes_then : (config : Config) (log mid last : List Act) → Reaches config log mid → Reaches config mid last → Reaches config log last
-goes_then config log mid last one other = λ n new s. let there = other n new s in one there.0 new there.1
+pub reaches_trans : (config : Config) (log mid last : List Act) → Reaches config log mid → Reaches config mid last → Reaches config log last
+reaches_trans config log mid last one other = λ n new s. let there = other n new s in one there.0 new there.1
 
-pub goes_settled : (config : Config) (log mid : List Act) → Reaches config log mid → IsSettled config mid
+pub settles_if_reached : (config : Config) (log mid : List Act) → Reaches config log mid → IsSettled config mid
     → (m : ℕ) × SettlesIn m config log mid
-goes_settled config log mid goes none = goes zero mid (none, refl)
+settles_if_reached config log mid goes none = goes zero mid (none, refl)

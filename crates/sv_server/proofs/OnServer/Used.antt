@@ -27,14 +27,14 @@ unshut_used c log unshut none =
     let shut : is_shut c log ≡ true = or_true (nat_lt 15 c) (not (is_open (of c log))) (ap (λ (l : List ConnAct). not (is_open l)) none) in
     let z : true ≡ false = sym shut ∙ unshut in absurd cc
 
-pub behind : (front acts : List ConnAct) → acts ≢ [] → front ++ acts ≢ []
-behind [] acts some none = some none
-behind (act ∷ front) acts some none = absurd cc
+pub nonempty_with_front : (front acts : List ConnAct) → acts ≢ [] → front ++ acts ≢ []
+nonempty_with_front [] acts some none = some none
+nonempty_with_front (act ∷ front) acts some none = absurd cc
 
 -- A connection acts that was used before.
-pub used_acted : (n c : ℕ) (log new : List Act) → IsUsed n log → of c log ≢ [] → of c new ≢ []
+pub used_after_act : (n c : ℕ) (log new : List Act) → IsUsed n log → of c log ≢ [] → of c new ≢ []
     → ((d : ℕ) → d ≢ c → of d new ≡ of d log) → IsUsed n new
-used_acted n c log new (none, some) there still others = (
+used_after_act n c log new (none, some) there still others = (
   λ d above. elim (cases_eq d c) [
     | inl e ↦ absurd (there (subst (λ (k : ℕ). of k log ≡ []) e (none d above)))
     | inr ne ↦ others d ne ∙ none d above
@@ -46,7 +46,7 @@ used_acted n c log new (none, some) there still others = (
 )
 
 pub used_act : (n c : ℕ) (act : ConnAct) (log : List Act) → IsUsed n log → of c log ≢ [] → IsUsed n (On c act ∷ log)
-used_act n c act log connections_used there = used_acted n c log (On c act ∷ log) connections_used there
+used_act n c act log connections_used there = used_after_act n c log (On c act ∷ log) connections_used there
     (λ z. let e : act ∷ of c log ≡ [] = sym (of_own_act c act log) ∙ z in absurd cc) (λ d ne. of_other_act c d act log ne)
 
 -- No connection acts.

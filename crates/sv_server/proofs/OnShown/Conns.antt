@@ -21,17 +21,17 @@ abbrev at : List ConnShown → ℕ → ConnShown
 at conns c = slice_index_or conns c never_opened
 
 -- One more connection is shown.
-pub conns_more : (old new : List ConnShown) (n : ℕ) (one : ConnShown) (log : List Act) → IsPut n one old new
+pub one_more_is_shown : (old new : List ConnShown) (n : ℕ) (one : ConnShown) (log : List Act) → IsPut n one old new
     → ((c : ℕ) → c < n → IsConn c (at old c) log) → IsConn n one log → (c : ℕ) → c < n + 1 → IsConn c (at new c) log
-conns_more old new n one log put before here c below = elim (cases_eq c n) [
+one_more_is_shown old new n one log put before here c below = elim (cases_eq c n) [
   | inl e ↦ rw e (rw put.0 here)
   | inr ne ↦ rw (put.1 c ne) (before c (omega (arith, ne, below)))
 ]
 
 -- All connections are shown; those after the last were never opened.
-pub conns_end : (conns : List ConnShown) (n : ℕ) (log : List Act) → length conns ≤ n → ((c : ℕ) → c < n → IsConn c (at conns c) log)
+pub all_are_shown : (conns : List ConnShown) (n : ℕ) (log : List Act) → length conns ≤ n → ((c : ℕ) → c < n → IsConn c (at conns c) log)
     → ((c : ℕ) → n ≤ c → c < 16 → IsConn c never_opened log) → AreConns conns log
-conns_end conns n log le told never c lt = elim (cases_lt c n) [
+all_are_shown conns n log le told never c lt = elim (cases_lt c n) [
   | inl below ↦ told c below
   | inr past ↦ rw (get_or_past conns c never_opened (omega (arith, le, past))) (never c past lt)
 ]

@@ -12,7 +12,7 @@ use Rattle.sv_links.specs.Table.{IsRising}
 use Rattle.sv_links.specs.ChannelRepresentation.{IsSorted}
 use Rattle.sv_explain.specs.declared.shown.Listed.{Listed}
 use Rattle.sv_server.specs.Device.Representation.{AreOwned}
-use Rattle.sv_server.proofs.OnDevice.Owned.{room_for}
+use Rattle.sv_server.proofs.OnDevice.Owned.{room_to_enable_srq}
 use Rattle.sv_server.proofs.OnShown.Lists.{one_more, all_found, past_end}
 
 -- A link as it is listed.
@@ -123,5 +123,5 @@ pub asking_few : (links : List Enabled) (acts : List LinkAct) → IsSorted links
 asking_few [] acts sorted owned within = omega arith
 asking_few (x ∷ links) acts sorted owned within =
     let room : length (filter (λ (other : Enabled). not (eqb other.lid x.lid)) (x ∷ links)) < max_links =
-    room_for (x ∷ links) acts x.lid x.conn sorted owned owned.0 within in
+    room_to_enable_srq (x ∷ links) acts x.lid x.conn sorted owned owned.0 within in
     let rest : length links < max_links = rw (eq-eqb x.lid x.lid refl, others x.lid links sorted.0) at room in omega arith

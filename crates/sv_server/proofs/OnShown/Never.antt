@@ -36,9 +36,9 @@ no_channel c log lt shut =
     shut_is true e = absurd cc
     shut_is false e = refl
 
-pub never_told : (state : State) (config : Config) (log : List Act) (c : ℕ) → Represents state config log → of c log ≡ []
+pub never_opened_is_shown : (state : State) (config : Config) (log : List Act) (c : ℕ) → Represents state config log → of c log ≡ []
     → has_channel c (device_acts log) ≡ false → IsConn c never_opened log
-never_told state config log c rep none shut = record {
+never_opened_is_shown state config log c rep none shut = record {
   role_is = rw none refl;
   faulted_is = nothing_faulted (of c log) none;
   call_is = rw (rep.device.4.all c, no_entry log c state.device.waiting none rep.taken) refl;

@@ -1,6 +1,6 @@
 use Rattle.std.proofs.Common.{sym, ◌∙◌}
 use Rattle.sv_header.specs.Plain.{left_of}
-use Rattle.sv_header.proofs.Walking.{found_there, found_absent, found_behind, found_below}
+use Rattle.sv_header.proofs.Walking.{found_if_node_taken, found_if_node_omitted, found_at_later_sibling, found_below}
 use Rattle.sv_header.proofs.walk.+walk.Goals as goal
 
 pub below-returns-in-None : goal.below-returns-in-None
@@ -10,19 +10,19 @@ below-returns-in-None t c =
 
 pub walk-returns-then-is_some : goal.walk-returns-then-is_some
 walk-returns-then-is_some t c =
-    found_there c.args.query c.args.branches.now c.in-Some.branch.now c.in-Some.children.now c.in-Some.siblings.now
+    found_if_node_taken c.args.query c.args.branches.now c.in-Some.branch.now c.in-Some.children.now c.in-Some.siblings.now
     (left_of c.args.left.now) c.behind.result c.below-there.result c.in-Some.ensures c.behind.ensures c.below-there.ensures
     (sym c.is_some.ensures ∙ c.if-is_some.true)
 
 pub walk-returns-then-is_some-2 : goal.walk-returns-then-is_some-2
 walk-returns-then-is_some-2 t c =
-    found_absent c.args.query c.args.branches.now c.in-Some.branch.now c.in-Some.children.now c.in-Some.siblings.now
+    found_if_node_omitted c.args.query c.args.branches.now c.in-Some.branch.now c.in-Some.children.now c.in-Some.siblings.now
     (left_of c.args.left.now) c.absent.result c.below-absent.result c.in-Some.ensures c.absent.ensures c.below-absent.ensures
     (sym c.is_some-2.ensures ∙ c.if-is_some-2.true)
 
 pub walk-returns : goal.walk-returns
 walk-returns t c =
-    found_behind c.args.query c.args.branches.now c.in-Some.branch.now c.in-Some.children.now c.in-Some.siblings.now
+    found_at_later_sibling c.args.query c.args.branches.now c.in-Some.branch.now c.in-Some.children.now c.in-Some.siblings.now
     (left_of c.args.left.now) c.behind.result c.absent.result c.below-there.result c.below-absent.result c.walk.result
     c.in-Some.ensures c.behind.ensures c.absent.ensures c.below-there.ensures (sym c.is_some.ensures ∙ c.if-is_some.false)
     c.below-absent.ensures (sym c.is_some-2.ensures ∙ c.if-is_some-2.false) c.walk.ensures

@@ -1,6 +1,6 @@
 use Rattle.sv_exchange.specs.Contents.{Contents, IsUnitDue, next_of, exchange_measure}
 use Rattle.std.proofs.Common.{sym, arith, ap, subst}
-use Rattle.sv_instrument.proofs.Units.{behaves_apart, behaves_replied, taken_apart}
+use Rattle.sv_instrument.proofs.Units.{behaves_apart, behaves_replied, query_is_apart}
 use Rattle.sv_instrument.proofs.queries.ask.Goals as goal
 
 pub returns-in-None-clause-behaves : goal.returns-in-None-clause-behaves
@@ -8,7 +8,7 @@ returns-in-None-clause-behaves g c = λ start log h.
     let free = sym (c.in-None.ensures log h.stands) in
     let says = rw (← c.as_slice.ensures.value) at (c.put_answer.ensures.says log h.stands free) in
     behaves_replied c.args.question _ log free says
-    (behaves_apart (taken_apart c.args.question log) (c.reply.ensures.behaves start _ (c.take.ensures.counts start log h)))
+    (behaves_apart (query_is_apart c.args.question log) (c.reply.ensures.behaves start _ (c.take.ensures.counts start log h)))
 
 pub carry_out-requires : goal.carry_out-requires
 carry_out-requires g c = c.requires.due

@@ -5,7 +5,7 @@ use Rattle.sv_errors.specs.declared.code.Code.TheVariants.{NoError}
 use Rattle.sv_layers.specs.Act.{queue_acts, scan_acts}
 use Rattle.sv_value.specs.Printing.{error_text}
 use Rattle.sv_instrument.specs.QueryResponse.{readings_text}
-use Rattle.sv_instrument.proofs.Words.{word_printed, number_printed, alone}
+use Rattle.sv_instrument.proofs.Words.{word_printed, number_printed, append_to_empty}
 use Rattle.sv_instrument.proofs.queries.put_answer.Goals.{in-StandardEvents, in-StatusByte, in-ErrorCount, in-Events, in-Condition}
 use Rattle.sv_instrument.proofs.queries.put_answer.Goals as goal
 
@@ -29,26 +29,26 @@ returns-clause-capacity g c = omega (arith, c.put_whole.ensures.capacity, c.clea
 
 pub returns-in-Identification-clause-says : goal.returns-in-Identification-clause-says
 returns-in-Identification-clause-says g c = λ log h free.
-    rw c.in-Identification.is (alone c.clear.ensures.items c.append.ensures.items)
+    rw c.in-Identification.is (append_to_empty c.clear.ensures.items c.append.ensures.items)
 
 pub returns-in-SelfTest-clause-says : goal.returns-in-SelfTest-clause-says
 returns-in-SelfTest-clause-says g c = λ log h free.
-    rw c.in-SelfTest.is (alone c.clear.ensures.items c.append-in-SelfTest.ensures.items)
+    rw c.in-SelfTest.is (append_to_empty c.clear.ensures.items c.append-in-SelfTest.ensures.items)
 
 pub returns-in-Version-clause-says : goal.returns-in-Version-clause-says
 returns-in-Version-clause-says g c = λ log h free.
-    rw c.in-Version.is (alone c.clear.ensures.items c.append-in-Version.ensures.items)
+    rw c.in-Version.is (append_to_empty c.clear.ensures.items c.append-in-Version.ensures.items)
 
 pub returns-in-Error-clause-says : goal.returns-in-Error-clause-says
 returns-in-Error-clause-says g c = λ log h free.
     let code = c.unwrap_or.ensures
     ∙ ap (λ (o : Option Code). unwrap_or o NoError) (c.oldest.ensures (queue_acts log) (c.errors.ensures log h)) in
-    rw c.in-Error.is (alone c.clear.ensures.items c.put_error.ensures.text
+    rw c.in-Error.is (append_to_empty c.clear.ensures.items c.put_error.ensures.text
     ∙ ap error_text code)
 
 pub returns-in-Readings-clause-says : goal.returns-in-Readings-clause-says
 returns-in-Readings-clause-says g c = λ log h free.
-    rw c.in-Readings.is (alone c.clear.ensures.items c.put_readings.ensures.text
+    rw c.in-Readings.is (append_to_empty c.clear.ensures.items c.put_readings.ensures.text
     ∙ ap readings_text (c.readings_so_far.ensures.answer (scan_acts log) (c.scanner.ensures.stands log h)))
 
 pub returns-clause-says : goal.returns-clause-says

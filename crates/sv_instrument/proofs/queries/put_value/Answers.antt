@@ -1,7 +1,7 @@
 use Rattle.std.proofs.Common.{◌∙◌, ℕ, ◌∷◌, [], ap, arith}
 use Rattle.sv_layers.specs.Act.{scan_acts}
 use Rattle.sv_value.specs.Printing.{channels_text, switch_text, source_text}
-use Rattle.sv_instrument.proofs.Words.{number_printed, alone}
+use Rattle.sv_instrument.proofs.Words.{number_printed, append_to_empty}
 use Rattle.sv_instrument.proofs.queries.put_value.Goals.{in-StandardEnable, in-ServiceEnable, in-Enable, in-Rise, in-Fall, in-Count}
 use Rattle.sv_instrument.proofs.queries.put_value.Goals as goal
 
@@ -28,22 +28,22 @@ returns-in-Source-clause-capacity g c = omega (arith, c.put_source.ensures.capac
 
 pub returns-in-ScanList-clause-text : goal.returns-in-ScanList-clause-text
 returns-in-ScanList-clause-text g c = λ log h.
-    rw c.in-ScanList.is (alone c.requires.empty c.put_channels.ensures.text
+    rw c.in-ScanList.is (append_to_empty c.requires.empty c.put_channels.ensures.text
     ∙ ap channels_text (c.list.ensures.answer (scan_acts log) (c.scanner-scanner.ensures.stands log h)))
 
 pub returns-in-Monitor-clause-text : goal.returns-in-Monitor-clause-text
 returns-in-Monitor-clause-text g c = λ log h.
-    rw c.in-Monitor.is (alone c.requires.empty c.put_channels-in-Monitor.ensures.text
+    rw c.in-Monitor.is (append_to_empty c.requires.empty c.put_channels-in-Monitor.ensures.text
     ∙ ap (λ (k : ℕ). channels_text (k ∷ [])) (c.monitor.ensures.answer (scan_acts log) (c.scanner-scanner.ensures.stands log h)))
 
 pub returns-in-Limits-clause-text : goal.returns-in-Limits-clause-text
 returns-in-Limits-clause-text g c = λ log h.
-    rw c.in-Limits.is (alone c.requires.empty c.put_switch.ensures.text
+    rw c.in-Limits.is (append_to_empty c.requires.empty c.put_switch.ensures.text
     ∙ ap switch_text (c.limits.ensures (scan_acts log) (c.scanner-scanner.ensures.stands log h)))
 
 pub returns-in-Source-clause-text : goal.returns-in-Source-clause-text
 returns-in-Source-clause-text g c = λ log h.
-    rw c.in-Source.is (alone c.requires.empty c.put_source.ensures.text
+    rw c.in-Source.is (append_to_empty c.requires.empty c.put_source.ensures.text
     ∙ ap source_text (c.source.ensures (scan_acts log) (c.scanner-scanner.ensures.stands log h)))
 
 pub returns-clause-text : goal.returns-clause-text

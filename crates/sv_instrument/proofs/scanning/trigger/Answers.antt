@@ -2,14 +2,14 @@ use Rattle.sv_exchange.specs.Contents.{exchange_measure}
 use Rattle.std.proofs.Common.{refl, sym, subst, arith, ap}
 use Rattle.sv_layers.specs.Inside.Representation.{LayerState}
 use Rattle.sv_instrument.specs.Inside.Acted.{Advances, Counts}
-use Rattle.sv_instrument.proofs.Counting.{counted}
+use Rattle.sv_instrument.proofs.Counting.{count_after_act}
 use Rattle.sv_instrument.proofs.Units.{behaves_apart, behaves_unless}
 use Rattle.sv_instrument.proofs.scanning.trigger.Goals as goal
 
 pub returns-in-Ok-clause-behaves : goal.returns-in-Ok-clause-behaves
 returns-in-Ok-clause-behaves g c = λ start log h.
     let did = c.in-Ok.ensures.applied log h.stands in
-    behaves_unless _ did.0 (behaves_apart refl (c.end.ensures.behaves start _ (counted did.1 h)))
+    behaves_unless _ did.0 (behaves_apart refl (c.end.ensures.behaves start _ (count_after_act did.1 h)))
 
 pub returns-in-Err-clause-behaves : goal.returns-in-Err-clause-behaves
 returns-in-Err-clause-behaves g c = λ start log h.

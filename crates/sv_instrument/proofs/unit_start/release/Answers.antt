@@ -2,7 +2,7 @@ use Rattle.std.proofs.Common.{◌∙◌, ◌++◌, ℕ, List, ap, arith}
 use Rattle.sv_layers.specs.Act.{scan_acts}
 use Rattle.sv_instrument.specs.CommandEffect.{after_answering, done}
 use Rattle.sv_instrument.specs.QueryResponse.{readings_text}
-use Rattle.sv_instrument.proofs.Units.{behaves_made}
+use Rattle.sv_instrument.proofs.Units.{behaves_if_equal_log}
 use Rattle.sv_instrument.proofs.unit_start.release.Goals as goal
 
 pub returns-in-Nothing-clause-behaves : goal.returns-in-Nothing-clause-behaves
@@ -17,7 +17,7 @@ returns-in-Readings-clause-behaves g c = λ start log h.
     let told = c.as_slice.ensures.value ∙ c.put_readings.ensures.text
     ∙ ap (λ (front : List ℕ). front ++ readings_text c.readings_so_far.result.now) c.clear.ensures.items ∙ ap readings_text read in
     rw c.in-Readings.is
-    (behaves_made (ap (λ (text : List ℕ). after_answering text (done log)) told) (c.reply-in-Readings.ensures.behaves start log h))
+    (behaves_if_equal_log (ap (λ (text : List ℕ). after_answering text (done log)) told) (c.reply-in-Readings.ensures.behaves start log h))
 
 pub end-requires : goal.end-requires
 end-requires g c = c.requires.due

@@ -1,6 +1,6 @@
 use Rattle.std.proofs.Common.{◌∙◌, ap, sym, ◌<◌, length, arith}
 use Rattle.sv_text.proofs.Parts.{at_least_one_part}
-use Rattle.sv_header.proofs.Fitting.{but_last_push}
+use Rattle.sv_header.proofs.Fitting.{but_last_of_append}
 use Rattle.sv_header.specs.Resolve.{but_last}
 use Rattle.sv_header.proofs.path.Path.walk.Goals as goal
 
@@ -14,4 +14,4 @@ push-requires c =
 pub returns : goal.returns
 returns c =
     let same = rw c.in_default.is at c.loop-behind.invariant.same in
-    sym (but_last_push c.loop-behind.self-inside.mnemonics.items c.loop-behind.first.now) ∙ ap but_last same
+    sym (but_last_of_append c.loop-behind.self-inside.mnemonics.items c.loop-behind.first.now) ∙ ap but_last same

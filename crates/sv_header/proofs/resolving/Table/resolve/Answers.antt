@@ -1,5 +1,5 @@
 use Rattle.std.proofs.Common.{◌≤◌, length, arith}
-use Rattle.sv_header.proofs.Resolution.{StandsFor, resolved}
+use Rattle.sv_header.proofs.Resolution.{StandsFor, walk_resolves}
 use Rattle.sv_header.proofs.resolving.Table.resolve.Goals as goal
 
 pub returns : goal.returns
@@ -8,5 +8,5 @@ returns g c =
     record { common = c.new-sent.ensures.common; query = c.new-sent.ensures.query; mnemonics = c.new-sent.ensures.mnemonics } in
     let whole : length c.roots.result.now ≤ length c.roots.result.now = omega arith in
     rw c.ok_or.ensures.value
-    (resolved c.args.path.now c.args.header.now c.new-sent.result c.roots.result.now c.walk.result stands c.roots.ensures
+    (walk_resolves c.args.path.now c.args.header.now c.new-sent.result c.roots.result.now c.walk.result stands c.roots.ensures
     (c.walk.ensures (length c.roots.result.now) whole))

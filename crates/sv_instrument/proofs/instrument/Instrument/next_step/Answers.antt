@@ -2,8 +2,8 @@ use Rattle.std.proofs.Common.{◌∙◌, sym, ap, refl}
 use Rattle.sv_exchange.specs.Exchange.{InterruptDue, OverrunDue, FinishDue}
 use Rattle.sv_exchange.specs.Contents.{next_of}
 use Rattle.sv_layers.specs.Act.{exchange_acts}
-use Rattle.sv_instrument.proofs.Counting.{runs_none}
-use Rattle.sv_instrument.proofs.NextStep.{step_of, unit_step, nothing_due, none_while_free}
+use Rattle.sv_instrument.proofs.Counting.{runs_at_start}
+use Rattle.sv_instrument.proofs.NextStep.{step_of, start_is_due_step, nothing_due, none_due_if_nothing_due}
 use Rattle.sv_instrument.proofs.instrument.Instrument.next_step.Goals as goal
 
 pub returns-in-Nothing : goal.returns-in-Nothing
@@ -15,7 +15,7 @@ returns-in-Nothing g c = (
   λ log h.
       let s = rw (← c.self.view_is) at h in
       let is = c.in-Nothing.ensures.answer (exchange_acts log) (c.exchange.ensures.stands log s.layers.stands) in
-      none_while_free log (sym c.requires ∙ h.held) is,
+      none_due_if_nothing_due log (sym c.requires ∙ h.held) is,
   refl,
 )
 
@@ -24,7 +24,7 @@ returns-in-Overrun g c = (
   λ log h.
       let s = rw (← c.self.view_is) at h in
       let is = c.in-Overrun.ensures.answer (exchange_acts log) (c.exchange.ensures.stands log s.layers.stands) in
-      (_, step_of log _ _ OverrunDue (sym c.requires ∙ h.held) is refl, c.overran.ensures.runs log log (runs_none h)),
+      (_, step_of log _ _ OverrunDue (sym c.requires ∙ h.held) is refl, c.overran.ensures.runs log log (runs_at_start h)),
   c.overran.ensures.measure,
 )
 
@@ -33,7 +33,7 @@ returns-in-Interrupt g c = (
   λ log h.
       let s = rw (← c.self.view_is) at h in
       let is = c.in-Interrupt.ensures.answer (exchange_acts log) (c.exchange.ensures.stands log s.layers.stands) in
-      let unit = c.interrupt.ensures.starts log log (runs_none h) in
+      let unit = c.interrupt.ensures.starts log log (runs_at_start h) in
       (unit.new, step_of log unit.new _ InterruptDue (sym c.requires ∙ h.held) is (unit.unit, unit.next, unit.starts), unit.runs),
   c.interrupt.ensures.measure,
 )
@@ -43,8 +43,8 @@ returns-in-Unit g c = (
   λ log h.
       let s = rw (← c.self.view_is) at h in
       let is = c.in-Unit.ensures.answer (exchange_acts log) (c.exchange.ensures.stands log s.layers.stands) in
-      let unit = c.start.ensures.starts log log (runs_none h) in
-      (unit.new, unit_step log unit.new unit.unit _ (sym c.requires ∙ h.held) is unit.next unit.starts, unit.runs),
+      let unit = c.start.ensures.starts log log (runs_at_start h) in
+      (unit.new, start_is_due_step log unit.new unit.unit _ (sym c.requires ∙ h.held) is unit.next unit.starts, unit.runs),
   c.start.ensures.measure,
 )
 
@@ -53,7 +53,7 @@ returns-in-Finish g c = (
   λ log h.
       let s = rw (← c.self.view_is) at h in
       let is = c.in-Finish.ensures.answer (exchange_acts log) (c.exchange.ensures.stands log s.layers.stands) in
-      (_, step_of log _ _ FinishDue (sym c.requires ∙ h.held) is refl, c.finish.ensures.runs log log (runs_none h)),
+      (_, step_of log _ _ FinishDue (sym c.requires ∙ h.held) is refl, c.finish.ensures.runs log log (runs_at_start h)),
   c.finish.ensures.measure,
 )
 

@@ -3,7 +3,7 @@ use Rattle.sv_scan.specs.declared.setting.State.{State}
 use Rattle.sv_scan.specs.Counted.{is_idle}
 use Rattle.sv_layers.specs.Act.{scan_acts, exchange_acts}
 use Rattle.sv_exchange.specs.Exchange.{due}
-use Rattle.sv_instrument.proofs.Counting.{runs_none}
+use Rattle.sv_instrument.proofs.Counting.{runs_at_start}
 use Rattle.sv_instrument.proofs.Paths.{released_path}
 use Rattle.sv_instrument.proofs.NextStep.{step_of, none_while_busy, none_while_held}
 use Rattle.sv_instrument.proofs.instrument.Instrument.release.Goals as goal
@@ -11,7 +11,7 @@ use Rattle.sv_instrument.proofs.instrument.Instrument.release.Goals as goal
 pub returns-in-Idle : goal.returns-in-Idle
 returns-in-Idle g c = (
   λ log h.
-      let s = runs_none (rw (← c.self.view_is) at h) in
+      let s = runs_at_start (rw (← c.self.view_is) at h) in
       let is = sym c.requires ∙ h.held in
       let state = c.in-Idle.ensures.answer (scan_acts log) (c.scanner.ensures.stands log s.layers.stands) in
       let idle = sym (ap (λ (state : State). is_idle state) state) in

@@ -1,17 +1,17 @@
 use Rattle.std.proofs.Common.{sym, subst, arith}
 use Rattle.sv_layers.specs.Inside.Representation.{LayerState}
 use Rattle.sv_instrument.specs.Inside.Acted.{Counts}
-use Rattle.sv_instrument.proofs.Counting.{counted, counts, runs_none}
+use Rattle.sv_instrument.proofs.Counting.{count_after_act, counts, runs_at_start}
 use Rattle.sv_instrument.proofs.instrument.Instrument.trigger.Goals.{in-Ok, in-Err}
 use Rattle.sv_instrument.proofs.instrument.Instrument.trigger.Goals as goal
 
 pub returns : goal.returns
 returns g c = λ log h.
-    let s = runs_none (rw (← c.self.view_is) at h) in
+    let s = runs_at_start (rw (← c.self.view_is) at h) in
     elim c.match-trigger.branch [
       | in-Ok w ↦
           let did = w.in-Ok.ensures.applied log s.layers.stands in
-          let begun = counted did.1 s.layers in
+          let begun = count_after_act did.1 s.layers in
           rw did.0
           (c.take_requests.ensures.ran log _ (rw w.self-is (record { layers = begun; held = s.held; path = s.path })) (omega arith))
       | in-Err w ↦

@@ -3,7 +3,7 @@ use Rattle.sv_status.specs.declared.status_byte.StatusAct.{StatusAct}
 use Rattle.sv_layers.specs.Change.{act_of}
 use Rattle.sv_layers.specs.Inside.LayerLogs.{layer_logs}
 use Rattle.sv_layers.specs.Inside.Representation.{Represents}
-use Rattle.sv_layers.proofs.Unpolled.{unpolled}
+use Rattle.sv_layers.proofs.Unpolled.{change_is_no_poll}
 use Rattle.sv_layers.proofs.layers.Layers.apply.Goals as goal
 
 pub returns-clause-applied : goal.returns-clause-applied
@@ -12,7 +12,7 @@ returns-clause-applied g c = λ log h.
     let begins = c.begin.ensures.stands (layer_logs log) h.status_log h.joined in
     rw (← c.begin.ensures.requests, ← c.end.ensures.requests) (c.tell.ensures.applied log act h.status_log h.are
     (subst (λ (status_log : List StatusAct). Represents c.end.new.self (layer_logs (act ∷ log)) status_log)
-    (unpolled c.args.change h.status_log)
+    (change_is_no_poll c.args.change h.status_log)
     (c.end.ensures.stands log act h.status_log ((λ name acts. refl), (λ acts. refl)) begins)))
 
 pub returns-clause-exchange : goal.returns-clause-exchange

@@ -1,9 +1,9 @@
 use Rattle.std.proofs.Common.{refl}
-use Rattle.sv_layers.proofs.Acted.{exchange_acted}
+use Rattle.sv_layers.proofs.Acted.{exchange_act_begun}
 use Rattle.sv_layers.proofs.layers.Layers.drop_unfinished.Goals as goal
 
 pub returns-clause-applied : goal.returns-clause-applied
 returns-clause-applied g c = λ log h.
     let k = rw (← c.self.view_is) at h in
-    rw (← c.self.view_is) (c.update_status.ensures.applied log _ (exchange_acted k
+    rw (← c.self.view_is) (c.update_status.ensures.applied log _ (exchange_act_begun k
     (c.drop_unfinished.ensures.stands _ k.joined.exchange)) refl)

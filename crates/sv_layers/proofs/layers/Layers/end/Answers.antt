@@ -12,7 +12,7 @@ use Rattle.sv_layers.proofs.Booleans.{same_bool, neither}
 use Rattle.sv_layers.proofs.SameWords.{same_words}
 use Rattle.sv_layers.proofs.SameSummaries.{same_summary}
 use Rattle.sv_layers.proofs.LimitSummary.{summary_is}
-use Rattle.sv_layers.proofs.Followed.{counted_leaves, begun_scans, begun_stands, ended_stands, questionable_is}
+use Rattle.sv_layers.proofs.Followed.{untouched_words_kept, begun_scans, begun_stands, stands_after_direct_effect, questionable_is}
 use Rattle.sv_layers.proofs.layers.Layers.end.Goals as goal
 
 pub returns-clause-stands : goal.returns-clause-stands
@@ -20,15 +20,15 @@ returns-clause-stands g c = λ log act status_log same h.
     let other = act_of c.args.change.now in
     let j = rw (← c.self.view_is) at h in
     let scans = begun_scans _ act log j.scanner in
-    let left = counted_leaves c.touched-touched.result act log (c.touched-touched.ensures.stands (scan_acts (act ∷ log)) scans) in
+    let left = untouched_words_kept c.touched-touched.result act log (c.touched-touched.ensures.stands (scan_acts (act ∷ log)) scans) in
     let operates = c.conditions-now.ensures.operation (scan_acts (act ∷ log)) scans in
     let questions = c.conditions-now.ensures.questionable (scan_acts (act ∷ log)) scans in
     let limits = c.conditions-now.ensures.limit (scan_acts (act ∷ log)) scans in
-    let operation = ended_stands Operation other act log _ _ operates (same.0 Operation) (c.change_register.ensures _ _
+    let operation = stands_after_direct_effect Operation other act log _ _ operates (same.0 Operation) (c.change_register.ensures _ _
     (c.compare.ensures _ _ (begun_stands Operation act log _ (j.registers Operation))
     (λ no. operates ∙ left.0 no ∙ sym (same_words Operation log).0))) in
     let before = begun_stands Limit act log _ (j.registers Limit) in
-    let limit = ended_stands Limit other act log _ _ limits (same.0 Limit) (c.change_register-2.ensures _ _
+    let limit = stands_after_direct_effect Limit other act log _ _ limits (same.0 Limit) (c.change_register-2.ensures _ _
     (c.compare-2.ensures _ _ before (λ no. limits ∙ left.2 no ∙ sym (same_words Limit log).0))) in
     let stood : c.summary-stood.result ≡ summary Limit log = same_bool _ _ (c.summary-stood.ensures _ _ before)
     (iff_transitive (summary_is Limit (λ place. refl) log) (let is = same_summary Limit log in (is.1, is.0))) in
@@ -36,7 +36,7 @@ returns-clause-stands g c = λ log act status_log same h.
     (iff_transitive (summary_is Limit (λ place. refl) (act ∷ log)) (let is = same_summary Limit (act ∷ log) in (is.1, is.0))) in
     let word = questionable_is _ _ (effective_acts (act ∷ log)) (summary Limit (act ∷ log)) questions
     (c.summary_bit.ensures ∙ ap (scan.bit 9) stands) in
-    let questionable = ended_stands Questionable other act log _ _ word (same.0 Questionable) (c.change_register-3.ensures _ _
+    let questionable = stands_after_direct_effect Questionable other act log _ _ word (same.0 Questionable) (c.change_register-3.ensures _ _
     (c.compare-3.ensures _ _ (begun_stands Questionable act log _ (j.registers Questionable)) (λ no.
     let both = neither c.touched-touched.result.questionable c.differ.result no in
     let moved = sym stands ∙ sym (c.differ.ensures both.1) ∙ stood in

@@ -1,5 +1,5 @@
-use Rattle.sv_layers.proofs.Lent.{lent_errors}
+use Rattle.sv_layers.proofs.Lent.{errors_stand}
 use Rattle.sv_layers.proofs.layers.Layers.errors.Goals as goal
 
 pub returns : goal.returns
-returns g c = λ log h. lent_errors _ log (rw (← c.self.view_is) at h)
+returns g c = λ log h. errors_stand _ log (rw (← c.self.view_is) at h)

@@ -6,8 +6,8 @@ use Rattle.sv_status.specs.StatusByte.{StandsFor as Statuses, IsRaised}
 use Rattle.sv_layers.specs.Inside.LayerLogs.{layer_logs}
 use Rattle.sv_layers.specs.Inside.Representation.{IsStatus, max_count, own_status}
 use Rattle.sv_logs.proofs.Since.{iff_transitive}
-use Rattle.sv_layers.proofs.Booleans.{byte_is}
-use Rattle.sv_layers.proofs.SameRequests.{told_raised}
+use Rattle.sv_layers.proofs.Booleans.{from_bool_is_bit}
+use Rattle.sv_layers.proofs.SameRequests.{same_raised}
 use Rattle.sv_layers.proofs.layers.Layers.tell.Goals as goal
 
 pub returns-clause-applied : goal.returns-clause-applied
@@ -37,7 +37,7 @@ returns-clause-applied g c = λ log act before is h.
         };
       };
       raised = c.update-raised.result;
-      requests = iff_transitive raised (told_raised (act ∷ log) status_log are);
+      requests = iff_transitive raised (same_raised (act ∷ log) status_log are);
       count = rw (← c.self.view_is) (c.saturating_add-self-inside.ensures
-          ∙ ap (λ (n : ℕ). min (c.self.inside.requests + n) max_count) (c.from.ensures ∙ byte_is c.update-raised.result));
+          ∙ ap (λ (n : ℕ). min (c.self.inside.requests + n) max_count) (c.from.ensures ∙ from_bool_is_bit c.update-raised.result));
     }

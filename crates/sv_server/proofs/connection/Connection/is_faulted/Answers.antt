@@ -1,5 +1,5 @@
 use Rattle.std.proofs.Common.{sym}
-use Rattle.sv_server.proofs.OnConnection.Connections.{faulted_is, faulted_told}
+use Rattle.sv_server.proofs.OnConnection.Connections.{faulted_is, fault_means_faulted}
 use Rattle.sv_server.proofs.connection.Connection.is_faulted.Goals as goal
 
 pub returns-in-Ok : goal.returns-in-Ok
@@ -7,4 +7,4 @@ returns-in-Ok g c = λ acts is. rw (← c.in-Ok.ensures.value) at (faulted_is _ 
 
 pub returns-in-Err-RecordTooLong : goal.returns-in-Err-RecordTooLong
 returns-in-Err-RecordTooLong g c = λ acts is.
-    faulted_told _ acts (rw (← c.self.view_is) at is) _ (sym c.in-Err-RecordTooLong.ensures.value)
+    fault_means_faulted _ acts (rw (← c.self.view_is) at is) _ (sym c.in-Err-RecordTooLong.ensures.value)

@@ -1,4 +1,4 @@
-use Rattle.sv_server.proofs.OnServer.Going.{within_of}
+use Rattle.sv_server.proofs.OnServer.Going.{suspended_is_below_16}
 use Rattle.sv_server.proofs.server.Server.abort.Goals as goal
 
 pub returns-in-Some-new : goal.returns-in-Some-new
@@ -8,4 +8,4 @@ returns-in-Some-new g c = λ config log rep does.
 
 pub returns-in_default-new : goal.returns-in_default-new
 returns-in_default-new g c = λ config log rep does.
-    absurd {0} (within_of _ config log c.in-Some.number rep (does c.in-Some.number c.in-Some.is) c.in_default-new.ensures)
+    absurd {0} (suspended_is_below_16 _ config log c.in-Some.number rep (does c.in-Some.number c.in-Some.is) c.in_default-new.ensures)

@@ -1,5 +1,5 @@
 use Rattle.sv_history.specs.Event.{plain}
-use Rattle.sv_server.proofs.OnReplay.Explained.{told_applied, told_refused}
+use Rattle.sv_server.proofs.OnReplay.Explained.{told_applied, refused_event_is_explained}
 use Rattle.sv_server.proofs.server.Server.act_aloud.Goals as goal
 
 pub returns-in-Ok-clause-told : goal.returns-in-Ok-clause-told
@@ -11,5 +11,6 @@ returns-in-Ok-clause-told g c = λ config log rep.
 
 pub returns-in-Err-clause-told : goal.returns-in-Err-clause-told
 returns-in-Err-clause-told g c = λ config log rep.
-    rw c.in-Err.is (told_refused c.args.line config (plain c.args.event) log c.in-Err.field-0 c.args.self.now c.act-done.new.self
+    rw c.in-Err.is (refused_event_is_explained c.args.line config (plain c.args.event) log c.in-Err.field-0 c.args.self.now
+        c.act-done.new.self
     _ _ _ _ _ _ rep (c.in-Err.ensures.acts config log rep) c.in-Err.ensures.err (c.tell_before.ensures config log rep) c.tell_tick.ensures)

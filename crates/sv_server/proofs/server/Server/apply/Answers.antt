@@ -4,7 +4,7 @@ use Rattle.sv_history.specs.declared.event.Did.{Did}
 use Rattle.sv_history.specs.declared.event.Refused.{Refused}
 use Rattle.sv_history.specs.Event.{plain}
 use Rattle.sv_history.specs.History.{Answers}
-use Rattle.sv_server.proofs.OnServer.Standing.{answered, passed_on, stands_unless}
+use Rattle.sv_server.proofs.OnServer.Standing.{answers_by_log, error_passed_on, stands_unless}
 use Rattle.sv_server.proofs.server.Server.apply.Goals as goal
 
 pub returns-in_err-did-clause-answers : goal.returns-in_err-did-clause-answers
@@ -12,8 +12,8 @@ returns-in_err-did-clause-answers g c = λ config history s. (
   s.log,
   s.is_log,
   subst (λ (r : Result Did Refused). Answers config (plain c.args.event) s.log r)
-      (sym (passed_on c.from_residual.result c.in_err-did.field-0.0 c.from_residual.ensures.0 c.from_residual.ensures.1))
-      (answered config (plain c.args.event) s.log (Err c.in_err-did.field-0.0) c.args.self.now c.act.new.self s.represents
+      (sym (error_passed_on c.from_residual.result c.in_err-did.field-0.0 c.from_residual.ensures.0 c.from_residual.ensures.1))
+      (answers_by_log config (plain c.args.event) s.log (Err c.in_err-did.field-0.0) c.args.self.now c.act.new.self s.represents
       (c.in_err-did.ensures.acts config s.log s.represents)),
 )
 
@@ -21,7 +21,7 @@ pub returns-clause-answers : goal.returns-clause-answers
 returns-clause-answers g c = λ config history s. (
   s.log,
   s.is_log,
-  answered config _ s.log (Ok c.in_ok-did.did) c.args.self.now _ s.represents
+  answers_by_log config _ s.log (Ok c.in_ok-did.did) c.args.self.now _ s.represents
       (c.in_ok-did.ensures.acts config s.log s.represents),
 )
 

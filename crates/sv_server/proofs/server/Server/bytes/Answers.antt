@@ -3,7 +3,7 @@ use Rattle.std.proofs.lemmas.Bool.{le-ltb, lt-ltb}
 use Rattle.std.proofs.lemmas.List.{get_or_default}
 use Rattle.sv_history.specs.Act.{Piece, of}
 use Rattle.sv_history.specs.Event.{Bytes}
-use Rattle.sv_server.proofs.OnServer.Logs.{connection_of, one_act}
+use Rattle.sv_server.proofs.OnServer.Logs.{connection_of, stands_after_own_act}
 use Rattle.sv_server.proofs.OnServer.Standing.{no_connection}
 use Rattle.sv_server.proofs.OnServer.Used.{unshut_used, used_act}
 use Rattle.sv_server.proofs.server.Server.bytes.Goals as goal
@@ -34,7 +34,7 @@ returns-clause-acts g c = λ config log rep.
     rw (← c.in_ok-conn.ensures.same) (
       λ channel_log tells. rw (unshut, le-ltb _ _ (rw room at c.if-room-piece.false)) refl,
       refl,
-      λ polled said. rw c.index.ensures (one_act _ config log conn.number c.index_mut-connection.result.now c.push.new.self
+      λ polled said. rw c.index.ensures (stands_after_own_act _ config log conn.number c.index_mut-connection.result.now c.push.new.self
           (Piece c.args.piece.now) state c.self.invariant conn.within at (c.push.ensures (of conn.number log)) (λ call known. known) _
           (used_act c.self.inside.connections_used conn.number (Piece c.args.piece.now) log state.connections_used
           (unshut_used conn.number log unshut))),

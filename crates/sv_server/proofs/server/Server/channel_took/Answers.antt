@@ -3,9 +3,9 @@ use Rattle.sv_links.specs.Channels.{ChannelTaken, waiting as channel_bytes}
 use Rattle.sv_history.specs.Act.{Channel, device_acts}
 use Rattle.sv_history.specs.declared.event.Port.TheVariants.{Intr}
 use Rattle.sv_history.specs.Event.{Took}
-use Rattle.sv_server.proofs.OnServer.Logs.{shared_acts}
+use Rattle.sv_server.proofs.OnServer.Logs.{stands_after_device_acts}
 use Rattle.sv_server.proofs.OnServer.Standing.{no_connection}
-use Rattle.sv_server.proofs.OnDevice.Channels.{channel_there, took_refused, took_allowed}
+use Rattle.sv_server.proofs.OnDevice.Channels.{has_channel_if_open, took_refused, took_allowed}
 use Rattle.sv_server.proofs.server.Server.channel_took.Goals as goal
 
 pub returns-in_err-conn-clause-acts : goal.returns-in_err-conn-clause-acts
@@ -31,7 +31,8 @@ returns-clause-acts g c = λ config log rep.
       λ channel_log tells. rw unshut (took_allowed c.args.count (channel_bytes conn.number channel_log) _
           (c.channel_waiting.ensures.answer config (device_acts log) channel_log state.device tells) c.if-channel_waiting-count.false),
       refl,
-      λ polled said. shared_acts _ config log c.channel_took.new.self (Channel (ChannelTaken conn.number c.args.count) ∷ []) state
-          (c.channel_took.ensures.stands config (device_acts log) state.device (channel_there conn.number log unshut))
+      λ polled said. stands_after_device_acts _ config log c.channel_took.new.self (Channel (ChannelTaken conn.number c.args.count) ∷ [])
+          state
+          (c.channel_took.ensures.stands config (device_acts log) state.device (has_channel_if_open conn.number log unshut))
           c.channel_took.ensures.waiting,
     )

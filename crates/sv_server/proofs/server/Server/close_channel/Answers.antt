@@ -3,7 +3,7 @@ use Rattle.sv_links.specs.Channels.{ChannelClosed}
 use Rattle.sv_history.specs.Act.{Channel, device_acts}
 use Rattle.sv_history.specs.declared.event.Port.TheVariants.{Intr}
 use Rattle.sv_history.specs.Event.{Close}
-use Rattle.sv_server.proofs.OnServer.Logs.{shared_acts}
+use Rattle.sv_server.proofs.OnServer.Logs.{stands_after_device_acts}
 use Rattle.sv_server.proofs.OnServer.Standing.{no_connection}
 use Rattle.sv_server.proofs.server.Server.close_channel.Goals as goal
 
@@ -20,6 +20,6 @@ returns-clause-acts g c = λ config log rep.
     rw (← c.in_ok-conn.ensures.same) (
       λ channel_log tells. rw unshut refl,
       refl,
-      λ polled said. shared_acts _ config log c.close_channel.new.self (Channel (ChannelClosed conn.number) ∷ []) state
+      λ polled said. stands_after_device_acts _ config log c.close_channel.new.self (Channel (ChannelClosed conn.number) ∷ []) state
           (c.close_channel.ensures.stands config (device_acts log) state.device) c.close_channel.ensures.waiting,
     )

@@ -1,7 +1,7 @@
 use Rattle.std.proofs.Common.{◌≡◌, ℕ, ◌≤◌, ◌<◌, min, ap, arith, inl, inr}
 use Rattle.std.proofs.lemmas.Bool.{cases_eq}
 use Rattle.sv_server.specs.Server.State.{State}
-use Rattle.sv_server.proofs.OnShown.Never.{no_channel, never_told}
+use Rattle.sv_server.proofs.OnShown.Never.{no_channel, never_opened_is_shown}
 use Rattle.sv_server.proofs.server.Server.conns_to_tell.Goals as goal
 
 pub loop-number-init : goal.loop-number-init
@@ -21,5 +21,5 @@ pub returns-clause-never : goal.returns-clause-never
 returns-clause-never g c = λ config log rep k le lt.
     let used : c.args.self.now.connections_used ≤ k =
     rw (← ap (λ (s : State). s.connections_used) c.self.view_is) (above_least c.min.result _ k c.min.ensures le lt) in
-    never_told c.args.self.now config log k rep (rep.connections_used.0 k used)
+    never_opened_is_shown c.args.self.now config log k rep (rep.connections_used.0 k used)
     (c.loop-number.invariant config log rep k used (omega (arith, lt, c.loop-number-test.false)))

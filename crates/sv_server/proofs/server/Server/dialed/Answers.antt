@@ -4,8 +4,8 @@ use Rattle.sv_history.specs.Act.{of, device_acts, wait_acts}
 use Rattle.sv_history.specs.Event.{Dialed}
 use Rattle.sv_server.proofs.OnServer.Logs.{connection_of}
 use Rattle.sv_server.proofs.OnServer.Standing.{no_connection}
-use Rattle.sv_server.proofs.OnServer.Going.{taken_of, gave_up_stands}
-use Rattle.sv_server.proofs.OnDevice.Channels.{dialing_waits}
+use Rattle.sv_server.proofs.OnServer.Going.{suspended_was_taken, stands_after_time_out}
+use Rattle.sv_server.proofs.OnDevice.Channels.{dialing_call_is_suspended}
 use Rattle.sv_server.proofs.server.Server.dialed.Goals as goal
 
 pub returns-in_err-conn-clause-acts : goal.returns-in_err-conn-clause-acts
@@ -28,11 +28,13 @@ returns-clause-acts g c = λ config log rep.
     let is = connection_of _ config log conn.number c.index_mut-connection.result.now state conn.within at in
     let unshut = rw (← c.in_ok-conn.ensures.same) at (c.in_ok-conn.ensures.answer config log rep) in
     let dialing = sym (c.if-not-is_dialing.ensures config (device_acts log) state.device) in
-    let (call, known) = taken_of _ config log conn.number state (dialing_waits conn.number (wait_acts (device_acts log)) dialing) in
+    let (call, known) = suspended_was_taken _ config log conn.number state
+        (dialing_call_is_suspended conn.number (wait_acts (device_acts log)) dialing) in
     rw (← c.in_ok-conn.ensures.same) (
       λ channel_log tells. rw (unshut, dialing) refl,
       refl,
-      λ polled said. rw c.index.ensures (gave_up_stands _ config log conn.number _ c.take_up.new.connection c.take_up.new.device state
+      λ polled said. rw c.index.ensures
+          (stands_after_time_out _ config log conn.number _ c.take_up.new.connection c.take_up.new.device state
           c.self.invariant conn.within
           (c.take_up.ensures.concludes config polled (of conn.number log) (device_acts log) is (ap is_some known) (state.device, said)
           dialing).0

@@ -1,12 +1,12 @@
 use Rattle.sv_instrument.specs.Step.{IsStep}
 use Rattle.sv_history.specs.Act.{device_acts}
-use Rattle.sv_server.proofs.OnServer.Going.{happens_step}
+use Rattle.sv_server.proofs.OnServer.Going.{instrument_takes_step}
 use Rattle.sv_server.proofs.server.Server.exchange.Goals as goal
 
 pub returns-clause-steps : goal.returns-clause-steps
 returns-clause-steps g c = λ config log rep.
     let state = rw (← c.self.view_is) at rep in
-    rw (← c.self.view_is) (happens_step IsStep _ c.exchange.new.self config log c.exchange.result state
+    rw (← c.self.view_is) (instrument_takes_step IsStep _ c.exchange.new.self config log c.exchange.result state
     (c.exchange.ensures.steps config (device_acts log) state.device) c.exchange.ensures.waiting)
 
 pub returns-clause-none : goal.returns-clause-none

@@ -6,7 +6,7 @@ use Rattle.sv_layers.specs.Act.{Scanned}
 use Rattle.sv_history.specs.History.{is_beyond}
 use Rattle.sv_history.specs.Act.{Applied, device_acts}
 use Rattle.sv_server.specs.Device.Representation.{IsDevice}
-use Rattle.sv_server.proofs.OnServer.Logs.{shared_acts}
+use Rattle.sv_server.proofs.OnServer.Logs.{stands_after_device_acts}
 use Rattle.std.specs.Prelude.{Err}
 use Rattle.sv_server.specs.Server.Inside.Acting.{IsInput}
 use Rattle.sv_server.proofs.OnServer.Refusals.{input_refused}
@@ -23,7 +23,7 @@ returns-clause-acts g c = λ config log rep.
     let near : is_beyond c.args.microvolts ≡ false = search (rules, known.2) in (
       λ channel_log tells. rw (known.1, near) refl,
       known.0,
-      λ polled said. shared_acts _ config log c.input.new.self (_ ∷ []) state all c.input.ensures.waiting,
+      λ polled said. stands_after_device_acts _ config log c.input.new.self (_ ∷ []) state all c.input.ensures.waiting,
     )
 
 pub returns-in_err-did-clause-acts : goal.returns-in_err-did-clause-acts

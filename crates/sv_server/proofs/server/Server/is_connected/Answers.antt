@@ -1,12 +1,12 @@
 use Rattle.std.proofs.Common.{sym, ap}
-use Rattle.sv_server.proofs.OnServer.Logs.{open_is, open_known}
+use Rattle.sv_server.proofs.OnServer.Logs.{is_open_by_role, open_known}
 use Rattle.sv_history.specs.Connection.{is_open}
 use Rattle.sv_server.proofs.server.Server.is_connected.Goals as goal
 
 pub returns-in-Some : goal.returns-in-Some
 returns-in-Some g c = λ config log rep.
     open_known _ config log c.args.conn c.is_open.result rep
-    (open_is _ _ c.is_open.result (c.in-Some.ensures config log rep) (sym c.is_open.ensures.value))
+    (is_open_by_role _ _ c.is_open.result (c.in-Some.ensures config log rep) (sym c.is_open.ensures.value))
 
 pub returns-in-None : goal.returns-in-None
 returns-in-None g c = λ config log rep.

@@ -1,5 +1,5 @@
 use Rattle.std.proofs.Common.{rules, [], refl}
-use Rattle.sv_server.proofs.OnServer.Standing.{none_due}
+use Rattle.sv_server.proofs.OnServer.Standing.{none_due_at_start}
 use Rattle.sv_server.proofs.server.Server.new.Goals as goal
 
 pub returns : goal.returns
@@ -13,5 +13,5 @@ returns g c = record {
     device = c.in_ok-new.ensures.stands;
     taken = rw c.in_ok-new.ensures.waiting tt;
   };
-  settled = none_due c.args.config;
+  settled = none_due_at_start c.args.config;
 }

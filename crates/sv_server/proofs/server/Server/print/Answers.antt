@@ -3,7 +3,7 @@ use Rattle.std.specs.Prelude.{Ok, Err}
 use Rattle.sv_history.specs.Print.{refusal_line}
 use Rattle.sv_print.proofs.Taking.{appends_none}
 use Rattle.sv_server.specs.declared.replay.ReplayFault.TheVariants.{Write}
-use Rattle.sv_server.proofs.OnServer.Standing.{passed_on}
+use Rattle.sv_server.proofs.OnServer.Standing.{error_passed_on}
 use Rattle.sv_server.proofs.OnReplay.Replayed.{replay_shown, replay_stopped, replay_no_memory, other_refusal}
 use Rattle.sv_server.proofs.server.Server.print.Goals as goal
 
@@ -11,7 +11,7 @@ pub returns-in_err-show_all-in-Ok : goal.returns-in_err-show_all-in-Ok
 returns-in_err-show_all-in-Ok g c = λ config history event log is_log so s.
     rw c.in-Ok.is (replay_shown config history event (Ok c.in-Ok.field-0) c.args.self.now c.show_all.new.self [] _ _ _
     (Err c.in_err-show_all-in-Ok.field-0.0) c.from_residual.result (λ e. cc) refl refl
-    (passed_on c.from_residual.result Write c.from_residual.ensures.0 c.from_residual.ensures.1) (log, is_log, rw c.in-Ok.is at so)
+    (error_passed_on c.from_residual.result Write c.from_residual.ensures.0 c.from_residual.ensures.1) (log, is_log, rw c.in-Ok.is at so)
     (rw c.in-Ok.is at s) (appends_none _)
     (c.in_err-show_all-in-Ok.ensures config))
 
@@ -19,7 +19,7 @@ pub returns-in_err-put_refusal-in-Err : goal.returns-in_err-put_refusal-in-Err
 returns-in_err-put_refusal-in-Err g c = λ config history event log is_log so s.
     rw c.in-Err.is (replay_stopped config history event c.in-Err.refused c.args.self.now _ _ c.in_err-put_refusal-in-Err.field-0.0
     c.from_residual-in_err-put_refusal-in-Err.result
-    (passed_on c.from_residual-in_err-put_refusal-in-Err.result Write c.from_residual-in_err-put_refusal-in-Err.ensures.0
+    (error_passed_on c.from_residual-in_err-put_refusal-in-Err.result Write c.from_residual-in_err-put_refusal-in-Err.ensures.0
     c.from_residual-in_err-put_refusal-in-Err.ensures.1)
     (log, is_log, rw c.in-Err.is at so) (rw c.in-Err.is at s) c.in_err-put_refusal-in-Err.ensures)
 
@@ -35,7 +35,7 @@ returns-in_err-show_all-in-Err g c = λ config history event log is_log so s.
     replay_shown config history event (Err c.in-Err.refused) c.args.self.now c.show_all-in-Err.new.self
     (refusal_line c.in-Err.refused) _ _ _ (Err c.in_err-show_all-in-Err.field-0.0)
     c.from_residual-in_err-show_all-in-Err.result other.0 other.1 refl
-    (passed_on c.from_residual-in_err-show_all-in-Err.result Write c.from_residual-in_err-show_all-in-Err.ensures.0
+    (error_passed_on c.from_residual-in_err-show_all-in-Err.result Write c.from_residual-in_err-show_all-in-Err.ensures.0
     c.from_residual-in_err-show_all-in-Err.ensures.1)
     (log, is_log, rw c.in-Err.is at so) (rw c.in-Err.is at s) c.in_ok-put_refusal-in-Err.ensures
     (c.in_err-show_all-in-Err.ensures config))

@@ -1,6 +1,6 @@
 use Rattle.std.proofs.Common.{sym}
 use Rattle.sv_history.specs.Act.{device_acts}
-use Rattle.sv_server.proofs.OnDevice.Channels.{none_beyond}
+use Rattle.sv_server.proofs.OnDevice.Channels.{none_wait_beyond}
 use Rattle.sv_server.proofs.server.Server.sent.Goals as goal
 
 pub returns-in-Some-clause-exact : goal.returns-in-Some-clause-exact
@@ -10,4 +10,4 @@ returns-in-Some-clause-exact g c = λ config log channel_log rep tells.
 
 pub returns-in-None-clause-exact : goal.returns-in-None-clause-exact
 returns-in-None-clause-exact g c = λ config log channel_log rep tells.
-    sym (none_beyond _ config (device_acts log) channel_log c.args.conn rep.device tells c.in-None.ensures)
+    sym (none_wait_beyond _ config (device_acts log) channel_log c.args.conn rep.device tells c.in-None.ensures)

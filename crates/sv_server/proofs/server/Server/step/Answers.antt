@@ -1,7 +1,7 @@
 use Rattle.std.proofs.Common.{◌∙◌, refl, sym, ap, subst, inl, inr}
 use Rattle.sv_server.specs.Server.State.{State, Represents}
-use Rattle.sv_server.proofs.OnServer.Steps.{none_next}
-use Rattle.sv_server.proofs.OnServer.Naming.{not_fired}
+use Rattle.sv_server.proofs.OnServer.Steps.{no_step_if_none_possible}
+use Rattle.sv_server.proofs.OnServer.Naming.{no_trigger_due}
 use Rattle.sv_server.proofs.server.Server.step.Goals as goal
 
 pub returns-then-fire-clause-steps : goal.returns-then-fire-clause-steps
@@ -56,7 +56,7 @@ returns-clause-steps g c = λ config log rep.
     let (idle, equal) = c.if-exchange.ensures.steps config log second in
     let third = subst (λ (s : State). Represents s config log) (sym equal) second in
     let (kept, last) = c.if-give_up_oldest.ensures.steps config log third in (
-      none_next none still idle kept,
+      no_step_if_none_possible none still idle kept,
       subst (λ (s : State). Represents s config log) (sym last) third,
     )
 
@@ -73,7 +73,7 @@ returns-clause-nothing g c = λ config log rep e.
     let second = subst (λ (s : State). Represents s config log) (sym alike) first in
     let (idle, equal) = c.if-exchange.ensures.steps config log second in
     let third = subst (λ (s : State). Represents s config log) (sym equal) second in (
-      not_fired log none,
+      no_trigger_due log none,
       c.if-resume_oldest.ensures.none config log first refl,
       c.if-exchange.ensures.none config log second refl,
       c.if-give_up_oldest.ensures.none config log third refl,

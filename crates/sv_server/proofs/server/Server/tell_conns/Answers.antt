@@ -1,6 +1,6 @@
 use Rattle.std.proofs.Common.{ℕ, ◌≡◌, ◌≤◌, max, arith}
 use Rattle.sv_print.proofs.Taking.{prints_none}
-use Rattle.sv_server.proofs.OnShown.Conns.{conns_more, conns_end, written_none, written_more, written_all, put_bounded}
+use Rattle.sv_server.proofs.OnShown.Conns.{one_more_is_shown, all_are_shown, written_none, written_more, written_all, put_bounded}
 use Rattle.sv_server.proofs.server.Server.tell_conns.Goals as goal
 
 left_below : (m a b n : ℕ) → m ≡ max a b → b ≡ n → n ≤ m
@@ -25,7 +25,7 @@ loop-number-preserved g c =
     record {
       bounded = put_bounded c.max-most.result c.loop-number.number one _ _ put c.loop-number.invariant.bounded c.loop-number-test.true;
       written = written_more _ _ _ _ one _ _ _ _ _ _ c.loop-number.invariant.written put line;
-      are = λ config log rep. conns_more _ _ _ one log put (c.loop-number.invariant.are config log rep) (is config log rep);
+      are = λ config log rep. one_more_is_shown _ _ _ one log put (c.loop-number.invariant.are config log rep) (is config log rep);
     }
 
 pub returns : goal.returns
@@ -38,7 +38,7 @@ returns g c = λ config log rep.
     ) in
     let looked = right_below _ _ _ c.max-most.ensures in
     let never = c.conns_to_tell.ensures.never config log rep in (
-      conns_end _ c.loop-number.number log (omega (arith, c.loop-number.invariant.bounded, over))
+      all_are_shown _ c.loop-number.number log (omega (arith, c.loop-number.invariant.bounded, over))
           (c.loop-number.invariant.are config log rep) (λ k le. never k (omega (arith, le, over, looked))),
       written_all _ _ c.loop-number.number _ _ _ _ c.loop-number.invariant.written
           (omega (arith, over, left_below _ _ _ _ c.max-most.ensures c.len.ensures.value))

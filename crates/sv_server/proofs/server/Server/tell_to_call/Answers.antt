@@ -1,9 +1,9 @@
 use Rattle.std.proofs.Common.{◌∙◌, refl}
-use Rattle.sv_server.proofs.OnReplay.Telling.{told_none, told_step, told_ended}
+use Rattle.sv_server.proofs.OnReplay.Telling.{no_step_told, told_step, told_ended}
 use Rattle.sv_server.proofs.server.Server.tell_to_call.Goals as goal
 
 pub loop-self-init : goal.loop-self-init
-loop-self-init g c = (told_none _ _ _ _, refl)
+loop-self-init g c = (no_step_told _ _ _ _, refl)
 
 pub loop-self-preserved : goal.loop-self-preserved
 loop-self-preserved g c = (

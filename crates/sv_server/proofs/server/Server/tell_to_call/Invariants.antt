@@ -1,11 +1,11 @@
 use Rattle.std.proofs.Common.{◌≡◌}
 use Rattle.sv_instrument.specs.Representation.{instrument_measure}
-use Rattle.sv_server.proofs.OnReplay.Telling.{AnyTold}
+use Rattle.sv_server.proofs.OnReplay.Telling.{SomeStepsTold}
 use Rattle.sv_server.proofs.server.Server.tell_to_call.Given as goal
 
 -- The lines of the steps so far were written, and the queue of suspended calls is unchanged.
 abbrev pub invariant-loop-self : goal.invariant-loop-self
-invariant-loop-self g l = AnyTold l.fn.self l.self l.fn.shown l.shown (g.W.Write.contents l.fn.writer) l.fn.failed
+invariant-loop-self g l = SomeStepsTold l.fn.self l.self l.fn.shown l.shown (g.W.Write.contents l.fn.writer) l.fn.failed
     (g.W.Write.contents l.writer) l.failed
     × (l.self.device.waiting ≡ l.fn.self.device.waiting)
 

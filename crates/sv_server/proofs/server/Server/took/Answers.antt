@@ -4,7 +4,7 @@ use Rattle.sv_history.specs.Act.{BytesTaken, of}
 use Rattle.sv_history.specs.Connection.{waiting}
 use Rattle.sv_history.specs.declared.event.Port.TheVariants.{Conn}
 use Rattle.sv_history.specs.Event.{Took}
-use Rattle.sv_server.proofs.OnServer.Logs.{connection_of, one_act}
+use Rattle.sv_server.proofs.OnServer.Logs.{connection_of, stands_after_own_act}
 use Rattle.sv_server.proofs.OnServer.Standing.{no_connection}
 use Rattle.sv_server.proofs.OnServer.Used.{unshut_used, used_act}
 use Rattle.sv_server.proofs.server.Server.took.Goals as goal
@@ -43,7 +43,7 @@ returns-clause-acts g c = λ config log rep.
             (omega (arith, ap length bytes, c.if-waiting-count.false)),
       ) refl,
       refl,
-      λ polled said. rw c.index.ensures (one_act _ config log conn.number c.index_mut-connection.result.now c.took.new.self
+      λ polled said. rw c.index.ensures (stands_after_own_act _ config log conn.number c.index_mut-connection.result.now c.took.new.self
           (BytesTaken c.args.count) state c.self.invariant conn.within at (c.took.ensures (of conn.number log)) (λ call known. known) _
           (used_act c.self.inside.connections_used conn.number (BytesTaken c.args.count) log state.connections_used
           (unshut_used conn.number log unshut))),

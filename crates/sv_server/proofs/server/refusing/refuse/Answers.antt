@@ -9,7 +9,7 @@ use Rattle.sv_history.specs.Limits.{longest_reply}
 use Rattle.sv_server.specs.Connection.Representation.{IsConnection}
 use Rattle.sv_server.specs.Connection.Inside.Requests.{plain_core_call}
 use Rattle.sv_server.proofs.OnServer.Turned.{flipped}
-use Rattle.sv_server.proofs.OnServer.Refusals.{refusable_is, refused_not}
+use Rattle.sv_server.proofs.OnServer.Refusals.{refusable_is, refuse_allowed}
 use Rattle.sv_server.proofs.server.refusing.refuse.Goals as goal
 
 pub returns-clause-acts : goal.returns-clause-acts
@@ -20,7 +20,7 @@ returns-clause-acts g c = λ acts is.
     let known : refusable acts ≡ Some (plain_core_call call) =
     refusable_is acts c.args.role (Some bytes) (sym is.role ∙ c.requires) next ∙ sym c.in-Some-refusable.ensures in
     let roomy : nat_lt (free acts) longest_reply ≡ false = flipped _ (sym (c.if-not-has_reply_room.ensures.answer acts is)) in (
-      refused_not acts (plain_core_call call) known roomy,
+      refuse_allowed acts (plain_core_call call) known roomy,
       bytes,
       plain_core_call call,
       next,
