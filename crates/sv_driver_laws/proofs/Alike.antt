@@ -116,10 +116,8 @@ each_step_alike step config (suc n) alike more keeps le a b c told (m, x, s) (k,
     next_step_alike (step n) config m k b c (alike n) (more n) (each_step_matches step config n keeps (omega (arith, le)) a m told x)
     (each_step_alike step config n alike more keeps (omega (arith, le)) a m k told x y) s t
 
-pub same_then : (one other : Step (List Heard)) (config : Config) (a b c : View)
-    → ((m n : View) → one config a m → one config a n → m ≡ n)
-    → ((m b c : View) → other config m b → other config m c → b ≡ c)
-    → (one then other) config a b → (one then other) config a c → b ≡ c
+pub same_then : (one other : Step (List Heard)) (config : Config) (a b c : View) → ((m n : View) → one config a m → one config a n → m ≡ n)
+    → ((m b c : View) → other config m b → other config m c → b ≡ c) → (one then other) config a b → (one then other) config a c → b ≡ c
 same_then one other config a b c first last (m, x, y) (n, z, w) = last m b c y (subst (λ k. other config k c) (sym (first m n x z)) w)
 
 -- ---- the answers of the wire
@@ -141,8 +139,7 @@ heard_is heard config a m (wire, was, is) = is ∙ ap (λ (w : List Heard). reco
 -- Both runs ask the wire the same. If the answers are equal, the runs stay the same; else they
 -- differ from then on.
 pub same_question_alike : {A : Type 0} (f : A → Heard) (next : A → Step (List Heard)) (config : Config) (x y : A) → (x ≡ y) ⊎ (x ≢ y)
-    → (question (f x) ≡ question (f y)) → (f x ≡ f y → x ≡ y)
-    → ((z : A) (m b c : View) → next z config m b → next z config m c → b ≡ c)
+    → (question (f x) ≡ question (f y)) → (f x ≡ f y → x ≡ y) → ((z : A) (m b c : View) → next z config m b → next z config m c → b ≡ c)
     → ((z : A) (m b : View) → next z config m b → Extends m b)
     → (a b c : View) → Matches a → (Hears Records (f x) then next x) config a b → (Hears Records (f y) then next y) config a c
     → SameOrForks b c
@@ -352,8 +349,7 @@ matches_after_keeps config a b k told = ap (filter is_outer) k.grown ∙ matchin
     ∙ ap (flat_map event_of) (sym (through_records k.piece a.wire b.wire k.through))
 
 pub accepts_alike : (role : Role) (config : Config) (a b c : View) → Matches a → Accepts Records role config a b
-    → Accepts Records role config a c
-    → SameOrForks b c
+    → Accepts Records role config a c → SameOrForks b c
 accepts_alike role config a b c told (number, answer, low, h) (other, also, lowest, k) =
     let same = same_lowest number other config a low lowest in
     same_question_alike (λ x. WasAccepted role number x) (Opens role number) config answer also (cases_all answer also) refl (λ e. cc)
@@ -392,8 +388,7 @@ reads_alike n config a b c told (room, has, h) (other, had, k) =
         (comes_grows Any Records n x config m b (λ bytes. tt) tt h)) a b c told h k
 
 dials_for_alike : (n : ℕ) (wanted dialed : Option Dial) (config : Config) (a b c : View) → Matches a
-    → DialsFor Records n wanted dialed config a b
-    → DialsFor Records n wanted dialed config a c → SameOrForks b c
+    → DialsFor Records n wanted dialed config a b → DialsFor Records n wanted dialed config a c → SameOrForks b c
 dials_for_alike n None dialed config a b c told x y = inl (x ∙ sym y)
 dials_for_alike n (Some dial) None config a b c told (answer, h) (also, k) =
     same_question_alike (λ x. WasDialed n dial x) (ConnectResult n dial) config answer also (cases_all answer also) refl (λ e. cc)
@@ -421,8 +416,7 @@ dials_alike n config a b c told (m, h, s) (k, g, t) = next_step_alike (Connects 
     (inl (same_cancels n (dialed_of n a) config a m k h g)) s t
 
 pub writes_alike : (port : Port) (config : Config) (a b c : View) → Matches a → WritesTo Records port config a b
-    → WritesTo Records port config a c
-    → SameOrForks b c
+    → WritesTo Records port config a c → SameOrForks b c
 writes_alike port config a b c told (bytes, waits, h) (other, wait, k) = by bytes h
     (subst (λ (l : List ℕ). WritesAll Records port l config a c) (sym (same_waits port config a.history bytes other waits wait)) k)
   where

@@ -231,8 +231,7 @@ same_plays config a b c (n, x, none) (k, y, nothing) = elim (cases_Bool (nat_lt 
 ]
 
 same_counts : (one two : Result Did Refused) (config : Config) (a b c : View) → is_not_refused one ≡ is_not_refused two
-    → Counts one config a b
-    → Counts two config a c → b ≡ c
+    → Counts one config a b → Counts two config a c → b ≡ c
 same_counts (Ok did) (Ok what) config a b c e x y = x ∙ sym y
 same_counts (Ok did) (Err refused) config a b c e x y = absurd cc
 same_counts (Err refused) (Ok did) config a b c e x y = absurd cc
@@ -268,8 +267,7 @@ stimulus_extends stimulus config a b h =
 -- ---- sweeps
 
 pub sweeps_alike : (ticks : ℕ) (config : Config) (a b c : View) → Matches a → Sweeps Records ticks config a b
-    → Sweeps Records ticks config a c
-    → SameOrForks b c
+    → Sweeps Records ticks config a c → SameOrForks b c
 sweeps_alike ticks config a b c told (m1, s1, (m2, s2, (m3, s3, (m4, s4, (m5, s5, (m6, s6, (m7, s7, (m8, s8, (m9, s9, s10)))))))))
     (n1, t1, (n2, t2, (n3, t3, (n4, t4, (n5, t5, (n6, t6, (n7, t7, (n8, t8, (n9, t9, t10))))))))) =
     let accept = λ (role : Role) (x y : View) (h : Accepts Records role config x y). extends_by (Accepts Records role) config x y
@@ -381,8 +379,7 @@ runs_told config (Stimulated stimulus ∷ handed) start now told (m, x, s) =
     matches_after_keeps config m now (stimulates Records (λ s. ⊤) config stimulus m now s) (runs_told config handed start m told x)
 
 pub runs_alike : (config : Config) (handed : List Handed) (start now end : View) → Matches start → Runs config handed start now
-    → Runs config handed start end
-    → SameOrForks now end
+    → Runs config handed start end → SameOrForks now end
 runs_alike config [] start now end told x y = inl (x ∙ sym y)
 runs_alike config (Passing ticks ∷ handed) start now end told (m, x, s) (k, y, t) =
     next_step_alike (Sweeps Records ticks) config m k now end (sweeps_alike ticks config) (sweep_extends ticks config)

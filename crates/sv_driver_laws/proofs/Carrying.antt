@@ -59,8 +59,7 @@ accept_by hears May config may role None answer wire before between after low he
     (refl, (λ port. refl), (λ port. refl), (λ port. refl)) (λ d. refl) (λ p b a e. absurd cc) (λ n e. absurd cc) same
 
 pub accepts : {W : Type 0} (hears : W → Heard → W → Type 0) (May : Subject → Type 0) (config : Config) (may : (n : Subject)
-    → May n) (role : Role) (before after : DriverView W)
-    → Accepts hears role config before after → Keeps hears May config before after
+    → May n) (role : Role) (before after : DriverView W) → Accepts hears role config before after → Keeps hears May config before after
 accepts hears May config may role before after (number, answer, low, (between, (wire, heard, is), opens)) =
     accept_by hears May config may role number answer wire before between after low heard is opens
 
@@ -69,8 +68,7 @@ accepts hears May config may role before after (number, answer, low, (between, (
 abbrev pub closes : {W : Type 0} (hears : W → Heard → W → Type 0) (May : Subject
     → Type 0) (config : Config) (c : ℕ) (may : May OfNone × May (OfConn c)) (older : List Heard)
     (before between after : DriverView W) → Through hears older before.wire between.wire → between.history ≡ before.history
-    → AreSilent older
-    → AllWriteWaiting config before.history older → NoneClosesChannel older → AllMay May older
+    → AreSilent older → AllWriteWaiting config before.history older → NoneClosesChannel older → AllMay May older
     → ClosesAtOnce (Some (WasClosed (Conn c))) older
     → Reasons config (Close (Conn c) ∷ before.history) before.history (WasClosed (Conn c)) older → Closes hears c config between after
     → Keeps hears May config before after
@@ -207,20 +205,17 @@ turns_if hears May config c true before after (result, (between, given, ends)) =
     (ends_turn hears May config c result between after ends)
 
 abbrev pub turns : {W : Type 0} (hears : W → Heard → W → Type 0) (May : Subject
-    → Type 0) (config : Config) (c : ℕ) (before after : DriverView W)
-    → Turns c config before after → Keeps hears May config before after
+    → Type 0) (config : Config) (c : ℕ) (before after : DriverView W) → Turns c config before after → Keeps hears May config before after
 turns hears May config c before after (ready, is, h) = turns_if hears May config c ready before after h
 
 -- ---- bytes that wait are written
 
 pub written_same : (port other : Port) (bytes more : List ℕ) (answer also : Answer ℕ)
-    → WasWritten port bytes answer ≡ WasWritten other more also
-    → (port ≡ other) × (bytes ≡ more)
+    → WasWritten port bytes answer ≡ WasWritten other more also → (port ≡ other) × (bytes ≡ more)
 written_same port other bytes more answer also e = (cc, cc)
 
 pub written_fits : (port : Port) (bytes : List ℕ) (answer : Answer ℕ) (config : Config) (history : List PlainEvent)
-    → WaitOn port config history bytes
-    → WritesWaiting config history (WasWritten port bytes answer)
+    → WaitOn port config history bytes → WritesWaiting config history (WasWritten port bytes answer)
 written_fits port bytes answer config history waits other more also e =
     let same = written_same port other bytes more answer also e in
     subst (λ (p : Port). WaitOn p config history more) same.0 (subst (λ (l : List ℕ). WaitOn port config history l) same.1 waits)

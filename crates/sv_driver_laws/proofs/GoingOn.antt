@@ -69,8 +69,7 @@ append_of_calls (PortClosed ∷ one) other h k = absurd h
 
 -- Events that don't open, read, write or close a connection add only acts of calls to it.
 pub only_calls_over_events : (config : Config) (events history : List PlainEvent) (front log : List Act) (c : ℕ)
-    → acts_brought c events ≡ []
-    → IsLogOf config history front → IsLogOf config (events ++ history) log
+    → acts_brought c events ≡ [] → IsLogOf config history front → IsLogOf config (events ++ history) log
     → (calls : List ConnAct) × AreCallActs calls × (of c log ≡ calls ++ of c front)
 only_calls_over_events config [] history front log c none was is = ([], tt, ap (of c) (one_log config history log front is was))
 only_calls_over_events config (event ∷ events) history front log c none was is =
@@ -106,8 +105,7 @@ took_not_too_many false true e = absurd cc
 took_not_too_many false false e = refl
 
 pub within_after_event : (config : Config) (channel_log : List ChannelAct) (event : PlainEvent) (log : List Act) (c : ℕ)
-    → refusal config channel_log event log ≡ None
-    → IsWithin (of c log) → IsWithin (brings c event ++ of c log)
+    → refusal config channel_log event log ≡ None → IsWithin (of c log) → IsWithin (brings c event ++ of c log)
 within_after_event config channel_log (Open d role) log c free h = elim (cases_Bool (eqb d c)) [
   | inl e ↦ rw e (λ opened. omega arith)
   | inr e ↦ rw e h

@@ -65,8 +65,7 @@ hands_over_silent config history (heard ∷ piece) trace silent fit so h = hands
     (so ∙ sym (none_silent piece trace silent.1)) (hands_over_silent config history piece trace silent.1 fit.1 so h)
 
 pub hands_unwritten : (config : Config) (history : List PlainEvent) (piece trace : List Heard) → NoneWritten piece
-    → HandsOver config history trace
-    → HandsOver config history (piece ++ trace)
+    → HandsOver config history trace → HandsOver config history (piece ++ trace)
 hands_unwritten config history [] trace none h = h
 hands_unwritten config history (heard ∷ piece) trace none h =
     ((λ port bytes answer e. absurd (none.0 port bytes answer e)), hands_unwritten config history piece trace none.1 h)

@@ -38,8 +38,7 @@ idles_each config step zero each a b is = idles_refl a b is
 idles_each config step (suc n) each a b (m, front, last) = idles_trans a m b (idles_each config step n each a m front) (each n m b last)
 
 hears_idles : {W : Type 0} (hears : W → Heard → W → Type 0) (heard : Heard) (config : Config) (a b : DriverView W)
-    → Hears hears heard config a b
-    → Idles a b
+    → Hears hears heard config a b → Idles a b
 hears_idles hears heard config a b (wire, was, is) =
     (ap (λ m. m.ahead) is, ap (λ m. m.ticks) is, ap (λ m. filter is_timed m.history) is, ap (λ m. filter is_tick m.history) is)
 
@@ -105,8 +104,7 @@ probes_idles hears c true config a b (drops, answer, overlong, (m, heard, gone))
     by Failed h = closes_idles hears c config m b h
 
 pub reads_idles : {W : Type 0} (hears : W → Heard → W → Type 0) (c : ℕ) (config : Config) (a b : DriverView W)
-    → ReadsFrom hears c config a b
-    → Idles a b
+    → ReadsFrom hears c config a b → Idles a b
 reads_idles hears c config a b (most, room, inl (none, (opened, is_open, probes))) = probes_idles hears c opened config a b probes
 reads_idles hears c config a b (most, room, inr (some, answer, few, (m, heard, comes))) =
     idles_trans a m b (hears_idles hears _ config a m heard) (comes_idles hears c answer config m b comes)
@@ -177,8 +175,7 @@ ends_write_idles hears (Intr c) Failed config a b (m, hangs, applies) =
         (applied_idles (Close (Intr c)) config m b refl refl applies)
 
 pub writes_idles : {W : Type 0} (hears : W → Heard → W → Type 0) (port : Port) (config : Config) (a b : DriverView W)
-    → WritesTo hears port config a b
-    → Idles a b
+    → WritesTo hears port config a b → Idles a b
 writes_idles hears port config a b (bytes, waits, inl (none, is)) = idles_refl a b is
 writes_idles hears port config a b (bytes, waits, inr (some, answer, few, (m, heard, ends))) =
     idles_trans a m b (hears_idles hears _ config a m heard) (ends_write_idles hears port answer config m b ends)

@@ -79,8 +79,7 @@ through_join hears one [] a b c x y = subst (λ w. Through hears one a w) (sym y
 through_join hears one (heard ∷ other) a b c x (between, y, z) = (between, through_join hears one other a b between x y, z)
 
 abbrev pub keeps_none : {W : Type 0} (hears : W → Heard → W → Type 0) (May : Subject
-    → Type 0) (config : Config) (before after : DriverView W) → after ≡ before
-    → Keeps hears May config before after
+    → Type 0) (config : Config) (before after : DriverView W) → after ≡ before → Keeps hears May config before after
 keeps_none hears May config before after is = record {
   piece = [];
   events = [];
@@ -95,8 +94,7 @@ keeps_none hears May config before after is = record {
 }
 
 abbrev pub keeps_then : {W : Type 0} (hears : W → Heard → W → Type 0) (May : Subject → Type 0) (config : Config) (a b c : DriverView W)
-    → Keeps hears May config a b
-    → Keeps hears May config b c → Keeps hears May config a c
+    → Keeps hears May config a b → Keeps hears May config b c → Keeps hears May config a c
 keeps_then hears May config a b c x y = record {
   piece = y.piece ++ x.piece;
   events = y.events ++ x.events;
@@ -116,8 +114,7 @@ keeps_then hears May config a b c x y = record {
 }
 
 pub keeps_each : {W : Type 0} (hears : W → Heard → W → Type 0) (May : Subject → Type 0) (config : Config) (step : ℕ → Config → DriverView W
-    → DriverView W → Type 0) (n : ℕ)
-    → ((c : ℕ) (a b : DriverView W) → c < n → step c config a b → Keeps hears May config a b)
+    → DriverView W → Type 0) (n : ℕ) → ((c : ℕ) (a b : DriverView W) → c < n → step c config a b → Keeps hears May config a b)
     → (before after : DriverView W) → ForEach n step config before after → Keeps hears May config before after
 keeps_each hears May config step zero each before after is = keeps_none hears May config before after is
 keeps_each hears May config step (suc n) each before after (between, front, last) =
@@ -145,8 +142,7 @@ pub record Quiet {W : Type 0} (hears : W → Heard → W → Type 0) (May : Subj
 abbrev pub quiet_keeps : {W : Type 0} (hears : W → Heard → W → Type 0) (May : Subject
     → Type 0) (config : Config) (hung : Option ℕ) (before after : DriverView W) → Quiet hears May hung before after
     → ((trace : List Heard) → filter is_outer before.history ≡ flat_map event_of trace → (d : ℕ) → hung ≡ Some d
-    → IsEnd d config before.history trace)
-    → Keeps hears May config before after
+    → IsEnd d config before.history trace) → Keeps hears May config before after
 quiet_keeps hears May config hung before after q reason = record {
   piece = q.piece;
   events = [];
@@ -198,8 +194,7 @@ quiet_one hears May hung heard may wire before after was there same silent calm 
 abbrev pub only_heard : {W : Type 0} (hears : W → Heard → W → Type 0) (May : Subject
     → Type 0) (config : Config) (heard : Heard) (may : May (about heard)) (wire : W) (before between after : DriverView W)
     → hears before.wire heard wire → between ≡ record before { wire = wire } → IsSilent heard → IsNoFailure heard → IsNoWrite heard
-    → ClosesNoChannel heard → after ≡ between
-    → Keeps hears May config before after
+    → ClosesNoChannel heard → after ≡ between → Keeps hears May config before after
 only_heard hears May config heard may wire before between after was is silent calm unwritten unhung same = quiet_keeps hears May config
     None before after
     (quiet_one hears May None heard may wire before after was (ap (λ m. m.wire) same ∙ ap (λ m. m.wire) is)
@@ -232,15 +227,13 @@ pub allowed_event_is_applied : {W : Type 0} (config : Config) (event : PlainEven
     (channel_log : List ChannelAct)
     (log : List Act)
     → IsLogOf config before.history log → HearsOf (device_acts log) channel_log → Suits event channel_log log
-    → Applies event config before after
-    → after ≡ record before { history = event ∷ before.history }
+    → Applies event config before after → after ≡ record before { history = event ∷ before.history }
 allowed_event_is_applied config event before after channel_log log was tells_so suits (result, (also, is_log, answers, is)) =
     is ∙ ap (λ (r : Result Did Refused). record before { history = history_after event r before.history })
     (suited_is_applied config event before also result is_log answers (log, channel_log, was, tells_so, suits))
 
 pub applied_adds_event : {W : Type 0} (event : PlainEvent) (config : Config) (before after : DriverView W)
-    → IsApplied event config before after
-    → after ≡ record before { history = event ∷ before.history }
+    → IsApplied event config before after → after ≡ record before { history = event ∷ before.history }
 applied_adds_event event config before after (log, was, answers, is) = is
 
 -- An answer causes its event. The answers before it and after it in the same step cause none.
@@ -307,11 +300,9 @@ abbrev pub answer_keeps : {W : Type 0} (hears : W → Heard → W → Type 0) (M
     → HearsOf (device_acts log) channel_log → hears before.wire heard wire
     → between.wire ≡ wire → between.history ≡ before.history → IsApplied event config between after
     → is_outer event ≡ true → event_of heard ≡ event ∷ [] → IsNoFailure heard → WritesWaiting config before.history heard
-    → ClosesNoChannel heard → ((c : ℕ)
-    → heard ≡ WasClosed (Conn c) → ⊥)
+    → ClosesNoChannel heard → ((c : ℕ) → heard ≡ WasClosed (Conn c) → ⊥)
     → ((trace : List Heard) (c : ℕ) → PortBytes c (of c log) channel_log trace
-    → PortBytes c (brings c event ++ of c log) (tells event log ++ channel_log) (heard ∷ trace))
-    → Keeps hears May config before after
+    → PortBytes c (brings c event ++ of c log) (tells event log ++ channel_log) (heard ∷ trace)) → Keeps hears May config before after
 answer_keeps hears May config heard may event wire before between after channel_log log was tells_so heard_so there
     same allowed_event_is_applied outer is calm fits unhung stays step =
     let done = applied_adds_event event config between after allowed_event_is_applied in
@@ -347,8 +338,7 @@ answer_keeps hears May config heard may event wire before between after channel_
 abbrev pub inner_by : {W : Type 0} (hears : W → Heard → W → Type 0) (May : Subject
     → Type 0) (config : Config) (event : PlainEvent) (result : Result Did Refused)
     (before after : DriverView W) → is_outer event ≡ false → ((c : ℕ) → brings c event ≡ []) → ((log : List Act) → tells event log ≡ [])
-    → Given event result config before after
-    → Keeps hears May config before after
+    → Given event result config before after → Keeps hears May config before after
 inner_by hears May config event (Err refused) before after inner none untold
     (log, was, answers, is) = keeps_none hears May config before after is
 inner_by hears May config event (Ok what) before after inner none untold (log, was, answers, is) = record {

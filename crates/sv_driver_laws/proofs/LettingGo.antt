@@ -31,8 +31,7 @@ NoneClosesChannel [] = ⊤
 NoneClosesChannel (heard ∷ piece) = ClosesNoChannel heard × NoneClosesChannel piece
 
 pub closes_rightly_more : (config : Config) (history events : List PlainEvent) (trace : List Heard)
-    → ClosesChannelsRightly config history trace
-    → ClosesChannelsRightly config (events ++ history) trace
+    → ClosesChannelsRightly config history trace → ClosesChannelsRightly config (events ++ history) trace
 closes_rightly_more config history events [] h = tt
 closes_rightly_more config history events (heard ∷ trace) h = (
   (λ c e. elim (h.0 c e) [
@@ -43,8 +42,7 @@ closes_rightly_more config history events (heard ∷ trace) h = (
 )
 
 pub closes_rightly_none : (config : Config) (history : List PlainEvent) (piece trace : List Heard) → NoneClosesChannel piece
-    → ClosesChannelsRightly config history trace
-    → ClosesChannelsRightly config history (piece ++ trace)
+    → ClosesChannelsRightly config history trace → ClosesChannelsRightly config history (piece ++ trace)
 closes_rightly_none config history [] trace none h = h
 closes_rightly_none config history (heard ∷ piece) trace none h =
     ((λ c e. absurd (none.0 c e)), closes_rightly_none config history piece trace none.1 h)
@@ -53,8 +51,7 @@ closes_rightly_none config history (heard ∷ piece) trace none h =
 -- follow the trace.
 abbrev pub MayCloseChannel : Option ℕ → List Heard → Type 0
 MayCloseChannel hung piece = (config : Config) (history : List PlainEvent) (trace : List Heard) → ((c : ℕ) → hung ≡ Some c
-    → IsEnd c config history trace)
-    → ClosesChannelsRightly config history trace → ClosesChannelsRightly config history (piece ++ trace)
+    → IsEnd c config history trace) → ClosesChannelsRightly config history trace → ClosesChannelsRightly config history (piece ++ trace)
 
 pub may_close_none : (hung : Option ℕ) → MayCloseChannel hung []
 may_close_none hung config history trace reason h = h
@@ -70,8 +67,7 @@ pub none_not_some : {A : Type 0} (c : ℕ) → None ≡ Some c → A
 none_not_some {A} c e = absurd cc
 
 pub last_is_reason : (c d : ℕ) (config : Config) (history : List PlainEvent) (last : Heard) (older : List Heard)
-    → ends_port (Intr c) last ≡ true → Some c ≡ Some d
-    → IsEnd d config history (last ∷ older)
+    → ends_port (Intr c) last ≡ true → Some c ≡ Some d → IsEnd d config history (last ∷ older)
 last_is_reason c d config history last older ends e =
     inl (last, older, refl, subst (λ (n : ℕ). ends_port (Intr n) last ≡ true) (some_is_injective c d e) ends)
 
@@ -92,8 +88,7 @@ unwanted_is_shut false wanted shut e is = shut_by shut is
 pub closes_rightly_event : (config : Config) (before after : List PlainEvent) (event : PlainEvent) (heard : Heard)
     (newer older trace : List Heard) (hung : Option ℕ)
     → after ≡ event ∷ before → MayCloseChannel hung newer → ((c : ℕ) → hung ≡ Some c → ends_port (Intr c) heard ≡ true)
-    → ClosesNoChannel heard
-    → NoneClosesChannel older
+    → ClosesNoChannel heard → NoneClosesChannel older
     → ClosesChannelsRightly config before trace → ClosesChannelsRightly config after ((newer ++ heard ∷ older) ++ trace)
 closes_rightly_event config before after event heard newer older trace hung grown adds ends none old h =
     subst (λ (l : List PlainEvent). ClosesChannelsRightly config l ((newer ++ heard ∷ older) ++ trace)) (sym grown)

@@ -60,8 +60,7 @@ grows_weaker P Q a b so (events, grown, all) = (events, grown, each events all)
 
 -- If the added events are these, each of them satisfies `P`.
 pub grown_events_satisfy : {W : Type 0} (P : PlainEvent → Type 0) (a b : DriverView W) (events : List PlainEvent)
-    → b.history ≡ events ++ a.history
-    → Grows P a b → AllByRecursion P events
+    → b.history ≡ events ++ a.history → Grows P a b → AllByRecursion P events
 grown_events_satisfy P a b events grown (xs, x, h) = subst (AllByRecursion P) (append_cancel_right xs events a.history (sym x ∙ grown)) h
 
 hears_grows : {W : Type 0} (P : PlainEvent → Type 0) (hears : W → Heard → W → Type 0) (heard : Heard) (config : Config) (a b : DriverView W)

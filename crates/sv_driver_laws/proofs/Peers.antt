@@ -81,8 +81,7 @@ abbrev pub dialed_keeps : {W : Type 0} (hears : W → Heard → W → Type 0) (M
     → IsLogOf config before.history log → Through hears (newer ++ heard ∷ []) before.wire between.wire
     → AreSilent newer → NoneIsFailure newer → NoneWritten newer → IsNoWrite heard → (hung : Option ℕ) → MayCloseChannel hung newer
     → ((n : ℕ) → hung ≡ Some n → ends_port (Intr n) heard ≡ true) → ClosesNoChannel heard → between.history ≡ before.history
-    → event_of heard ≡ Dialed c ok ∷ [] → IsNoFailure heard
-    → ((d : ℕ) → heard ≡ WasClosed (Conn d) → ⊥)
+    → event_of heard ≡ Dialed c ok ∷ [] → IsNoFailure heard → ((d : ℕ) → heard ≡ WasClosed (Conn d) → ⊥)
     → ((channel_log : List ChannelAct) (trace : List Heard) (d : ℕ) → PortBytes d (of d log) channel_log trace
     → PortBytes d (brings d (Dialed c ok) ++ of d log) (tells (Dialed c ok) log ++ channel_log) (heard ∷ trace))
     → IsApplied (Dialed c ok) config between after → Keeps hears May config before after
@@ -121,8 +120,7 @@ abbrev pub connect_result_keeps : {W : Type 0} (hears : W → Heard → W → Ty
     → Type 0) (config : Config) (c : ℕ) (may : May OfNone) (dial : Dial) (answer : Answer ⊤) (wire : W)
     (before between after : DriverView W) (log : List Act) → IsLogOf config before.history log → Some dial ≡ dial_of c log
     → hears before.wire (WasDialed c dial answer) wire → between ≡ record before { wire = wire }
-    → ConnectResult c dial answer config between after
-    → Keeps hears May config before after
+    → ConnectResult c dial answer config between after → Keeps hears May config before after
 connect_result_keeps hears May config c may dial (Got all) wire before between after log was wanted heard is (noted, notes, applied) =
     dialed_keeps hears May config c may true (WasDialed c dial (Got all)) refl [] tt before noted after log was (
       before.wire,
@@ -151,8 +149,7 @@ abbrev pub poll_result_keeps : {W : Type 0} (hears : W → Heard → W → Type 
     → Type 0) (config : Config) (c : ℕ) (may : May OfNone) (dial : Dial) (answer : Answer ⊤) (wire : W)
     (before between after : DriverView W) (log : List Act) → IsLogOf config before.history log → Some dial ≡ dial_of c log
     → hears before.wire (PeerAnswered c answer) wire → between ≡ record before { wire = wire }
-    → PollResult hears c answer config between after
-    → Keeps hears May config before after
+    → PollResult hears c answer config between after → Keeps hears May config before after
 poll_result_keeps hears May config c may dial (Got all) wire before between after log was wanted heard is applied =
     dialed_keeps hears May config c may true (PeerAnswered c (Got all)) refl [] tt before between after log was
     (before.wire, refl, subst (λ w. hears before.wire (PeerAnswered c (Got all)) w) (sym (ap (λ m. m.wire) is)) heard)
@@ -224,8 +221,7 @@ stimulus_untold stimuli.External log = refl
 
 -- A step that changes neither the wire nor the history satisfies `Keeps`.
 pub keeps_else : {W : Type 0} (hears : W → Heard → W → Type 0) (May : Subject → Type 0) (config : Config) (before after : DriverView W)
-    → after.wire ≡ before.wire
-    → after.history ≡ before.history → Keeps hears May config before after
+    → after.wire ≡ before.wire → after.history ≡ before.history → Keeps hears May config before after
 keeps_else hears May config before after there same = record {
   piece = [];
   events = [];

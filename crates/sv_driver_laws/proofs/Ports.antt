@@ -39,8 +39,7 @@ sent_more went sends more g is le = (
 )
 
 taken_more : (went bytes sends : List ℕ) (g n : ℕ) → bytes ≡ drop g sends → n ≤ length bytes → went ++ drop g sends ≡ sends
-    → g ≤ length sends
-    → ((went ++ take n bytes) ++ drop (g + n) sends ≡ sends) × (g + n ≤ length sends)
+    → g ≤ length sends → ((went ++ take n bytes) ++ drop (g + n) sends ≡ sends) × (g + n ≤ length sends)
 taken_more went bytes sends g n same few is le = (
   append_assoc went (take n bytes) (drop (g + n) sends)
       ∙ ap (λ (l : List ℕ). went ++ (take n bytes ++ l)) (sym (drop-drop n g sends) ∙ ap (drop n) (sym same))
@@ -166,8 +165,7 @@ step_read c most bytes trace d acts channel_log h = (
 )
 
 pub step_took : (c n : ℕ) (bytes : List ℕ) (trace : List Heard) (d : ℕ) (acts : List ConnAct) (channel_log : List ChannelAct)
-    → n ≤ length bytes
-    → (eqb c d ≡ true → bytes ≡ waiting acts) → PortBytes d acts channel_log trace
+    → n ≤ length bytes → (eqb c d ≡ true → bytes ≡ waiting acts) → PortBytes d acts channel_log trace
     → PortBytes d (brings d (Took (Conn c) n) ++ acts) channel_log (WasWritten (Conn c) bytes (Got n) ∷ trace)
 step_took c n bytes trace d acts channel_log few waits h = (
   elim (cases_Bool (eqb c d)) [
@@ -184,8 +182,7 @@ step_took c n bytes trace d acts channel_log few waits h = (
 )
 
 pub step_close : (c : ℕ) (trace : List Heard) (d : ℕ) (acts : List ConnAct) (channel_log : List ChannelAct)
-    → PortBytes d acts channel_log trace
-    → PortBytes d (brings d (Close (Conn c)) ++ acts) channel_log (WasClosed (Conn c) ∷ trace)
+    → PortBytes d acts channel_log trace → PortBytes d (brings d (Close (Conn c)) ++ acts) channel_log (WasClosed (Conn c) ∷ trace)
 step_close c trace d acts channel_log h = (
   elim (cases_Bool (eqb c d)) [
     | inl e ↦ rw e (refl, (λ opened. absurd cc))
@@ -198,8 +195,7 @@ step_close c trace d acts channel_log h = (
 
 -- The peer takes bytes of the channel.
 pub step_sent : (c n : ℕ) (bytes : List ℕ) (trace : List Heard) (d : ℕ) (acts : List ConnAct) (channel_log : List ChannelAct)
-    → n ≤ length bytes
-    → (eqb c d ≡ true → bytes ≡ channel_waiting d channel_log) → PortBytes d acts channel_log trace
+    → n ≤ length bytes → (eqb c d ≡ true → bytes ≡ channel_waiting d channel_log) → PortBytes d acts channel_log trace
     → PortBytes d acts (ChannelTaken c n ∷ channel_log) (WasWritten (Intr c) bytes (Got n) ∷ trace)
 step_sent c n bytes trace d acts channel_log few waits h = (
   came_silent d (WasWritten (Intr c) bytes (Got n)) trace acts refl refl refl h.0,
@@ -230,8 +226,7 @@ step_opened c what heard trace d acts channel_log still unread bytes_left opens 
 
 abbrev pub BytesMatch : Config → List PlainEvent → List Heard → Type 0
 BytesMatch config history trace = (log : List Act) (channel_log : List ChannelAct) → IsLogOf config history log
-    → HearsOf (device_acts log) channel_log
-    → (c : ℕ) → PortBytes c (of c log) channel_log trace
+    → HearsOf (device_acts log) channel_log → (c : ℕ) → PortBytes c (of c log) channel_log trace
 
 pub keeping_event : OnlyCalls → OnlyRequests
     → (config : Config) (history : List PlainEvent) (before : List Act) (channel_log : List ChannelAct)
@@ -249,8 +244,7 @@ keeping_event only requests config history before channel_log event trace later 
     )
 
 pub keeping_silent : (config : Config) (history : List PlainEvent) (piece trace : List Heard) → AreSilent piece
-    → BytesMatch config history trace
-    → BytesMatch config history (piece ++ trace)
+    → BytesMatch config history trace → BytesMatch config history (piece ++ trace)
 keeping_silent config history [] trace silent keeping = keeping
 keeping_silent config history (heard ∷ piece) trace silent keeping = λ log channel_log is hears c.
     holds_silent c heard (piece ++ trace) (of c log) channel_log silent.0.1 (silent.0.2 (Conn c)) silent.0.3

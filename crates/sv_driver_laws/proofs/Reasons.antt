@@ -40,8 +40,7 @@ closes_at_once_append next [] other h k = closes_at_once_weaker next other k
 closes_at_once_append next (heard ∷ one) other h k = (h.0, closes_at_once_append (Some heard) one other h.1 k)
 
 pub closes_at_once_no_failure : (next : Option Heard) (piece rest : List Heard) → NoneIsFailure piece
-    → ((other : Option Heard) → ClosesAtOnce other rest)
-    → ClosesAtOnce next (piece ++ rest)
+    → ((other : Option Heard) → ClosesAtOnce other rest) → ClosesAtOnce next (piece ++ rest)
 closes_at_once_no_failure next [] rest calm h = h next
 closes_at_once_no_failure next (heard ∷ piece) rest calm h =
     ((λ c e. no_failure (ends_port (Conn c) heard) (calm.0 c) e), closes_at_once_no_failure (Some heard) piece rest calm.1 h)
@@ -59,8 +58,7 @@ HasReasons config history trace = EachHeard (λ heard older. (c : ℕ) → heard
 
 -- What once held of a history once held of each longer history.
 pub once_in_longer_history : (IsSo : List PlainEvent → Type 0) (history events : List PlainEvent) (trace : List Heard)
-    → Once IsSo history trace
-    → Once IsSo (events ++ history) trace
+    → Once IsSo history trace → Once IsSo (events ++ history) trace
 once_in_longer_history IsSo history events trace (later, earlier, is, so, then_so) =
     (events ++ later, earlier, ap (λ (l : List PlainEvent). events ++ l) is ∙ sym (append_assoc events later earlier), so, then_so)
 

@@ -182,8 +182,7 @@ no_longer : {A : Type 0} (event : PlainEvent) (history : List PlainEvent) → ev
 no_longer event history e = absurd (let same = ap length e in omega (arith, same))
 
 tick_full : {W : Type 0} (config : Config) (s : List Entry) (k : ℕ) (a m b : DriverView W) (result : Result Did Refused)
-    → (r : Rests config s k a)
-    → config.clock + r.n ≡ last_clock → history_after Tick result a.history ≡ a.history
+    → (r : Rests config s k a) → config.clock + r.n ≡ last_clock → history_after Tick result a.history ≡ a.history
     → m ≡ record a { history = history_after Tick result a.history } → Counts result config m b → Played config s (k + 1) b
 tick_full config s k a m b (Ok did) r full same is counts = no_longer Tick a.history same
 tick_full config s k a m b (Err refused) r full same is counts =
@@ -286,8 +285,7 @@ sweep_timed hears config s k ticks m0 m10
 
 -- Before the first sweep no millisecond has passed.
 pub played_before_sweeps : {W J : Type 0} (config : Config) (start : DriverState W J) → config.clock ≤ last_clock → start.ticks ≡ 0
-    → IsScenario 0 start.ahead
-    → Played config start.ahead 0 (driver_view start [])
+    → IsScenario 0 start.ahead → Played config start.ahead 0 (driver_view start [])
 played_before_sweeps config start clock zero_ticks rising = record {
   n = 0;
   play = record {

@@ -82,8 +82,7 @@ turned_by config c now history events turn log is was takes = record {
 }
 
 pub turned_more_events : (config : Config) (c : ℕ) (history events more : List PlainEvent) → filter is_bytes more ≡ []
-    → acts_brought c more ≡ []
-    → Turned config c history events → Turned config c history (more ++ events)
+    → acts_brought c more ≡ [] → Turned config c history events → Turned config c history (more ++ events)
 turned_more_events config c history events more unread untouched t = record {
   had = had_turn_more_events config c history events more unread t.had;
   untouched = flat_map-append (brings c) more t.behind ∙ rw (untouched, t.untouched) refl;
@@ -186,8 +185,7 @@ refused_turn_has_no_room_by false true false false refused h far busy some = abs
 -- room for the longest reply.
 pub refused_turn_has_no_room : (config : Config) (history : List PlainEvent) (log : List Act) (c : ℕ) (channel_log : List ChannelAct)
     (refused : Refused)
-    → c < 16
-    → IsLogOf config history log → true ≡ not (is_idle (of c log)) → refusal config channel_log (Turn c) log ≡ Some refused
+    → c < 16 → IsLogOf config history log → true ≡ not (is_idle (of c log)) → refusal config channel_log (Turn c) log ≡ Some refused
     → free (of c log) < longest_reply
 refused_turn_has_no_room config history log c channel_log refused lt was ready h =
     let busy = ready_is_not_idle (is_idle (of c log)) ready in

@@ -106,8 +106,7 @@ poll_asks_peer hears May config c may dial Failed wire x m y log was wants heard
 dialed_for : {W : Type 0} (hears : W → Heard → W → Type 0) (May : Subject → Type 0) (config : Config) (c : ℕ) (may : May OfNone)
     (wanted dialed : Option Dial) (x y : DriverView W) (log : List Act) (was : IsLogOf config x.history log)
     (wants : wanted ≡ dial_of c log)
-    → (h : DialsFor hears c wanted dialed config x y)
-    → (dial_of c log ≡ None) ⊎ ((dial : Dial) × (dial_of c log ≡ Some dial)
+    → (h : DialsFor hears c wanted dialed config x y) → (dial_of c log ≡ None) ⊎ ((dial : Dial) × (dial_of c log ≡ Some dial)
     × IsPeerAsked c dial (dials_for_keeps hears May config c may wanted dialed x y log was wants h).piece)
 dialed_for hears May config c may None dialed x y log was wants same = inl (sym wants)
 dialed_for hears May config c may (Some dial) None x y log was wants (answer, (m, (wire, heard, is), h)) =
@@ -272,8 +271,7 @@ adds_grown config a b front log channel_log later c (events, grown, all) was hea
 
 -- While the channel is open, the bytes that waited on it come first among those that wait.
 waited_in_front : (c : ℕ) (before after : List ChannelAct) → OnlyAdds c before after → TakenWithinSent c before
-    → is_channel_open c after ≡ true
-    → (more : List ℕ) × (channel_waiting c after ≡ channel_waiting c before ++ more)
+    → is_channel_open c after ≡ true → (more : List ℕ) × (channel_waiting c after ≡ channel_waiting c before ++ more)
 waited_in_front c before after adds within opened =
     let a = adds opened in
     let all : concat (calls c after) ≡ concat (calls c before) ++ concat a.2 = ap concat a.3 ∙ concat_of_append (calls c before) a.2 in (
@@ -315,8 +313,7 @@ written_intr : {W : Type 0} (hears : W → Heard → W → Type 0) (May : Subjec
     (channel_log : List ChannelAct) (was : IsLogOf config x.history log) (tells_so : HearsOf (device_acts log) channel_log)
     (waits : bytes ≡ waiting_on channel_log (Intr c) log) (few : IsWithin answer (length bytes))
     (heard : hears x.wire (WasWritten (Intr c) bytes answer) wire) (is : m ≡ record x { wire = wire })
-    → (h : EndsWrite hears (Intr c) answer config m y)
-    → IsIn (WasWritten (Intr c) bytes answer)
+    → (h : EndsWrite hears (Intr c) answer config m y) → IsIn (WasWritten (Intr c) bytes answer)
     (write_by hears May config (Intr c) may bytes answer wire x m y log channel_log was tells_so waits few heard is h).piece
 written_intr hears May config c may bytes (Got n) wire x m y log channel_log was tells_so waits few heard is h = ([], [], refl)
 written_intr hears May config c may bytes Pending wire x m y log channel_log was tells_so waits few heard is h = ([], [], refl)

@@ -157,8 +157,7 @@ entries_reported : (code : Code) (acts : List QueueAct) → IsValid acts → len
 entries_reported code acts is room = admitted_is_newest (count_acts acts) (length acts + 1) is.taken room
 
 reported_full : (code : Code) (acts : List QueueAct) → IsValid acts → length (entries acts) < most
-    → length (entries (Report code ∷ acts)) ≡ most
-    → IsFull (Report code ∷ acts)
+    → length (entries (Report code ∷ acts)) ≡ most → IsFull (Report code ∷ acts)
 reported_full code acts is room many =
     let split = entries_reported code acts is room in
     record {

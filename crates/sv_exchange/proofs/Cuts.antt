@@ -83,8 +83,7 @@ cut_behind_cons b n m bytes mark e =
     ]
 
 -- The first message of a text, and those after it.
-pub first_message_is_cut : (bytes : List ℕ) (mark : Bool)
-    → messages (symbols bytes mark) ≡ take (first_size bytes) bytes
+pub first_message_is_cut : (bytes : List ℕ) (mark : Bool) → messages (symbols bytes mark) ≡ take (first_size bytes) bytes
     ∷ following (has_line bytes || mark) (drop (second_at bytes) bytes) (has_line bytes && mark)
 first_message_is_cut [] true = refl
 first_message_is_cut [] false = refl

@@ -120,8 +120,7 @@ open_message_end false size at end behind e t = t.0
 
 -- The length of the output with one more answer.
 pub output_size_with_answer : (answering : Bool) (response answer : List ℕ) (taken before : ℕ) → IsOut answering (length response) taken
-    → before ≡ cond answering (length response + 1) 0
-    → length (with_answer answering (drop taken response) answer) ≡ before + length answer
+    → before ≡ cond answering (length response + 1) 0 → length (with_answer answering (drop taken response) answer) ≡ before + length answer
 output_size_with_answer true response answer taken before out e =
     rw (out.1) (omega (arith, length-append response (59 ∷ answer)))
 output_size_with_answer false response answer taken before out e = omega arith
@@ -134,8 +133,7 @@ answers_are_unread false response answer taken out = refl
 
 -- What is left to read after the new line is appended to the answers.
 read_closed : (answering : Bool) (response closed : List ℕ) (read : ℕ) → closed ≡ (if answering then response ++ 10 ∷ [] else response)
-    → IsOut answering (length response) read
-    → drop read closed ≡ (if answering then drop read response ++ 10 ∷ [] else drop read response)
+    → IsOut answering (length response) read → drop read closed ≡ (if answering then drop read response ++ 10 ∷ [] else drop read response)
 read_closed true response closed read is out = rw (out.1, is) refl
 read_closed false response closed read is out = ap (drop read) is
 

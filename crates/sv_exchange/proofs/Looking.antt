@@ -157,8 +157,7 @@ ended a new seen b unclosed lt is s e l c p h =
 
 -- White space may end the unit, or come within it.
 pub white_after_unit : (a new : Ahead) (seen : List ℕ) (b : ℕ) → a.closed ≡ false → a.start < a.end → is_white b ≡ true
-    → new.start ≡ a.start
-    → new.end ≡ a.end → new.looked ≡ a.looked + 1 → new.closed ≡ a.closed → new.partial ≡ a.partial → IsAhead a seen
+    → new.start ≡ a.start → new.end ≡ a.end → new.looked ≡ a.looked + 1 → new.closed ≡ a.closed → new.partial ≡ a.partial → IsAhead a seen
     → IsAhead new (seen ++ b ∷ [])
 white_after_unit a new seen b unclosed lt w s e l c p h =
     let o = opened a seen h unclosed in
@@ -286,8 +285,7 @@ pushed_slice a text b h lt is =
 
 -- One more byte was read.
 pub looked_at_next : (a new : Ahead) (text : List ℕ) (b : ℕ) → a.looked < length text → b ≡ get_or text a.looked 0
-    → new.looked ≡ a.looked + 1
-    → IsAhead new (take a.looked text ++ b ∷ []) → IsBegun new text
+    → new.looked ≡ a.looked + 1 → IsAhead new (take a.looked text ++ b ∷ []) → IsBegun new text
 looked_at_next a new text b lt is l h =
     let more : take new.looked text ≡ take a.looked text ++ b ∷ [] =
     ap (λ (n : ℕ). take n text) l ∙ take_more text a.looked 0 lt ∙ ap (λ (n : ℕ). take a.looked text ++ n ∷ []) (sym is) in

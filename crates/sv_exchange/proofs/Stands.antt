@@ -84,8 +84,7 @@ response_from_answers false out given readable said = ap (λ (g : List (List ℕ
 
 -- A message is finished.
 pub finish_stands : (contents new : Contents) (acts : List ExchangeAct) → contents.ended ≡ true → length contents.later ≤ max_message
-    → new ≡ after_finish contents
-    → StandsFor contents acts → StandsFor new (Finished ∷ acts)
+    → new ≡ after_finish contents → StandsFor contents acts → StandsFor new (Finished ∷ acts)
 finish_stands contents new acts ended few is s =
     let size = position_within_length (λ b. b == 10) contents.later in
     let first : List ℕ = take (first_size contents.later) contents.later in
@@ -202,8 +201,7 @@ not_true false h = refl
 
 -- A message that is too long stays so.
 long_on : (long : Bool) (message first rest : List ℕ) (n : ℕ) → long ≡ nat_lt max_message (length message) → length first ≡ n
-    → (long ≡ false → message ≡ rest)
-    → (long || nat_lt max_message (length rest + n)) ≡ nat_lt max_message (length (message ++ first))
+    → (long ≡ false → message ≡ rest) → (long || nat_lt max_message (length rest + n)) ≡ nat_lt max_message (length (message ++ first))
 long_on true message first rest n e f whole =
     let more : max_message < length (message ++ first) =
     omega (arith, length-append message first, ltb-true max_message (length message) (sym e)) in
@@ -221,8 +219,7 @@ grown true more message first rest short whole = absurd cc
 
 -- Text is accepted.
 pub accept_stands : (contents new : Contents) (acts : List ExchangeAct) (bytes : List ℕ) (ended : Bool) → IsTrue (is_open contents)
-    → new ≡ after_accept contents bytes ended
-    → StandsFor contents acts → StandsFor new (Accepted bytes ended ∷ acts)
+    → new ≡ after_accept contents bytes ended → StandsFor contents acts → StandsFor new (Accepted bytes ended ∷ acts)
 accept_stands contents new acts bytes ended open_now is s =
     let unended : contents.ended ≡ false = not_true contents.ended open_now in
     let first : List ℕ = take (first_size bytes) bytes in
@@ -259,8 +256,7 @@ read_said false out given readable count few said = (said.0, ap (drop count) sai
 
 -- Bytes of the response are read.
 pub read_stands : (contents new : Contents) (acts : List ExchangeAct) (count : ℕ) → count ≤ length (shown_by contents)
-    → new ≡ record contents { output = drop count contents.output }
-    → StandsFor contents acts → StandsFor new (ResponseRead count ∷ acts)
+    → new ≡ record contents { output = drop count contents.output } → StandsFor contents acts → StandsFor new (ResponseRead count ∷ acts)
 read_stands contents new acts count few is s =
     let left : response (ResponseRead count ∷ acts) ≡ drop count (response acts) = response_read acts count in
     output_stands contents new acts (ResponseRead count ∷ acts) _ _ _ is refl refl refl refl
@@ -274,8 +270,7 @@ said_nothing false out given readable some said = (said.0, refl)
 
 -- A response is interrupted.
 pub interrupted_stands : (contents new : Contents) (acts : List ExchangeAct) → is_something (shown_by contents) ≡ true
-    → new ≡ record contents { output = [] }
-    → StandsFor contents acts → StandsFor new (Interrupted ∷ acts)
+    → new ≡ record contents { output = [] } → StandsFor contents acts → StandsFor new (Interrupted ∷ acts)
 interrupted_stands contents new acts some is s =
     output_stands contents new acts (Interrupted ∷ acts) _ _ _ is refl refl refl refl (λ later. refl) s.no_answers s.answers_dropped
     (said_nothing contents.answering contents.output (answers acts) (response acts) some s.shows) s

@@ -134,8 +134,7 @@ first_clashes_with_none rows r s k all lt e clashes =
 
 -- Rows at different places of the list don't clash.
 places_dont_clash : (rows : List Row) (j k : ℕ) (r s : Row) → none_clash rows ≡ true → j < k → k < length rows → slice_index_or rows j r ≡ r
-    → slice_index_or rows k s ≡ s
-    → rows_clash r s ≡ true → ⊥
+    → slice_index_or rows k s ≡ s → rows_clash r s ≡ true → ⊥
 unfolding none_clash
 places_dont_clash [] j k r s a lt in_bounds e f = absurd (omega arith)
 places_dont_clash (row ∷ rows) j zero r s a lt in_bounds e f = absurd (omega arith)

@@ -83,8 +83,7 @@ leads_from_names (suc fuel) c q d (branch ∷ behind) left command h =
 -- No header without an asterisk fits a row of the common commands, and none with an asterisk fits
 -- any other row.
 plain_header_fits_no_common : (q : Bool) (left : List (List ℕ)) (command : CommandId) (rows : List Row)
-    → list_all (λ row. row.common) rows ≡ true
-    → SomeNames false q left command rows → ⊥
+    → list_all (λ row. row.common) rows ≡ true → SomeNames false q left command rows → ⊥
 plain_header_fits_no_common q left command [] all h = h
 plain_header_fits_no_common q left command (row ∷ rows) all (inl h) =
     let e : false ≡ true = h.1 ∙ (and_parts _ _ all).0 in

@@ -55,8 +55,7 @@ contains_from_some c q left command (first ∷ rows) (inr h) =
 -- If a node takes the first mnemonic and the others fit a row, all fit the row with this node in
 -- front.
 pub some_if_node_taken : (c q : Bool) (left others : List (List ℕ)) (part : Part) (command : CommandId) (rows : List Row)
-    → Takes left part others
-    → SomeNames c q others command rows → SomeNames c q left command (map (below part) rows)
+    → Takes left part others → SomeNames c q others command rows → SomeNames c q left command (map (below part) rows)
 some_if_node_taken c q [] others part command rows takes h = absurd takes
 some_if_node_taken c q (first ∷ behind) others part command [] takes h = absurd h
 some_if_node_taken c q (first ∷ behind) others part command (row ∷ rows) takes (inl h) =

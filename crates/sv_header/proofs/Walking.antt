@@ -10,8 +10,7 @@ use Rattle.sv_header.specs.Inside.Walk.{Takes, Ends, LeadsBelow, Leads, IsFound,
 
 -- The nodes below the first sibling, and the later siblings, are each fewer than all nodes.
 pub parts_are_fewer : (branches : List Branch) (branch : Branch) (children siblings : List Branch)
-    → IsParted branches branch children siblings
-    → (length children < length branches) × (length siblings < length branches)
+    → IsParted branches branch children siblings → (length children < length branches) × (length siblings < length branches)
 parts_are_fewer [] branch children siblings p = absurd p
 parts_are_fewer (first ∷ behind) branch children siblings p =
     let front : length children ≡ length (take first.below behind) = ap length p.1 in

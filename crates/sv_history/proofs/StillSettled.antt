@@ -13,8 +13,7 @@ use Rattle.sv_history.specs.Settling.{First, InstrumentDoes, CanResume, Resumes,
 use Rattle.sv_history.proofs.OneStep.{log_after_resume, log_after_timeout}
 
 instrument_step_back : (IsSuch : List InstrumentAct → List InstrumentAct → Type 0) (log other new : List Act)
-    → device_acts other ≡ device_acts log
-    → InstrumentDoes IsSuch other new → (there : List Act) × InstrumentDoes IsSuch log there
+    → device_acts other ≡ device_acts log → InstrumentDoes IsSuch other new → (there : List Act) × InstrumentDoes IsSuch log there
 instrument_step_back IsSuch log other new same (adds, such, is) = (
   map OnDevice (map Applied adds) ++ log,
   (adds, subst (λ (acts : List DeviceAct). IsSuch (instrument_acts acts) (adds ++ instrument_acts acts)) same such, refl),

@@ -95,8 +95,7 @@ stands_after_start start log unit path kept free next here b =
 -- An immediate trigger ends the wait for a trigger, so the measure of the remaining steps
 -- decreases.
 pub trigger_lowers_measure : (new old : LayerState) (kept : Option Awaited) → new.exchange ≡ old.exchange → state_by old ≡ Waiting
-    → state_by new ≡ Scanning
-    → 2 * (2 * exchange_measure new.exchange + one_if_unheld kept) + waits (state_by new)
+    → state_by new ≡ Scanning → 2 * (2 * exchange_measure new.exchange + one_if_unheld kept) + waits (state_by new)
     < 2 * (2 * exchange_measure old.exchange + one_if_unheld kept) + waits (state_by old)
 trigger_lowers_measure new old kept exchange waiting scanning =
     let work : exchange_measure new.exchange ≡ exchange_measure old.exchange = ap (λ (c : Contents). exchange_measure c) exchange in

@@ -37,8 +37,7 @@ none_held (Some awaited) layers right unended =
 
 -- So no unit of a message begins before the message has ended.
 pub none_begun_before_end : (kept : Kept) (log : List Act) → StandsFor kept log → IsHeldRight kept.held kept.layers
-    → IsTrue (is_open kept.layers.exchange)
-    → units_begun log ≡ 0
+    → IsTrue (is_open kept.layers.exchange) → units_begun log ≡ 0
 none_begun_before_end kept log s right open_now =
     let unended = not_true kept.layers.exchange.ended open_now in
     let joined = s.layers.stands.joined in

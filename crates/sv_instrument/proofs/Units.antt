@@ -114,8 +114,7 @@ behaves_replied {start} {layers} {awaited} {fault} asked text log is says b =
 
 pub behaves_follows : {start : List Act} {layers : LayerState} {awaited : Option Awaited} (unit : List ℕ) (front behind : List (List ℕ))
     (outcome : Result Order Code) (log : List Act) → IsReadAs front unit outcome behind
-    → Behaves (Does outcome log) start layers awaited log
-    → Behaves (Follows unit front behind log) start layers awaited log
+    → Behaves (Does outcome log) start layers awaited log → Behaves (Follows unit front behind log) start layers awaited log
 behaves_follows unit front behind outcome log read b =
     record { new = b.new; makes = (outcome, read, b.makes); counts = b.counts; held = b.held; begins = b.begins }
 

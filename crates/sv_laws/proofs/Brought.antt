@@ -92,6 +92,5 @@ is_tick _ = false
 -- clock is `config.clock` plus the number of Ticks in the history.
 abbrev pub TicksTaken : Type 0
 TicksTaken = (config : Config) (history : List PlainEvent) (log : List Act) (result : Result Did Refused) → IsLogOf config history log
-    → Answers config Tick log result
-    → (config.clock + length (filter is_tick history) < last_clock → result ≡ Ok Done)
+    → Answers config Tick log result → (config.clock + length (filter is_tick history) < last_clock → result ≡ Ok Done)
     × (config.clock + length (filter is_tick history) ≡ last_clock → history_after Tick result history ≡ history)

@@ -106,8 +106,7 @@ call_wait_needs_no_memory c named call acts wait until e = by (owns c named acts
     by true false false o e = device_wait_needs_no_memory call acts wait until named e
 
 wait_needs_no_memory : (c : ℕ) (arguments : Arguments) (acts : List DeviceAct) (wait : Wait) (until : Option ℕ)
-    → takes_memory arguments ≡ false
-    → stop_of c arguments acts ≡ Some (Awaits wait until) → NeedsNoMemory wait (lid_of (link arguments))
+    → takes_memory arguments ≡ false → stop_of c arguments acts ≡ Some (Awaits wait until) → NeedsNoMemory wait (lid_of (link arguments))
 wait_needs_no_memory c (OnLink lid call) acts wait until small e = call_wait_needs_no_memory c (lid_of (Some lid)) call acts wait until e
 wait_needs_no_memory c _ acts wait until small e = absurd cc
 
@@ -120,8 +119,7 @@ entered_dials : (c d : ℕ) (named : Option ℕ) (wait : Wait) (last : Option �
 entered_dials c d named wait last h = elim (cases_Bool (eqb c d)) [ inl e ↦ rw e h | inr e ↦ rw e refl ]
 
 wants_no_memory_by_parts : (acts : List DeviceAct) (calls : List WaitAct) → links_made (link_acts acts) ≡ 0 → wait_acts acts ≡ calls
-    → creating calls ≡ 0
-    → dialing calls ≡ 0 → wants_memory acts ≡ false
+    → creating calls ≡ 0 → dialing calls ≡ 0 → wants_memory acts ≡ false
 wants_no_memory_by_parts acts calls no_link is none nobody =
     let a : creating (wait_acts acts) ≡ 0 = ap creating is ∙ none in
     let b : dialing (wait_acts acts) ≡ 0 = ap dialing is ∙ nobody in rw (no_link, a, b) refl
@@ -206,8 +204,7 @@ turn_refusable config polled c (Some bytes) (Some request) log h = (refl, by (re
 turn_refusable config polled c _ _ log h = absurd cc
 
 refuse_is_not_refused : (shut idle few none : Bool) → cond shut (Some NoConn) (cond idle None (cond few (Some NoRoom) None)) ≡ None
-    → idle ≡ false → none ≡ false
-    → cond shut (Some NoConn) (cond none (Some NotRefusable) (cond few (Some NoRoom) None)) ≡ None
+    → idle ≡ false → none ≡ false → cond shut (Some NoConn) (cond none (Some NotRefusable) (cond few (Some NoRoom) None)) ≡ None
 refuse_is_not_refused false false few false h busy some = h
 refuse_is_not_refused _ _ few _ h busy some = absurd cc
 

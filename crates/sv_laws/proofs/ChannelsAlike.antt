@@ -137,8 +137,7 @@ own_disabled c lid acts = ap (own_links c) (links_after_disable lid acts)
 -- ---- an act of another connection
 
 pub foreign_act_keeps_channel : (c : ℕ) (act : ChannelAct) (acts other : List ChannelAct) → IsForeignChannel c act acts
-    → SameChannel c acts other
-    → SameChannel c (act ∷ acts) other
+    → SameChannel c acts other → SameChannel c (act ∷ acts) other
 foreign_act_keeps_channel c (SrqEnabled lid conn handle) acts other h same =
     let one : Enabled = record { lid = lid; conn = conn; handle = handle } in
     assumption (own_enabled c one acts ∙ rw (ne_eqb conn c h.0) (below_and_above_are_all lid (own_links c (enabled_links acts))

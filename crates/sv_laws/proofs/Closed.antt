@@ -118,8 +118,7 @@ still_others : (c lid : ℕ) (acts : List LinkAct) (ns : List ℕ) → AllByRecu
 still_others c lid acts [] h = tt
 still_others c lid acts (n ∷ ns) h = (still_other c n lid acts h.0, still_others c lid acts ns h.1)
 
-each_destroyed : (c : ℕ) (ns : List ℕ) (behind acts : List LinkAct)
-    → AllByRecursion (λ n. is_of c (owner n (behind ++ acts)) ≡ false) ns
+each_destroyed : (c : ℕ) (ns : List ℕ) (behind acts : List LinkAct) → AllByRecursion (λ n. is_of c (owner n (behind ++ acts)) ≡ false) ns
     → Each (λ before act. IsForeignLink c act before) behind acts
     → Each (λ before act. IsForeignLink c act before) (reverse_aux (map Destroyed ns) behind) acts
 each_destroyed c [] behind acts h k = k

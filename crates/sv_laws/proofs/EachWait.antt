@@ -93,8 +93,7 @@ DatedBy config wait until start arguments = (waits_for_peer arguments ≡ true)
 
 abbrev Dated : Config → ℕ → List ConnAct → List DeviceAct → Type 0
 Dated config c own acts = (wait : Wait) (call : CoreCall) → waits c (wait_acts acts) ≡ Some wait
-    → core_call_in (pending_call own) ≡ Some call
-    → DatedBy config wait (until_of c (wait_acts acts)) (wait_began c acts) call.arguments
+    → core_call_in (pending_call own) ≡ Some call → DatedBy config wait (until_of c (wait_acts acts)) (wait_began c acts) call.arguments
 
 abbrev AllDated : Config → List Act → Type 0
 AllDated config log = (c : ℕ) → Dated config c (of c log) (device_acts log)
@@ -238,8 +237,7 @@ dated_free config c own log all none =
     dated_only config c own log all (dated_none config c (own ++ of c log) (device_acts log) none)
 
 dated_taken : (config : Config) (c : ℕ) (bytes : List ℕ) (log : List Act) → AllDated config log
-    → waits c (wait_acts (device_acts log)) ≡ None
-    → AllDated config (On c (CallTaken bytes) ∷ log)
+    → waits c (wait_acts (device_acts log)) ≡ None → AllDated config (On c (CallTaken bytes) ∷ log)
 dated_taken config c bytes log all none = dated_free config c (CallTaken bytes ∷ []) log all none
 
 entered_until : (c : ℕ) (named : Option ℕ) (wait : Wait) (last : Option ℕ) (acts : List DeviceAct)

@@ -52,8 +52,7 @@ quiet_text (Scanned act ∷ more) log h quiet = quiet_text more log h.1 quiet
 quiet_text (_ ∷ more) log h quiet = absurd h.0
 
 -- If the program text is all that was sent, it still is after more text was accepted.
-sent_text : (more sent log : List Act) → AllByRecursion IsTextOrScan more
-    → text (exchange_acts log) ≡ symbols_of (exchange_acts sent)
+sent_text : (more sent log : List Act) → AllByRecursion IsTextOrScan more → text (exchange_acts log) ≡ symbols_of (exchange_acts sent)
     → text (exchange_acts (more ++ log)) ≡ symbols_of (exchange_acts (more ++ sent))
 sent_text [] sent log h same = same
 sent_text (Exchanged (Accepted bytes ended) ∷ more) sent log h same =

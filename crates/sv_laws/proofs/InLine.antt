@@ -59,8 +59,7 @@ third_call_keeps_later e c d bytes log off_c off_d later = rw (ne_eqb e d off_d,
 
 -- Of two suspended calls, the one that was suspended later was taken later.
 pub suspended_later_taken_later : (log : List Act) (c d : ℕ) (v w : Wait) → AllPlaced log → c ≢ d
-    → waits c (wait_acts (device_acts log)) ≡ Some v
-    → waits d (wait_acts (device_acts log)) ≡ Some w
+    → waits c (wait_acts (device_acts log)) ≡ Some v → waits d (wait_acts (device_acts log)) ≡ Some w
     → arrival c (wait_acts (device_acts log)) ≤ arrival d (wait_acts (device_acts log)) → is_later c d log ≡ true
 suspended_later_taken_later [] c d v w all ne x y le = absurd cc
 suspended_later_taken_later (On e (CallTaken bytes) ∷ log) c d v w all ne x y le =

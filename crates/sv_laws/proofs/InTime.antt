@@ -131,8 +131,7 @@ no_ticks_done c arguments (Ticked ∷ adds) acts h = absurd h.0
 no_ticks_done c arguments (_ ∷ adds) acts h = no_ticks_done c arguments adds acts h.1
 
 timely_effect : (config : Config) (c : ℕ) (effect : Effect) (log : List Act) → AllTimely config log → NoCalls effect.own
-    → NoTicks effect.adds
-    → ((d : ℕ) → d ≢ c → SameCall d (wait_acts (effect.adds ++ device_acts log)) (wait_acts (device_acts log)))
+    → NoTicks effect.adds → ((d : ℕ) → d ≢ c → SameCall d (wait_acts (effect.adds ++ device_acts log)) (wait_acts (device_acts log)))
     → Timely (age c log) (config.clock + ticks (device_acts log)) c (effect.own ++ of c log) (wait_acts (effect.adds ++ device_acts log))
     → AllTimely config (acts_of c effect ++ log)
 timely_effect config c effect log all calls times others mine d =
@@ -261,8 +260,7 @@ timely_only config c own log all calls none = timely_effect config c (record { o
     (timely_none (age c log) (config.clock + ticks (device_acts log)) c (own ++ of c log) (wait_acts (device_acts log)) none)
 
 timely_taken : (config : Config) (c : ℕ) (bytes : List ℕ) (log : List Act) → AllTimely config log
-    → waits c (wait_acts (device_acts log)) ≡ None
-    → AllTimely config (On c (CallTaken bytes) ∷ log)
+    → waits c (wait_acts (device_acts log)) ≡ None → AllTimely config (On c (CallTaken bytes) ∷ log)
 timely_taken config c bytes log all none d = elim (cases_eq d c) [
   | inl e ↦
       let acts = wait_acts (device_acts log) in

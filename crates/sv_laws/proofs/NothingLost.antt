@@ -69,8 +69,7 @@ made_none [] before h = refl
 made_none (Made lid conn ∷ links) before h = absurd h.0
 made_none (_ ∷ links) before h = made_none links before h.1
 
-close_needs_no_memory : (c : ℕ) (log : List Act)
-    → wants_memory (device_acts (map OnDevice
+close_needs_no_memory : (c : ℕ) (log : List Act) → wants_memory (device_acts (map OnDevice
     (Channel (ChannelClosed c) ∷ map Linked (closing c (link_acts (device_acts log))) ++ Waited (Left c) ∷ [])
     ++ On c PortClosed ∷ [])) ≡ false
 close_needs_no_memory c log =

@@ -114,8 +114,7 @@ adds_channel c Requested channel_log h = adds_requested c true channel_log
 adds_channel c _ channel_log h = only_adds_refl c channel_log
 
 pub plain_acts_only_add : (c : ℕ) (adds acts : List DeviceAct) (channel_log later : List ChannelAct) → ArePlain adds
-    → HearsOf acts channel_log
-    → HearsOf (adds ++ acts) later → OnlyAdds c channel_log later
+    → HearsOf acts channel_log → HearsOf (adds ++ acts) later → OnlyAdds c channel_log later
 plain_acts_only_add c [] acts channel_log later h x y = subst (OnlyAdds c channel_log) (channel_log_unique acts channel_log later x y)
     (only_adds_refl c channel_log)
 plain_acts_only_add c (Channel act ∷ adds) acts channel_log later h x (before, y, is) = subst (OnlyAdds c channel_log) (sym is)

@@ -72,8 +72,7 @@ lock_stopped lid call (Some one) is some = by one.waits refl
 lock_stopped lid call None is some = absurd cc
 
 call_stopped : (arguments : Arguments) (own long some locked : Bool) (lock other : Option Stop) → some ≡ true → locked ≡ true
-    → IsStopped arguments lock
-    → IsStopped arguments
+    → IsStopped arguments lock → IsStopped arguments
     (cond (not own) (Some (Fails InvalidLink)) (cond long (Some (Fails ParameterError)) (cond (some && locked) lock other)))
 call_stopped arguments false long some locked lock other is out stops = inl (InvalidLink, inr refl, refl)
 call_stopped arguments true true some locked lock other is out stops = inl (ParameterError, inr refl, refl)

@@ -48,8 +48,7 @@ time_left_after_lock _ arguments n le = omega (arith, le)
 -- after the longest wait for the lock.
 abbrev pub IsWaitAfterLock : Wait → Arguments → Wait × ℕ → Type 0
 IsWaitAfterLock wait arguments next = (wait ≡ Lock) × (waits_for_peer arguments ≡ false)
-    × (next.1 + lock_time arguments ≤ bound next.0 arguments)
-    × (next.0 ≢ Lock)
+    × (next.1 + lock_time arguments ≤ bound next.0 arguments) × (next.0 ≢ Lock)
 
 then_write : (b : Bool) (timeout most : ℕ) (arguments : Arguments) (next : Wait × ℕ) → cond b (Some (ForInput, timeout)) None ≡ Some next
     → timeout + most ≤ patience arguments → next.1 + most ≤ bound next.0 arguments
@@ -64,8 +63,7 @@ then_read false timeout most arguments next e le =
 then_read true timeout most arguments next e le = absurd cc
 
 pub wait_after_lock_is : (wait : Wait) (arguments : Arguments) (acts : List DeviceAct) (next : Wait × ℕ)
-    → next_wait wait arguments acts ≡ Some next
-    → IsWaitAfterLock wait arguments next
+    → next_wait wait arguments acts ≡ Some next → IsWaitAfterLock wait arguments next
 wait_after_lock_is Lock (OnLink lid (DeviceWrite timeout lock_timeout flags bytes)) acts next e =
     let call = DeviceWrite timeout lock_timeout flags bytes in (
       refl,

@@ -38,8 +38,7 @@ each_place config IsSo empty event step (one ∷ history) log (before, polled, c
 
 -- If no step resumes a call, no suspended call can resume.
 pub none_resumes : (config : Config) (log : List Act) → AllSuit (device_acts log) → ((new : List Act) → Resumes config log new → ⊥)
-    → (c : ℕ)
-    → CanResume (device_acts log) c → ⊥
+    → (c : ℕ) → CanResume (device_acts log) c → ⊥
 none_resumes config log suits still c able = let found = oldest_resumable (device_acts log) suits in by found.0 found.1
   where
     by : (found : Option ℕ) → IsOldest (wait_acts (device_acts log)) (CanResume (device_acts log)) found → ⊥

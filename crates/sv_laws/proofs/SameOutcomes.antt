@@ -50,8 +50,7 @@ wait_same c (DeviceRead request_size io_timeout lock_timeout flags term_char) ac
 wait_same c _ acts other ground = refl
 
 pub stop_same : (c : ℕ) (arguments : Arguments) (acts other : List DeviceAct) → NoCreateOrSameLinks arguments acts other
-    → SameGround c acts other
-    → stop_of c arguments acts ≡ stop_of c arguments other
+    → SameGround c acts other → stop_of c arguments acts ≡ stop_of c arguments other
 stop_same c (CreateLink client_id lock_device lock_timeout device) acts other (inl none) ground = absurd cc
 stop_same c (CreateLink client_id lock_device lock_timeout device) acts other (inr same) ground = rw (same.0, same.1) refl
 stop_same c (OnLink named call) acts other may ground =

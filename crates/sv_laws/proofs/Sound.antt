@@ -69,8 +69,7 @@ pub fits_without_call : (c : ℕ) (own : List ConnAct) (acts : List WaitAct) →
 fits_without_call c own acts none = λ wait call is busy. none_is_not_some (core_call_in (pending_call own)) call (ap core_call_in none) busy
 
 pub fits_same_wait : (c : ℕ) (own now : List ConnAct) (acts after : List WaitAct) → pending_call now ≡ pending_call own
-    → SameCall c after acts
-    → FitsArguments c own acts → FitsArguments c now after
+    → SameCall c after acts → FitsArguments c own acts → FitsArguments c now after
 fits_same_wait c own now acts after pending same told = λ wait call is busy.
     let was = told wait call (sym same.wait ∙ is) (ap core_call_in (sym pending) ∙ busy) in (same.named ∙ was.0, was.1, was.2)
 
@@ -286,8 +285,7 @@ pub lock_free_for_resumed : (acts : List DeviceAct) → AllSuit acts → AllKeep
 lock_free_for_resumed acts suits keeps c able w = lock_is_free acts suits keeps c w (not_out acts c able w)
 
 pub resumed_is_earliest : (acts : List DeviceAct) → AllSuit acts → AllKeep acts → (c : ℕ)
-    → IsOldest (wait_acts acts) (CanResume acts) (Some c)
-    → WaitsForLock acts c → IsEarliest c acts
+    → IsOldest (wait_acts acts) (CanResume acts) (Some c) → WaitsForLock acts c → IsEarliest c acts
 resumed_is_earliest acts suits keeps c oldest w =
     let free = lock_free_for_resumed acts suits keeps c oldest.0 w in
     (w, λ d waits_too. oldest.1 d (lock_waiter_can_resume acts d waits_too free))
@@ -314,8 +312,7 @@ abbrev pub IsSecondWait : Wait → Arguments → Wait × ℕ → Type 0
 IsSecondWait wait arguments next = (wait ≡ Lock) × (next.0 ≢ Lock) × (takes_lock arguments ≡ false)
 
 pub second_wait_is : (wait : Wait) (arguments : Arguments) (acts : List DeviceAct) (next : Wait × ℕ)
-    → next_wait wait arguments acts ≡ Some next
-    → IsSecondWait wait arguments next
+    → next_wait wait arguments acts ≡ Some next → IsSecondWait wait arguments next
 second_wait_is Lock (OnLink lid (DeviceWrite timeout lock_timeout flags bytes)) acts next e =
     (refl, again_by (has_ended (exchange_acts acts)) ForInput timeout next input_not e, refl)
 second_wait_is Lock (OnLink lid (DeviceRead request_size timeout lock_timeout flags term_char)) acts next e =

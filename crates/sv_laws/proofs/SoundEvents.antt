@@ -128,8 +128,7 @@ channel_not false true false until e = cc
 channel_not false true true until e = cc
 
 lock_waiter_is_locked_out : (c : ℕ) (arguments : Arguments) (acts : List DeviceAct) (until : Option ℕ)
-    → stop_of c arguments acts ≡ Some (Awaits Lock until)
-    → is_locked_out (holder (link_acts acts)) (lid_of (link arguments)) ≡ true
+    → stop_of c arguments acts ≡ Some (Awaits Lock until) → is_locked_out (holder (link_acts acts)) (lid_of (link arguments)) ≡ true
 lock_waiter_is_locked_out c (CreateLink client_id lock_device lock_timeout device) acts until e =
     link_locked _ _ lock_device _ lock_timeout Lock until e
 lock_waiter_is_locked_out c (OnLink lid call) acts until e =

@@ -323,8 +323,7 @@ took_intr c n log other v = record {
 
 -- A Took changes only which bytes were taken: no step is due after it.
 took_event : (port : Port) (n : ℕ) (config : Config) (past : List PlainEvent) (log : List Act) → IsLogOf config (Took port n ∷ past) log
-    → (before : List Act) × IsLogOf config past before
-    × ((other : List Act) → TakenAlike before other → TakenAlike log other)
+    → (before : List Act) × IsLogOf config past before × ((other : List Act) → TakenAlike before other → TakenAlike log other)
 took_event (Conn c) n config past log (before, polled, channel_log, is_event, was, hears, free, said, settles) = (
   before,
   was,
@@ -380,8 +379,7 @@ retook_only_tooks (event ∷ other) e = elim (is_took_or_not event) [
 ]
 
 retook_with_event : (event : PlainEvent) (past other : List PlainEvent) → ((o : List PlainEvent) → without_took past ≡ without_took o
-    → Retook past o)
-    → event ∷ without_took past ≡ without_took other → Retook (event ∷ past) other
+    → Retook past o) → event ∷ without_took past ≡ without_took other → Retook (event ∷ past) other
 retook_with_event event past [] rest e = absurd cc
 retook_with_event event past (next ∷ other) rest e = elim (is_took_or_not next) [
   | inl h ↦ subst (λ x. Retook (event ∷ past) (x ∷ other)) (sym h.2)

@@ -67,8 +67,7 @@ begun_stands name act log latches = subst (λ (acts : List RegisterAct). StandsF
 -- A register that got its new condition, and then the direct effect of an act that changes
 -- registers as this act does, stands for its log after this act.
 pub stands_after_direct_effect : (name : RegisterName) (other act : Act) (log : List Act) (latches : Latches) (word : ℕ)
-    → word ≡ condition name (act ∷ log)
-    → ((acts : List RegisterAct) → own name other acts ≡ own name act acts)
+    → word ≡ condition name (act ∷ log) → ((acts : List RegisterAct) → own name other acts ≡ own name act acts)
     → StandsFor (start name) latches (own name other (Condition word ∷ register_acts name (layer_logs log)))
     → StandsFor (start name) latches (register_acts name (layer_logs (act ∷ log)))
 stands_after_direct_effect name other act log latches word told same =

@@ -109,8 +109,7 @@ same_requests (act ∷ log) status_log (word, before, summary, is, made) =
 -- whether the act raises one.
 abbrev RaisedStep : Act → Type 0
 RaisedStep act = (log : List Act) (now : StatusAct) (before : List StatusAct)
-    → status.Request (now ∷ own_status act before) ↔ Request (act ∷ log)
-    → status.Request before ↔ Request log
+    → status.Request (now ∷ own_status act before) ↔ Request (act ∷ log) → status.Request before ↔ Request log
     → status.IsRaised (now ∷ own_status act before) ↔ IsRaised (act ∷ log)
 
 polled_raised : RaisedStep Polled

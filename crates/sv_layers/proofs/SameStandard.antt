@@ -29,8 +29,7 @@ completed k act log acts = either_congruent (stands_occurred k (bit 0 (completes
 
 -- A reported error sets the bit of its class, bit 3 if the queue overflows, and bit 0 if an `*OPC`
 -- completes.
-reported : (k : ℕ) (code : Code) (log : List Act)
-    → stands.Stands k (standard.Occur (bit 0 (completes (Reported code) log))
+reported : (k : ℕ) (code : Code) (log : List Act) → stands.Stands k (standard.Occur (bit 0 (completes (Reported code) log))
     ∷ report_bits code (is_full (layer_logs log).errors) (layer_logs log).standard)
     ↔ (Occurs k (Reported code ∷ log) ⊎ stands.Stands k (layer_logs log).standard)
 reported k code log =

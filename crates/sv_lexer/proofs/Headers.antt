@@ -333,8 +333,7 @@ is_before_header_end QuerySign = true
 is_before_header_end _ = false
 
 pub header_is_pushed : (stage : Stage) (head : List ℕ) (b n m : ℕ) → is_before_header_end stage ≡ true → HeaderEnds stage head
-    → IsCounted n m head
-    → HeaderPushed (behind_graphic stage b) n m head b
+    → IsCounted n m head → HeaderPushed (behind_graphic stage b) n m head b
 header_is_pushed WhiteSpace head b n m first h counted =
     subst (λ (l : List ℕ). HeaderPushed (behind_graphic WhiteSpace b) n m l b) (sym h)
     (pushed_first b n m (subst (IsCounted n m) h counted))

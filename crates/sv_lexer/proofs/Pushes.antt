@@ -224,8 +224,7 @@ end_same unit new s = let heads : length (header new) ≡ length (header unit) =
 
 -- The byte is appended to what follows the header.
 more_behind : (unit lead head body : List ℕ) (b : ℕ) → IsDivided unit lead head body → is_empty head ≡ false
-    → before_white (body ++ b ∷ []) ≡ []
-    → IsDivided (unit ++ b ∷ []) lead head (body ++ b ∷ [])
+    → before_white (body ++ b ∷ []) ≡ [] → IsDivided (unit ++ b ∷ []) lead head (body ++ b ∷ [])
 more_behind unit lead head body b d some gap = record {
   whole = ap (λ (l : List ℕ). l ++ b ∷ []) d.whole ∙ append_assoc lead (head ++ body) (b ∷ [])
       ∙ ap (λ (l : List ℕ). lead ++ l) (append_assoc head body (b ∷ []));

@@ -141,8 +141,7 @@ data_begun p unit place none some e = at (is_empty (rest unit)) refl e
     at false f e = some f ∙ ap in_u64 (sym e)
 
 data_read : (stage : Stage) (p : Progress) (unit : List ℕ) (b : ℕ) → one_more p.size ≡ in_u64 (length (unit ++ b ∷ [])) → is_white b ≡ false
-    → is_header (header unit) ≡ true → header_end unit < length unit
-    → (is_empty (rest unit) ≡ true → p.data_start ≡ in_u64 (length unit))
+    → is_header (header unit) ≡ true → header_end unit < length unit → (is_empty (rest unit) ≡ true → p.data_start ≡ in_u64 (length unit))
     → (is_empty (rest unit) ≡ false → p.data_start ≡ in_u64 (rest_place unit))
     → IsRead stage p unit → IsRead ProgramData (progress_to ProgramData p) (unit ++ b ∷ [])
 data_read stage p unit b size w is lt none data_there h =
@@ -201,8 +200,7 @@ data_more stage p unit b size w is d h =
     (λ e. (let f : false ≡ true = sym d.some ∙ e in absurd cc)) (λ e. d.begins) h
 
 at_graphic : (stage : Stage) (p : Progress) (unit : List ℕ) (b : ℕ) → one_more p.size ≡ in_u64 (length (unit ++ b ∷ []))
-    → is_white b ≡ false
-    → At stage p unit → At (behind_graphic stage b) (progress_to (behind_graphic stage b) p) (unit ++ b ∷ [])
+    → is_white b ≡ false → At stage p unit → At (behind_graphic stage b) (progress_to (behind_graphic stage b) p) (unit ++ b ∷ [])
 at_graphic HeaderSeparator p unit b size w h =
     data_read HeaderSeparator p unit b size w h.spelled h.ends.1 (λ e. h.ends.2)
     (λ e. (let f : true ≡ false = sym (ap is_empty h.ends.0) ∙ e in absurd cc)) h
@@ -214,8 +212,7 @@ at_graphic stage p unit b size w h = first_on stage p unit b refl h.ends size w 
 
 -- The next byte leads from each stage to the next.
 pub next_stage_is_right : (stage : Stage) (p : Progress) (unit : List ℕ) (b : ℕ) → one_more p.size ≡ in_u64 (length (unit ++ b ∷ []))
-    → At stage p unit
-    → At (next stage b) (progress_to (next stage b) p) (unit ++ b ∷ [])
+    → At stage p unit → At (next stage b) (progress_to (next stage b) p) (unit ++ b ∷ [])
 next_stage_is_right stage p unit b size h = at (is_white b) refl (is_ascii_graphic b)
   where
     at : (w : Bool) → is_white b ≡ w → (g : Bool) → At (cond w (behind_space stage) (cond g (behind_graphic stage b) Illegal))

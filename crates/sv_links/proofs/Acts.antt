@@ -15,8 +15,7 @@ use Rattle.sv_links.proofs.Rising.{with_link, links_after_enable, links_after_di
 
 -- A link disables service requests.
 pub are_channels_disabled : (kept : Channels) (links : List Enabled) (lid : ℕ) (acts : List ChannelAct)
-    → links ≡ other_links lid kept.enabled → AreChannels kept acts
-    → AreChannels (record kept { enabled = links }) (SrqDisabled lid ∷ acts)
+    → links ≡ other_links lid kept.enabled → AreChannels kept acts → AreChannels (record kept { enabled = links }) (SrqDisabled lid ∷ acts)
 are_channels_disabled kept links lid acts same is = record {
   enabled = same ∙ ap (other_links lid) is.enabled ∙ sym (links_after_disable lid acts);
   each = is.each;

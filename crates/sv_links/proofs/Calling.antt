@@ -33,8 +33,7 @@ calls_after_links peer count conn links n calls = fold (add_call (Some peer) cou
 
 -- A link of the channel's connection adds a call.
 pub link_adds_call : (peer : Peer) (count conn : ℕ) (links : List Enabled) (i : ℕ) (link : Enabled) (calls : List (List ℕ))
-    → i < length links
-    → link ≡ get_or links i link → link.conn ≡ conn
+    → i < length links → link ≡ get_or links i link → link.conn ≡ conn
     → add_call (Some peer) count (calls_after_links peer count conn links i calls) link.handle
     ≡ calls_after_links peer count conn links (i + 1) calls
 link_adds_call peer count conn links i link calls lt at own =
@@ -45,8 +44,7 @@ link_adds_call peer count conn links i link calls lt at own =
 
 -- A link of another connection adds none.
 pub other_link_adds_none : (peer : Peer) (count conn : ℕ) (links : List Enabled) (i : ℕ) (link : Enabled) (calls : List (List ℕ))
-    → i < length links
-    → link ≡ get_or links i link → link.conn ≢ conn
+    → i < length links → link ≡ get_or links i link → link.conn ≢ conn
     → calls_after_links peer count conn links i calls ≡ calls_after_links peer count conn links (i + 1) calls
 other_link_adds_none peer count conn links i link calls lt at apart =
     ap (fold (add_call (Some peer) count) calls)

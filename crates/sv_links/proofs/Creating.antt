@@ -39,8 +39,7 @@ passing_without_failing p n (x ∷ xs) h = elim (cases_Bool (eqb x.conn n)) [
 
 -- If the entry of a connection passes the test, removing it leaves one fewer that does.
 passing_without_one : (p : Entry → Bool) (n : ℕ) (xs : List Entry) → IsOnce xs → HasEntryOf n xs
-    → AllByRecursion (λ x. x.conn ≡ n → p x ≡ true) xs
-    → length (filter p xs) ≡ length (filter p (without n xs)) + 1
+    → AllByRecursion (λ x. x.conn ≡ n → p x ≡ true) xs → length (filter p xs) ≡ length (filter p (without n xs)) + 1
 passing_without_one p n [] once among h = absurd among
 passing_without_one p n (x ∷ xs) once (inl same) h =
     let free : IsFree n xs = rw (← same) once.0 in

@@ -23,8 +23,7 @@ arrival_unique (Entered conn link wait last ∷ acts) c d came same = elim (case
 ]
 
 one : (acts : List WaitAct) (IsSuch : ℕ → Type 0) (a b : Option ℕ)
-    → ((c d : ℕ) → IsSuch c → IsSuch d → arrival c acts ≡ arrival d acts → c ≡ d)
-    → IsOldest acts IsSuch a → IsOldest acts IsSuch b → a ≡ b
+    → ((c d : ℕ) → IsSuch c → IsSuch d → arrival c acts ≡ arrival d acts → c ≡ d) → IsOldest acts IsSuch a → IsOldest acts IsSuch b → a ≡ b
 one acts IsSuch None None same h k = refl
 one acts IsSuch None (Some d) same h k = absurd (h d k.0)
 one acts IsSuch (Some c) None same h k = absurd (k c h.0)

@@ -140,8 +140,7 @@ find_entered entry c (x ∷ xs) free = elim (cases_Bool (eqb x.conn c)) [
   | inr k ↦ rw k (find_entered entry c xs free.1)
 ]
 
-all_entered : (entry : Entry) (c : ℕ) (acts : List WaitAct) (xs : List Entry)
-    → waits c acts ≡ option_map (λ x. x.wait) (entry_of c xs)
+all_entered : (entry : Entry) (c : ℕ) (acts : List WaitAct) (xs : List Entry) → waits c acts ≡ option_map (λ x. x.wait) (entry_of c xs)
     → waits c (acts_with entry acts) ≡ option_map (λ x. x.wait) (entry_of c (without entry.conn xs ++ entry ∷ []))
 all_entered entry c acts xs h =
     rw (find_entered entry c (without entry.conn xs) (free_without entry.conn xs), find_left entry.conn c xs)

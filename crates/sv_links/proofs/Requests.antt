@@ -37,8 +37,7 @@ text_parts xid peer handle =
     concat-append (header xid peer) (spelling (Opaque handle) ∷ [])
     ∙ ap (λ (t : List ℕ). concat (header xid peer) ++ t) (append-nil (spelling (Opaque handle)))
 
-pub text_is_short : (xid : ℕ) (peer : Peer) (handle : List ℕ) → length handle ≤ max_handle
-    → length (text xid peer handle) ≤ longest_text
+pub text_is_short : (xid : ℕ) (peer : Peer) (handle : List ℕ) → length handle ≤ max_handle → length (text xid peer handle) ≤ longest_text
 text_is_short xid peer handle h = omega (
   arith,
   ap length (text_parts xid peer handle),
@@ -56,10 +55,8 @@ request_is_some xid peer handle = omega arith
 
 -- If the longest call has room, the header and the handle are written completely.
 pub text_is_written : (xid : ℕ) (peer : Peer) (handle : List ℕ) (r s : Result Unit XdrFault) (old mid new : Writer) → text_of old ≡ []
-    → length handle ≤ max_handle → longest_text ≤ length (rest_of old)
-    → WritesEach (header xid peer) r old mid
-    → (length handle < 2 ^ 32 → Writes (spelling (Opaque handle)) s mid new)
-    → text_of new ≡ text xid peer handle
+    → length handle ≤ max_handle → longest_text ≤ length (rest_of old) → WritesEach (header xid peer) r old mid
+    → (length handle < 2 ^ 32 → Writes (spelling (Opaque handle)) s mid new) → text_of new ≡ text xid peer handle
 text_is_written xid peer handle r s old mid new empty short room first second =
     let body : concat (spelling (Opaque handle) ∷ []) ≡ spelling (Opaque handle) = append-nil (spelling (Opaque handle)) in
     let one = whole_is_written (header xid peer) r old mid first (omega (arith, header_is_40 xid peer)) in

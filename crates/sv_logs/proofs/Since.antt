@@ -20,8 +20,7 @@ since_empty {A} F K = (
 
 -- `F` holds after the newest act, or the search succeeded before that act.
 since_to_either : {A : Type 0} (F K : List A → Type 0) (a : A) (log : List A) (ago : ℕ) → ago ≤ length (a ∷ log) → F (drop ago (a ∷ log))
-    → ((n : ℕ) → n ≤ ago → K (drop n (a ∷ log)))
-    → F (a ∷ log) ⊎ Since F K log
+    → ((n : ℕ) → n ≤ ago → K (drop n (a ∷ log))) → F (a ∷ log) ⊎ Since F K log
 since_to_either F K a log zero within found kept = inl found
 since_to_either F K a log (suc ago) within found kept =
     inr (record { ago = ago; within = omega arith; found = found; kept = λ n le. kept (suc n) (omega arith) })
@@ -85,8 +84,7 @@ since_not_kept F K a log ends s = ends ((since_step F K a log).0 s).0
 
 -- Any property with this recursion is equivalent to the search.
 pub since_unique : {A : Type 0} (F K P : List A → Type 0) → P [] ↔ (F [] × K [])
-    → ((a : A) (log : List A) → P (a ∷ log) ↔ (K (a ∷ log) × (F (a ∷ log) ⊎ P log))) → (log : List A)
-    → P log ↔ Since F K log
+    → ((a : A) (log : List A) → P (a ∷ log) ↔ (K (a ∷ log) × (F (a ∷ log) ⊎ P log))) → (log : List A) → P log ↔ Since F K log
 since_unique F K P empty step [] =
     ((λ (p : P []). (since_empty F K).1 (empty.0 p)), (λ (s : Since F K []). empty.1 ((since_empty F K).0 s)))
 since_unique F K P empty step (a ∷ log) =

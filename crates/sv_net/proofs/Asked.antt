@@ -40,11 +40,9 @@ explain_replay : codes "explain" ≡ codes "replay" → ⊥
 explain_replay is = cc
 
 -- Words that ask for nothing by `replay`, `explain` or `serve` ask for nothing at all.
-pub words_ask_nothing : (texts : List Text)
-    → ((ports : Ports) → slice_get texts 0 ≡ Some (codes "replay") → AsksToReplay texts ports → ⊥)
+pub words_ask_nothing : (texts : List Text) → ((ports : Ports) → slice_get texts 0 ≡ Some (codes "replay") → AsksToReplay texts ports → ⊥)
     → ((ports : Ports) → slice_get texts 0 ≡ Some (codes "explain") → AsksToReplay texts ports → ⊥)
-    → ((serve : Serve) → slice_get texts 0 ≡ Some (codes "serve") → AsksToServe texts serve → ⊥)
-    → (asked : Words) → AsksFor texts asked → ⊥
+    → ((serve : Serve) → slice_get texts 0 ≡ Some (codes "serve") → AsksToServe texts serve → ⊥) → (asked : Words) → AsksFor texts asked → ⊥
 words_ask_nothing [] replay explain serve asked asks = asks
 words_ask_nothing (t ∷ ts) replay explain serve (Replay ports) asks = replay ports (ap Some asks.0) asks.1
 words_ask_nothing (t ∷ ts) replay explain serve (Explain ports) asks = explain ports (ap Some asks.0) asks.1

@@ -27,15 +27,13 @@ appends_then (Some xs) (Some ys) None a b x y = elim y [ ]
 
 -- If the first write fails, the writer accepted a prefix of both texts.
 pub first_text_fails : {E F : Type 0} (old new : Option (List ℕ)) (a b : List ℕ) (e : E) (r : Result ⊤ F) → IsErr r
-    → IsTakenByWriter old new (Err e) a
-    → IsTakenByWriter old new r (a ++ b)
+    → IsTakenByWriter old new (Err e) a → IsTakenByWriter old new r (a ++ b)
 first_text_fails old new a b e (Ok all) h x = absurd cc
 first_text_fails old new a b e (Err f) h x = (x.0, (x.1.0 ++ b, ap (λ (l : List ℕ). l ++ b) x.1.1 ∙ append_assoc x.0 x.1.0 b), x.2)
 
 -- After the first text was accepted, the second decides.
 pub second_text_decides : {E : Type 0} (old mid new : Option (List ℕ)) (a b : List ℕ) (r : Result ⊤ E) → Appends old mid a
-    → IsTakenByWriter mid new r b
-    → IsTakenByWriter old new r (a ++ b)
+    → IsTakenByWriter mid new r b → IsTakenByWriter old new r (a ++ b)
 second_text_decides old mid new a b (Ok all) x y = appends_then old mid new a b x y
 second_text_decides old mid new a b (Err e) x y = (
   a ++ y.0,

@@ -22,8 +22,7 @@ use Rattle.sv_replay.proofs.Staged.{output_fault_replaces}
 
 -- In either mode, a fault that stops the lines is a fault of the run.
 fault_in_both_modes : (config : Config) (mode : Mode) (read text : List ℕ) (rest : Option (List ℕ)) (fault : RunFault)
-    → Runs config mode read rest (Err fault) text
-    → RunsIn config mode read rest (Err fault) text
+    → Runs config mode read rest (Err fault) text → RunsIn config mode read rest (Err fault) text
 fault_in_both_modes config Plain read text rest fault runs = runs
 fault_in_both_modes config Explained read text rest (BadLine n) runs = runs
 fault_in_both_modes config Explained read text rest Input runs = runs
@@ -59,8 +58,7 @@ fault_ends_run config mode own server reader after first last fault (Err e) same
 
 -- A plain replay prints nothing after its last line.
 pub plain_run_ends : (config : Config) (server : State) (reader after first last : Option (List ℕ))
-    → StepsRun config Plain server reader after first last (Ok tt)
-    → ScriptRuns config Plain reader after first last (Ok tt)
+    → StepsRun config Plain server reader after first last (Ok tt) → ScriptRuns config Plain reader after first last (Ok tt)
 plain_run_ends config server reader after first last (read, text, took, put, (events, history, script, prints, stands)) =
     (read, text, took, put, (events, history, script, prints))
 
@@ -91,8 +89,7 @@ explained_run_ends config server reader after first mid last (Err e) end (read, 
 
 -- If the output fails after the last step, the text is that of a run that stops with `Output`.
 runs_with_output_fault : (config : Config) (mode : Mode) (read text : List ℕ) (tail : Option (List ℕ)) (answer : Result ⊤ RunFault)
-    → OnOk answer (IsAtEnd tail)
-    → RunsIn config mode read tail answer text → RunsIn config mode read tail (Err Output) text
+    → OnOk answer (IsAtEnd tail) → RunsIn config mode read tail answer text → RunsIn config mode read tail (Err Output) text
 runs_with_output_fault config Plain read text tail answer end runs = output_fault_replaces config Plain read text tail answer end runs
 runs_with_output_fault config Explained read text tail (Ok all) end (front, last, printed, is) =
     inr (front, last, last, printed, ([], sym (append-nil last)), end, is)

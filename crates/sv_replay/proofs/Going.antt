@@ -41,8 +41,7 @@ goes_with_fault config mode server left number rest fault (Err e) read text fail
 
 -- A step leads from `IsStage` to what `Goes` states of its result.
 abbrev pub StepLeads : Config → Mode → State → State → List ℕ → List ℕ → ℕ → ℕ → Option (List ℕ) → Option (List ℕ) → Option (List ℕ)
-    → Option (List ℕ)
-    → Result Bool RunFault → Type 0
+    → Option (List ℕ) → Result Bool RunFault → Type 0
 StepLeads config mode old new left rest number next reader after first last result =
     Further reader after first last (IsStage config mode old left number) (Goes config mode new rest next after result)
 
@@ -80,9 +79,7 @@ go_line_stop config mode old new left line rest len number next last_number read
     )
 
 pub go_long : (config : Config) (mode : Mode) (old : State) (left : List ℕ) (number next : ℕ) (reader first : Option (List ℕ))
-    → first_end left ≡ None
-    → 65536 < length left
-    → next ≡ number + 1
+    → first_end left ≡ None → 65536 < length left → next ≡ number + 1
     → StepLeads config mode old old left left number number reader reader first first (Err (BadLine next))
 go_long config mode old left number next reader first none long up read text stage = (
   [],
@@ -127,8 +124,7 @@ go_input config mode old left rest more number reader after first last result no
 
 pub go_read : (config : Config) (mode : Mode) (old : State) (left rest more : List ℕ) (number : ℕ)
     (reader after first last : Option (List ℕ))
-    → Keeps first last
-    → Consumes reader after more → rest ≡ left ++ more
+    → Keeps first last → Consumes reader after more → rest ≡ left ++ more
     → StepLeads config mode old old left rest number number reader after first last (Ok true)
 go_read config mode old left rest more number reader after first last kept took is read text stage = (
   more,
@@ -149,8 +145,7 @@ last_line left more rest line none is given cut =
 pub go_last_stop : (config : Config) (mode : Mode) (old new : State) (left rest line more : List ℕ) (number next last_number : ℕ)
     (reader after first mid last : Option (List ℕ)) (fault : RunFault) (result : Result Bool RunFault) → first_end left ≡ None
     → rest ≡ left ++ more → more ≡ [] → line ≡ take (length rest) rest → next ≡ number + 1 → Consumes reader after more → IsAtEnd after
-    → Keeps first mid → IsErr result → IsErrAnd result (λ e. e ≡ fault)
-    → DoesLine config mode old new line next (Err fault) mid last
+    → Keeps first mid → IsErr result → IsErrAnd result (λ e. e ≡ fault) → DoesLine config mode old new line next (Err fault) mid last
     → StepLeads config mode old new left rest number last_number reader after first last result
 go_last_stop config mode old new left rest line more number next last_number reader after first mid last fault result none is given cut up
     took
@@ -197,8 +192,7 @@ abbrev pub SoFar : Option (List ℕ) → Option (List ℕ) → Option (List ℕ)
 SoFar reader after first last fact = (read text : List ℕ) × Consumes reader after read × Appends first last text × fact read text
 
 pub so_far_start : (config : Config) (mode : Mode) (server : State) (left : List ℕ) (number : ℕ) (reader first : Option (List ℕ))
-    → StandsFor server config [] → left ≡ []
-    → number ≡ 0
+    → StandsFor server config [] → left ≡ [] → number ≡ 0
     → SoFar reader reader first first (λ read text. IsStage config mode server left number read text)
 so_far_start config mode server left number reader first s none zero_lines = (
   [],

@@ -239,7 +239,6 @@ found_meaning_is_said line (Some l) e = line_takes line (plain_line l) (sym e)
 
 -- The code finds each meaning of the line.
 pub said_meaning_is_found : (line : List ℕ) (read : Option Command) (what : Line) → option_map plain_line read ≡ line_at line
-    → Says line what
-    → IsSomeAnd read (λ l. plain_line l ≡ what)
+    → Says line what → IsSomeAnd read (λ l. plain_line l ≡ what)
 said_meaning_is_found line None what e says = absurd (none-some what (e ∙ line_reads line what says))
 said_meaning_is_found line (Some l) what e says = same_Some (plain_line l) what (e ∙ line_reads line what says)

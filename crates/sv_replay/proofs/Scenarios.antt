@@ -26,8 +26,7 @@ tells_with_empty_line least (first ∷ front) entries line none (inr (entry, oth
 
 -- A line after the others adds the entry that it describes.
 tells_with_entry : (least : ℕ) (front : List (List ℕ)) (entries : List Entry) (line : List ℕ) (entry : Entry) → Tells least front entries
-    → SaysFrom (last_tick least entries) line entry
-    → Tells least (front ++ line ∷ []) (entries ++ entry ∷ [])
+    → SaysFrom (last_tick least entries) line entry → Tells least (front ++ line ∷ []) (entries ++ entry ∷ [])
 tells_with_entry least [] entries line entry is says = inr (
   entry,
   [],
@@ -75,8 +74,7 @@ lines_with_next text left line front behind is cut =
 
 -- After a line that was read, the entries are those that the lines so far describe.
 tells_added : (front : List (List ℕ)) (line : List ℕ) (number least tick : ℕ) (old new : List Entry) → Tells 0 front old
-    → least ≡ last_tick 0 old → Adds least line number old new (Ok tick)
-    → Tells 0 (front ++ line ∷ []) new × (tick ≡ last_tick 0 new)
+    → least ≡ last_tick 0 old → Adds least line number old new (Ok tick) → Tells 0 (front ++ line ∷ []) new × (tick ≡ last_tick 0 new)
 tells_added front line number least tick old new tells least_is (inl (none, same, tick_is)) =
     rw same (tells_with_empty_line 0 front old line none tells, tick_is ∙ least_is)
 tells_added front line number least tick old new tells least_is (inr (entry, says, new_is, tick_is)) =

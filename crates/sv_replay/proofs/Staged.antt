@@ -153,16 +153,14 @@ stage_stop config mode old new left line behind number next Memory read text tai
     (other, put, inr stops)
 
 pub stage_read : (config : Config) (mode : Mode) (server : State) (left : List ℕ) (number : ℕ) (read text more : List ℕ)
-    → IsStage config mode server left number read text
-    → IsStage config mode server (left ++ more) number (read ++ more) text
+    → IsStage config mode server left number read text → IsStage config mode server (left ++ more) number (read ++ more) text
 stage_read config mode server left number read text more (lines, events, history, is, count, script, prints, stands) =
     (lines, events, history, parts_of_more_text read left more lines is, count, script, prints, stands)
 
 -- If more than 65,536 bytes hold no new line, the line that they begin is bad.
 pub stage_long : (config : Config) (mode : Mode) (server : State) (left : List ℕ) (number next : ℕ) (read text : List ℕ)
     (tail : Option (List ℕ))
-    → first_end left ≡ None
-    → 65536 < length left → next ≡ number + 1 → IsStage config mode server left number read text
+    → first_end left ≡ None → 65536 < length left → next ≡ number + 1 → IsStage config mode server left number read text
     → Runs config mode read tail (Err (BadLine next)) text
 stage_long config mode server left number next read text tail none long up (lines, events, history, is, count, script, prints, stands) = (
   lines,
@@ -184,8 +182,7 @@ stage_output config mode server left number read text tail (lines, events, histo
 
 -- The output may also fail after a result that would otherwise be returned.
 pub output_fault_replaces : (config : Config) (mode : Mode) (read text : List ℕ) (tail : Option (List ℕ)) (answer : Result ⊤ RunFault)
-    → OnOk answer (IsAtEnd tail)
-    → Runs config mode read tail answer text → Runs config mode read tail (Err Output) text
+    → OnOk answer (IsAtEnd tail) → Runs config mode read tail answer text → Runs config mode read tail (Err Output) text
 output_fault_replaces config mode read text tail (Ok all) end printed =
     (parts read, [], sym (append-nil (parts read)), inr end, inl printed)
 output_fault_replaces config mode read text tail (Err (BadLine n)) end (lines, behind, line, is, count, bad, whole, printed) =
@@ -201,8 +198,7 @@ output_fault_replaces config mode read text tail (Err Memory) end (inr (lines, b
 -- If the reader fails while no complete line is left, all complete lines are executed.
 pub stage_input : (config : Config) (mode : Mode) (server : State) (left : List ℕ) (number : ℕ) (read text : List ℕ)
     (tail : Option (List ℕ))
-    → first_end left ≡ None
-    → IsStage config mode server left number read text → Runs config mode read tail (Err Input) text
+    → first_end left ≡ None → IsStage config mode server left number read text → Runs config mode read tail (Err Input) text
 stage_input config mode server left number read text tail none (lines, events, history, is, count, script, prints, stands) =
     (lines, left, is ∙ ap (λ (ps : List (List ℕ)). lines ++ ps) (parts_of_no_newline left none), (events, history, script, prints))
 
@@ -212,8 +208,7 @@ pub replay_fault_stops_line : (config : Config) (mode : Mode) (line : List ℕ) 
     (result : Result ⊤ RunFault)
     (text : List ℕ) (after : List PlainEvent) → length line ≤ 65536
     → Says line said → IsErr result → IsErrAnd result (λ e. e ≡ run_fault fault)
-    → Stops mode config history (events_of number said) fault text after
-    → LineRuns config mode line number history result text after
+    → Stops mode config history (events_of number said) fault text after → LineRuns config mode line number history result text after
 replay_fault_stops_line config mode line number history said fault (Ok all) text after short says failed is stops = absurd cc
 replay_fault_stops_line config mode line number history said NoMemory (Err e) text after short says failed is stops =
     rw is (said, short, says, stops)

@@ -72,8 +72,7 @@ drop_two_as_slice rest = take_all (length rest - 2) (drop 2 rest) (omega (arith,
 
 -- A byte after which the text ends is the last one.
 pub hex_last : (rest : List ℕ) (byte : ℕ) → 2 ≤ length rest → true ≡ eqb (length (take (length rest - 2) (drop 2 rest))) 0
-    → Some byte ≡ pair_at (get_or rest 0 0) (get_or rest 1 0)
-    → hex_at rest ≡ Some (byte ∷ [])
+    → Some byte ≡ pair_at (get_or rest 0 0) (get_or rest 1 0) → hex_at rest ≡ Some (byte ∷ [])
 unfolding hex_at
 hex_last [] byte long none pair = absurd (omega arith)
 hex_last (high ∷ []) byte long none pair = absurd (omega arith)

@@ -142,8 +142,7 @@ pub record IsReady (buffer : List ℕ) (start clean end reads : ℕ) (text : Lis
 pub moved_ready : (buffer moved : List ℕ) (start clean end reads count : ℕ) (text : List ℕ) → IsKept buffer start clean end reads
     → slice_range buffer start end ≡ text → length text ≤ 65536
     → length moved ≡ length buffer → count ≤ start → slice_range moved (start - count) (end - count) ≡ slice_range buffer start end
-    → (end - start ≤ 65536 → end - count ≤ 65536)
-    → IsReady moved (start - count) (clean - count) (end - count) reads text
+    → (end - start ≤ 65536 → end - count ≤ 65536) → IsReady moved (start - count) (clean - count) (end - count) reads text
 moved_ready buffer moved start clean end reads count text kept is short size within same room =
     let few = slice_length buffer start end (omega (arith, kept.order, kept.size)) in
     record {
@@ -196,8 +195,7 @@ pub read_keeps : (buffer first moved second filled : List ℕ) (len start clean 
     → first ≡ buffer → length moved ≡ length first → shift ≤ start
     → slice_range moved (start - shift) (end - shift) ≡ slice_range first start end → (end - start ≤ 65536 → end - shift ≤ 65536)
     → second ≡ written len moved buffer → length filled ≡ length second → take (end - shift) filled ≡ take (end - shift) second
-    → count ≤ length (drop (end - shift) filled)
-    → last ≡ end - shift + count → more ≤ 4294967294
+    → count ≤ length (drop (end - shift) filled) → last ≡ end - shift + count → more ≤ 4294967294
     → IsKept (written len filled (written len moved buffer)) (start - shift) (clean - shift) last more
     × (slice_range (written len filled (written len moved buffer)) (start - shift) last ≡ text ++ take count (drop (end - shift) filled))
 read_keeps buffer first moved second filled len start clean end reads shift count last more text kept is short long first_is moved_long

@@ -79,8 +79,7 @@ step_succeeds (Err fault) f r good e = absurd (good (sym e))
 
 -- Both cases of a comparison of numbers, for a result that depends on it.
 cases_by_number : {P : Type 0} (m n : ℕ) (x y r : Result PlainCall CallFault) → cond (eqb m n) x y ≡ r → (m ≡ n → x ≡ r → P)
-    → (m ≢ n → y ≡ r → P)
-    → P
+    → (m ≢ n → y ≡ r → P) → P
 cases_by_number m n x y r e same other =
     elim (cases_Bool (eqb m n)) [
       | inl t ↦ same (eqb-true m n t) (sym (cond-true (eqb m n) x y t) ∙ e)
@@ -98,10 +97,8 @@ unsigned_step bytes f r fits good e then =
 
 -- The same for opaque data.
 opaque_step : {P : Type 0} (bytes : List ℕ) (f : List ℕ × List ℕ → Result PlainCall CallFault) (r : Result PlainCall CallFault)
-    → IsBytes bytes
-    → NotBadHeader r → (opaque_at max_auth bytes >>= f) ≡ r
-    → ((text after : List ℕ) → Begins bytes (Opaque text) after → length text ≤ max_auth → IsBytes after
-    → f (text, after) ≡ r → P) → P
+    → IsBytes bytes → NotBadHeader r → (opaque_at max_auth bytes >>= f) ≡ r
+    → ((text after : List ℕ) → Begins bytes (Opaque text) after → length text ≤ max_auth → IsBytes after → f (text, after) ≡ r → P) → P
 opaque_step bytes f r fits good e then =
     let s = step_succeeds (opaque_at max_auth bytes) f r good e in
     let b = opaque_at_takes max_auth bytes s.0.0 s.0.1 fits s.1 in
@@ -109,8 +106,7 @@ opaque_step bytes f r fits good e then =
 
 -- A call that is read from the bytes after the RPC version is encoded there.
 body_takes : (xid : ℕ) (bytes : List ℕ) (r : Result PlainCall CallFault) → IsBytes bytes → NotBadHeader r → body_at xid bytes ≡ r
-    → (call : PlainCall) × (xid ≡ call.xid) × (Ok call ≡ r) × (c v : Auth) × (length c.body ≤ max_auth)
-    × (length v.body ≤ max_auth)
+    → (call : PlainCall) × (xid ≡ call.xid) × (Ok call ≡ r) × (c v : Auth) × (length c.body ≤ max_auth) × (length v.body ≤ max_auth)
     × BeginsAll bytes (drop 3 (heading call c v)) call.args
 unfolding body_at
 body_takes xid bytes r fits good e =

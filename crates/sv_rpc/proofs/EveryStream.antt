@@ -140,8 +140,7 @@ data_splits n front last size rest again short fits kept small = elim (cases_lt 
         (subst (λ (p : List ℕ). SplitsAfter (front ++ take size rest ∷ []) (drop size rest) (read n p (drop size rest))) joined next))
 
 -- After fragments that don't complete their record, the bytes split as they are read.
-pub read_splits : (n : ℕ) (front : List (List ℕ)) (bytes : List ℕ) → length bytes < n → IsBytes bytes
-    → length (concat front) ≤ max_record
+pub read_splits : (n : ℕ) (front : List (List ℕ)) (bytes : List ℕ) → length bytes < n → IsBytes bytes → length (concat front) ≤ max_record
     → SplitsAfter front bytes (read n (concat front) bytes)
 unfolding read
 read_splits zero front bytes less fits kept = absurd (omega arith)

@@ -17,8 +17,7 @@ held records tail = record { records = records; tail = tail }
 
 -- The records stay, and the stream ends in another tail.
 tail_extends : (records : List (List ℕ)) (s t : Tail) (stream piece : List ℕ) (dropped : ℕ) (st : StandsFor (held records s) stream dropped)
-    → Splits (stream ++ piece) st.all t
-    → StandsFor (held records t) (stream ++ piece) dropped
+    → Splits (stream ++ piece) st.all t → StandsFor (held records t) (stream ++ piece) dropped
 tail_extends records s t stream piece dropped st splits = record { all = st.all; splits = splits; bounded = st.bounded; kept = st.kept }
 
 -- The stream has one more complete record.
@@ -34,8 +33,7 @@ record_extends records r s t stream piece dropped st splits = record {
 
 -- A byte that completes a header extends the stream.
 header_goes : (records : List (List ℕ)) (payload header : List ℕ) (byte size : ℕ) (last : Bool) → header ++ byte ∷ [] ≡ header_of last size
-    → size < 2 ^ 31
-    → GoesOn (held records (Header payload header)) (after_header records (Header payload header) size last) (byte ∷ [])
+    → size < 2 ^ 31 → GoesOn (held records (Header payload header)) (after_header records (Header payload header) size last) (byte ∷ [])
 header_goes records payload header byte size last whole small stream dropped st =
     elim (cases_lt max_record (length payload + size)) [
       | inl long ↦ rw (lt-ltb max_record (length payload + size) long)
@@ -104,16 +102,14 @@ goes_on_reflexive held stream dropped st = rw (append-nil stream) st
 
 -- Once nothing of the piece is left, the whole piece has extended the stream.
 pub goes_on_whole_piece : (old new : Records) (piece rest : List ℕ) → length rest ≡ 0
-    → (taken : List ℕ) × (piece ≡ taken ++ rest) × GoesOn old new taken
-    → GoesOn old new piece
+    → (taken : List ℕ) × (piece ≡ taken ++ rest) × GoesOn old new taken → GoesOn old new piece
 goes_on_whole_piece old new piece [] e stands =
     subst (λ (l : List ℕ). GoesOn old new l) (sym (stands.1 ∙ append-nil stands.0)) stands.2
 goes_on_whole_piece old new piece (b ∷ rest) e stands = absurd (omega arith)
 
 -- The same as `byte_goes`, for the fields of a buffer.
 pub header_goes_on : (bytes lengths header : List ℕ) (spot : Place) (old new : Records) (byte : ℕ) → held_of bytes lengths header spot ≡ old
-    → IsInHeader old.tail
-    → new ≡ after_byte old.records old.tail byte
+    → IsInHeader old.tail → new ≡ after_byte old.records old.tail byte
     → (3 ≤ length header → let word = from_be_bytes w32 (header ++ byte ∷ []) in
     header ++ byte ∷ [] ≡ header_of (leb (2 ^ 31) word) (word % 2 ^ 31))
     → GoesOn old new (byte ∷ [])

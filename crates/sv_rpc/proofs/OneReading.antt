@@ -50,8 +50,7 @@ long_reads last size payload rest small long = header_reads last size payload re
     (λ n more. rw (lt-ltb max_record (length payload + size) long) refl)
 
 -- A header with too few bytes after it is a fragment with missing data.
-part_reads : (last : Bool) (missing : ℕ) (payload text : List ℕ) → 0 < missing
-    → length payload + (length text + missing) ≤ max_record
+part_reads : (last : Bool) (missing : ℕ) (payload text : List ℕ) → 0 < missing → length payload + (length text + missing) ≤ max_record
     → IsReadAs payload (header_of last (length text + missing) ++ text) ([], Data (payload ++ text) missing last)
 part_reads last missing payload text some fits =
     let left : length text + missing - length text ≡ missing = omega arith in
@@ -83,8 +82,7 @@ reads_of_equal_bytes payload a b reading same reads = subst (λ bytes. IsReadAs 
 
 -- Fragments before the last one add their data to the record.
 first_fragments_read : (front : List (List ℕ)) (payload rest : List ℕ) (reading : Reading)
-    → length payload + length (concat front) ≤ max_record
-    → IsReadAs (payload ++ concat front) rest reading
+    → length payload + length (concat front) ≤ max_record → IsReadAs (payload ++ concat front) rest reading
     → IsReadAs payload (flat_map (fragment false) front ++ rest) reading
 first_fragments_read [] payload rest reading fits next = rw append-nil at next
 first_fragments_read (text ∷ front) payload rest reading fits next =

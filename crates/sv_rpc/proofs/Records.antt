@@ -25,8 +25,7 @@ room_is_of_stream held stream dropped room e s = (
 
 -- Dropping the first record leaves a buffer for the same stream, with one more record dropped.
 pub stands_after_drop : (old new : Records) (stream : List ℕ) (dropped : ℕ) → new ≡ record { records = drop 1 old.records; tail = old.tail }
-    → old.records ≢ [] → StandsFor old stream dropped
-    → StandsFor new stream (dropped + 1)
+    → old.records ≢ [] → StandsFor old stream dropped → StandsFor new stream (dropped + 1)
 stands_after_drop old new stream dropped e some s =
     let kept : drop 1 old.records ≡ drop (dropped + 1) s.all = ap (drop 1) s.kept ∙ drop-drop 1 dropped s.all in
     let few : dropped + 1 ≤ length s.all = elim (cases_lt dropped (length s.all)) [
@@ -68,8 +67,7 @@ valid_without_first bytes bytes' (n ∷ lengths) lengths' header space space' sl
 
 -- Dropping the first length, and as many bytes, drops the first record.
 pub held_without_first : (bytes bytes' lengths lengths' header : List ℕ) (payload size : ℕ) (spot : Place) (old : Records)
-    → held_of bytes lengths header spot ≡ old → sum lengths + payload ≡ length bytes → 0 < length lengths
-    → size ≡ get_or lengths 0 size
+    → held_of bytes lengths header spot ≡ old → sum lengths + payload ≡ length bytes → 0 < length lengths → size ≡ get_or lengths 0 size
     → lengths' ≡ drop 1 lengths → bytes' ≡ drop size bytes
     → held_of bytes' lengths' header spot ≡ record { records = drop 1 old.records; tail = old.tail }
 held_without_first bytes bytes' [] lengths' header payload size spot old is whole some first e f = absurd (omega arith)
@@ -108,10 +106,8 @@ finish_room bytes lengths header space slots payload header_len place.TooLong k 
 -- Storing the record's length completes the record and keeps the fields valid.
 pub finish_keeps : (bytes lengths lengths' header : List ℕ) (space slots slots' payload header_len : ℕ) (spot : Place)
     → IsValid bytes lengths header space slots payload header_len spot
-    → IsBeforeHeader (tail_of spot (drop (sum lengths) bytes) (take header_len header))
-    → 4 * length lengths + length bytes + 4 ≤ capacity
-    → lengths' ≡ lengths ++ payload ∷ [] → slots' ≡ slots
-    → IsValid bytes lengths' header space slots' 0 header_len spot
+    → IsBeforeHeader (tail_of spot (drop (sum lengths) bytes) (take header_len header)) → 4 * length lengths + length bytes + 4 ≤ capacity
+    → lengths' ≡ lengths ++ payload ∷ [] → slots' ≡ slots → IsValid bytes lengths' header space slots' 0 header_len spot
 finish_keeps bytes lengths lengths' header space slots slots' payload header_len place.Header k h room e f = record {
   whole = omega (arith, ap sum e, sum_push lengths payload, k.whole);
   four = k.four;
@@ -142,8 +138,7 @@ finish_holds bytes lengths lengths' header space slots payload header_len place.
 
 -- If the tail lacks data, the buffer is within a fragment's data.
 pub place_is_in_data : (spot : Place) (payload header : List ℕ) (missing : ℕ) (last : Bool)
-    → IsInData (tail_of spot payload header) missing last
-    → spot ≡ place.Data missing last
+    → IsInData (tail_of spot payload header) missing last → spot ≡ place.Data missing last
 place_is_in_data place.Header payload header missing last h = absurd h
 place_is_in_data (place.Data m l) payload header missing last h = let m_is = h.0 in let l_is = h.1 in cc
 place_is_in_data place.TooLong payload header missing last h = absurd h
@@ -177,8 +172,7 @@ header_keeps bytes lengths header space slots payload header_len byte place.TooL
 -- A piece of data keeps the fields valid.
 pub data_keeps : (bytes bytes' lengths header piece : List ℕ) (space space' slots payload header_len : ℕ) (spot spot' : Place)
     → IsValid bytes lengths header space slots payload header_len spot → bytes' ≡ bytes ++ piece → space ≤ space'
-    → 4 * length lengths + length bytes + 4 + length piece ≤ capacity
-    → IsPlace spot' (payload + length piece) header_len
+    → 4 * length lengths + length bytes + 4 + length piece ≤ capacity → IsPlace spot' (payload + length piece) header_len
     → IsValid bytes' lengths header space' slots (payload + length piece) header_len spot'
 data_keeps bytes bytes' lengths header piece space space' slots payload header_len spot spot' k e f room at =
     let size : length bytes' ≡ length bytes + length piece = ap length e ∙ length-append bytes piece in
@@ -193,8 +187,7 @@ data_keeps bytes bytes' lengths header piece space space' slots payload header_l
 
 -- A piece of data is appended to the unfinished record.
 pub data_holds : (bytes bytes' lengths header piece : List ℕ) (n : ℕ) (spot' : Place) → sum lengths + n ≡ length bytes
-    → bytes' ≡ bytes ++ piece
-    → held_of bytes' lengths header spot' ≡ record {
+    → bytes' ≡ bytes ++ piece → held_of bytes' lengths header spot' ≡ record {
       records = cut lengths bytes;
       tail =
           tail_of spot' (drop (sum lengths) bytes ++ piece) header;
@@ -226,8 +219,7 @@ data_grown bytes bytes' lengths header piece n missing last spot old is at whole
 pub data_ended : (bytes bytes' lengths header piece : List ℕ) (n missing : ℕ) (last : Bool) (spot : Place) (old : Records)
     → held_of bytes lengths header spot ≡ old
     → spot ≡ place.Data missing last → sum lengths + n ≡ length bytes → bytes' ≡ bytes ++ piece → missing ≤ length piece → header ≡ []
-    → last ≡ false
-    → held_of bytes' lengths header place.Header ≡ after_data old.records old.tail piece
+    → last ≡ false → held_of bytes' lengths header place.Header ≡ after_data old.records old.tail piece
 data_ended bytes bytes' lengths header piece n missing last spot old is at whole e all none other =
     let old_is : held_of bytes lengths header (place.Data missing last) ≡ old = ap (held_of bytes lengths header) (sym at) ∙ is in
     data_holds bytes bytes' lengths header piece n place.Header whole e
@@ -251,8 +243,7 @@ data_finished bytes bytes' lengths header piece n missing last spot old new is a
 
 -- Where a fragment ends, there is room for the length of its record.
 pub ended_room : (bytes bytes' lengths header piece : List ℕ) (n : ℕ) → sum lengths + n ≡ length bytes → bytes' ≡ bytes ++ piece
-    → header ≡ []
-    → 4 * length lengths + length bytes + 4 + length piece ≤ capacity
+    → header ≡ [] → 4 * length lengths + length bytes + 4 + length piece ≤ capacity
     → used_by (cut lengths bytes') (Header (drop (sum lengths) bytes') header) ≤ capacity
 ended_room bytes bytes' lengths header piece n whole e none room =
     let size : length bytes' ≡ length bytes + length piece = ap length e ∙ length-append bytes piece in

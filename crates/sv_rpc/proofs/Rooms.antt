@@ -64,8 +64,7 @@ room_fits held n le some = at held.tail le
 
 -- A header that is complete frees the room that its four bytes took.
 pub header_fits : (bytes lengths header : List ℕ) (spot : Place) (old : Records) → held_of bytes lengths header spot ≡ old
-    → IsInHeader old.tail → length header ≡ 3 → InRoom old 1
-    → InRoom (held_of bytes lengths [] spot) 4
+    → IsInHeader old.tail → length header ≡ 3 → InRoom old 1 → InRoom (held_of bytes lengths [] spot) 4
 header_fits bytes lengths header spot old is in_header three fits =
     subst (λ (h : Records). IsInHeader h.tail → InRoom h 1 → InRoom (held_of bytes lengths [] spot) 4) is (at spot) in_header fits
   where
@@ -86,8 +85,7 @@ fewer_fit held n m le fits = at held.tail fits
 
 -- After a piece of a fragment's data, the other bytes still fit.
 data_room : (records : List (List ℕ)) (payload piece : List ℕ) (missing : ℕ) (last : Bool) (n m : ℕ) → length piece + m ≡ n
-    → Fits records (Data payload missing last) n
-    → InRoom (after_data records (Data payload missing last) piece) m
+    → Fits records (Data payload missing last) n → InRoom (after_data records (Data payload missing last) piece) m
 data_room records payload piece missing last n m all fits =
     elim (cases_lt (length piece) missing) [
       | inl less ↦ rw (lt-ltb (length piece) missing less) (omega (arith, fits, length-append payload piece))
@@ -101,8 +99,7 @@ data_room records payload piece missing last n m all fits =
 
 -- The same for any tail that is within a fragment's data.
 pub piece_room : (held new : Records) (piece : List ℕ) (missing : ℕ) (last : Bool) (n m : ℕ) → IsInData held.tail missing last
-    → length piece + m ≡ n → new ≡ after_data held.records held.tail piece → InRoom held n
-    → InRoom new m
+    → length piece + m ≡ n → new ≡ after_data held.records held.tail piece → InRoom held n → InRoom new m
 piece_room held new piece missing last n m in_data all value fits = rw value (at held.tail in_data fits)
   where
     at : (tail : Tail) → IsInData tail missing last → Fits held.records tail n → InRoom (after_data held.records tail piece) m

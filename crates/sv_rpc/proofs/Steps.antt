@@ -16,8 +16,7 @@ all_push P (y ∷ xs) x all one = (all.0, all_push P xs x all.1 one)
 
 -- The stream has the same records and another tail.
 splits_with_tail : (stream piece : List ℕ) (all : List (List ℕ)) (s t : Tail) (splits : Splits stream all s)
-    → IsTail (splits.rest ++ piece) t
-    → Splits (stream ++ piece) all t
+    → IsTail (splits.rest ++ piece) t → Splits (stream ++ piece) all t
 splits_with_tail stream piece all s t splits behind = record {
   sent = splits.sent;
   rest = splits.rest ++ piece;
@@ -42,8 +41,7 @@ splits_with_record stream piece all text s splits sent is text_is taken = record
 
 -- The byte doesn't complete the header.
 pub header_grows : (stream : List ℕ) (all : List (List ℕ)) (payload header : List ℕ) (byte : ℕ) → Splits stream all (Header payload header)
-    → length header + 1 < 4
-    → Splits (stream ++ byte ∷ []) all (Header payload (header ++ byte ∷ []))
+    → length header + 1 < 4 → Splits (stream ++ byte ∷ []) all (Header payload (header ++ byte ∷ []))
 header_grows stream all payload header byte splits short =
     let b = splits.behind in
     splits_with_tail stream (byte ∷ []) all (Header payload header) _ splits (
@@ -56,8 +54,7 @@ header_grows stream all payload header byte splits short =
 
 -- The byte completes the header of a fragment that has data, which fit into the record.
 pub header_ends : (stream : List ℕ) (all : List (List ℕ)) (payload header : List ℕ) (byte size : ℕ) (last : Bool)
-    → Splits stream all (Header payload header)
-    → header ++ byte ∷ [] ≡ header_of last size → 0 < size → length payload + size ≤ max_record
+    → Splits stream all (Header payload header) → header ++ byte ∷ [] ≡ header_of last size → 0 < size → length payload + size ≤ max_record
     → Splits (stream ++ byte ∷ []) all (Data payload size last)
 header_ends stream all payload header byte size last splits is some fits =
     let b = splits.behind in
@@ -122,8 +119,7 @@ data_grows stream piece all payload missing last splits less =
 
 -- The piece completes a fragment that isn't the last one of its record.
 pub data_ends : (stream piece : List ℕ) (all : List (List ℕ)) (payload : List ℕ) (missing : ℕ)
-    → Splits stream all (Data payload missing false)
-    → length piece ≡ missing → Splits (stream ++ piece) all (Header (payload ++ piece) [])
+    → Splits stream all (Data payload missing false) → length piece ≡ missing → Splits (stream ++ piece) all (Header (payload ++ piece) [])
 data_ends stream piece all payload missing splits ends =
     let b = splits.behind in
     let size : length b.1 + missing ≡ length (b.1 ++ piece) = omega (arith, length-append b.1 piece) in
@@ -155,8 +151,6 @@ word_is_header word false is small = ap (to_be_bytes w32) (omega (arith, leb-fal
 -- Four bytes are the header that their word stands for: its top bit marks the last fragment, and
 -- the other bits are the length.
 pub header_of_word : (header : List ℕ) (word : ℕ) → length header ≡ 4 → ((i : ℕ) → get_or header i 0 < 256)
-    → word ≡ from_be_bytes w32 header
-    → word < 2 ^ 32
-    → header ≡ header_of (leb (2 ^ 31) word) (word % 2 ^ 31)
+    → word ≡ from_be_bytes w32 header → word < 2 ^ 32 → header ≡ header_of (leb (2 ^ 31) word) (word % 2 ^ 31)
 header_of_word header word four bytes is small = sym (be_bytes_4 header word four bytes is)
     ∙ word_is_header word (leb (2 ^ 31) word) refl small

@@ -98,8 +98,7 @@ bounded_more readings x all one =
     list_all-append is_bounded readings (x ∷ []) ∙ ap (λ (b : Bool). b && (is_bounded x && true)) all ∙ ap (λ (b : Bool). b && true) one
 
 pub is_valid_sample : (contents : Contents) (capacity : ℕ) (r : Run) (x : Reading) (touched : Touched) → contents.run ≡ Some r
-    → IsValid contents capacity
-    → is_scanning (run_state contents.run (length contents.readings)) ≡ true → is_bounded x ≡ true
+    → IsValid contents capacity → is_scanning (run_state contents.run (length contents.readings)) ≡ true → is_bounded x ≡ true
     → IsValid (record contents { readings = contents.readings ++ x ∷ []; touched = touched }) capacity
 is_valid_sample contents capacity r x touched e valid scanning one =
     let run : IsRun r (length contents.readings) = subst (λ (o : Option Run). IsRunOf o (length contents.readings)) e valid.run in

@@ -75,8 +75,7 @@ input_after inputs channel other microvolts before size legal known same =
     get_or-set_other inputs (channel - 1) (other - 1) microvolts (pos 0) apart ∙ same)
 
 pub holds_input : (contents : Contents) (log : List ScanAct) (channel : ℕ) (microvolts : ℤ) → length contents.inputs ≡ channel_count
-    → is_channel channel ≡ true → Holds contents log
-    → Holds (record contents {
+    → is_channel channel ≡ true → Holds contents log → Holds (record contents {
       inputs = slice_set contents.inputs (channel - 1) microvolts;
       touched = record { operation = false; questionable = false; limit = channel == contents.monitor };
     }) (Input channel microvolts ∷ log)
@@ -103,8 +102,7 @@ is_of_run = elim [ Input channel microvolts ↦ false | Configure setting ↦ fa
 
 pub holds_run : (contents : Contents) (log : List ScanAct) (act : ScanAct) (now : Option Run) (made : List Reading) (touched : Touched)
     → is_of_run act ≡ true → Holds contents log → now ≡ current_run (act ∷ log) → made ≡ readings (act ∷ log)
-    → IsTouched touched (act ∷ log)
-    → Holds (record contents { run = now; readings = made; touched = touched }) (act ∷ log)
+    → IsTouched touched (act ∷ log) → Holds (record contents { run = now; readings = made; touched = touched }) (act ∷ log)
 holds_run contents log Init now made touched e is at has said = assumption
 holds_run contents log (Trigger from) now made touched e is at has said = assumption
 holds_run contents log Abort now made touched e is at has said = assumption
@@ -129,8 +127,7 @@ sampled_is contents log r e known is =
     ∙ ap (λ (cs : List ℕ). reading_in (range log) (input (channel_at cs (samples log)) log)) (sym channels)
 
 pub holds_sample : (contents : Contents) (log : List ScanAct) (r : Run) → contents.run ≡ Some r
-    → is_channel (channel_at r.channels (length contents.readings)) ≡ true → Holds contents log
-    → Holds (record contents {
+    → is_channel (channel_at r.channels (length contents.readings)) ≡ true → Holds contents log → Holds (record contents {
       readings = contents.readings ++ sampled contents r ∷ [];
       touched = record { operation = true; questionable = true; limit = true };
     }) (Sample ∷ log)

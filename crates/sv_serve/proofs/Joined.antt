@@ -8,8 +8,7 @@ use Rattle.sv_serve.specs.DriverView.{DriverView, DriverState, ForEach, Steps, d
 
 pub for_each_one_more : {W : Type 0} (step : ℕ → Config → DriverView W → DriverView W → Type 0) (config : Config) (n m : ℕ)
     (a b c : DriverView W)
-    → m ≡ suc n
-    → ForEach n step config a b → step n config b c → ForEach m step config a c
+    → m ≡ suc n → ForEach n step config a b → step n config b c → ForEach m step config a c
 for_each_one_more step config n m a b c is front last =
     subst (λ (k : ℕ). ForEach k step config a c) (sym is) (b, front, last)
 

@@ -34,8 +34,7 @@ pub reads_up_to_answer : {W : Type 0} (hears : W → Heard → W → Type 0) (co
     (buffer : List ℕ)
     (before after : DriverView W) (wire : W) → 0 < room → size ≡ min room 16384 → IsWithin answer size
     → hears before.wire (WasRead conn size (bytes_of answer buffer)) wire
-    → Comes hears conn (bytes_of answer buffer) config (record before { wire = wire }) after
-    → ReadsUpTo hears room conn config before after
+    → Comes hears conn (bytes_of answer buffer) config (record before { wire = wire }) after → ReadsUpTo hears room conn config before after
 reads_up_to_answer hears config conn room size answer buffer before after wire some asked within heard comes = inr (
   some,
   bytes_of answer buffer,

@@ -194,14 +194,12 @@ still_suited event config before after same (log, channel_log, was, tells, suits
     (log, channel_log, subst (λ (h : List PlainEvent). IsLogOf config h log) (sym same) was, tells, suits)
 
 pub still_wants : {W : Type 0} (c : ℕ) (found dial : Option Dial) (config : Config) (before after : DriverView W)
-    → after.history ≡ before.history
-    → found ≡ dial → Wants c config before found → Wants c config after dial
+    → after.history ≡ before.history → found ≡ dial → Wants c config before found → Wants c config after dial
 still_wants c found dial config before after same is (log, was, wants) =
     (log, subst (λ (h : List PlainEvent). IsLogOf config h log) (sym same) was, sym is ∙ wants)
 
 pub still_open : {W : Type 0} (port : Port) (found answer : Bool) (config : Config) (before after : DriverView W)
-    → after.history ≡ before.history
-    → found ≡ answer → IsOpen port config before found → IsOpen port config after answer
+    → after.history ≡ before.history → found ≡ answer → IsOpen port config before found → IsOpen port config after answer
 still_open port found answer config before after same equal (log, was, is) =
     (log, subst (λ (h : List PlainEvent). IsLogOf config h log) (sym same) was, sym equal ∙ is)
 

@@ -29,11 +29,9 @@ for_each_unused_rest step config n (suc m) a b le each stays = elim (eq-or-lt_of
 
 -- The same for steps of a driver, whatever the history of its server.
 pub steps_unused_rest : {W J : Type 0} (notes : J → List PlainEvent → J → Type 0) (step : ℕ → Config → DriverView W → DriverView W
-    → Type 0) (n m : ℕ) (first last : DriverState W J) → n ≤ m
-    → Steps notes (ForEach n step) first last
+    → Type 0) (n m : ℕ) (first last : DriverState W J) → n ≤ m → Steps notes (ForEach n step) first last
     → ((start : J) (config : Config) (history : List PlainEvent) → Stands (notes start) last config history → (c : ℕ) → n ≤ c
-    → step c config (driver_view last history) (driver_view last history))
-    → Steps notes (ForEach m step) first last
+    → step c config (driver_view last history) (driver_view last history)) → Steps notes (ForEach m step) first last
 steps_unused_rest notes step n m first last le each stays = λ origin config history stands.
     let (h0, s0, p0) = each _ config history stands in
     (h0, s0, for_each_unused_rest step config n m (driver_view first history) (driver_view last h0) le p0 (stays _ config h0 s0))
@@ -50,8 +48,7 @@ pub reads_none : {W : Type 0} (hears : W → Heard → W → Type 0) (n : ℕ) (
 reads_none hears n config at (log, is_log, none) c le =
     (0, (log, is_log, ap room (sym (none c le))), inl (refl, (false, (log, is_log, never_open c log (none c le)), refl)))
 
-pub turns_none : {W : Type 0} (n : ℕ) (config : Config) (at : DriverView W) → NoneUsed n config at → (c : ℕ) → n ≤ c
-    → Turns c config at at
+pub turns_none : {W : Type 0} (n : ℕ) (config : Config) (at : DriverView W) → NoneUsed n config at → (c : ℕ) → n ≤ c → Turns c config at at
 turns_none n config at (log, is_log, none) c le =
     (false, (log, is_log, nothing_idle _ (none c le)), refl)
 

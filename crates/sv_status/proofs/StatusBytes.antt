@@ -44,8 +44,7 @@ HasEnabledBits word bits enable = (k : ℕ) → (bit_at word k ≡ 1) ↔ Servic
 
 -- The master summary is set exactly if this word isn't 0.
 pub master_is : (word : ℕ) (latches : Latches) (acts : List StatusAct) → StandsFor latches acts
-    → HasEnabledBits word latches.bits latches.enable
-    → (not (eqb word 0) ≡ true) ↔ Master acts
+    → HasEnabledBits word latches.bits latches.enable → (not (eqb word 0) ≡ true) ↔ Master acts
 master_is word latches acts is asks =
     let zero = not_zero word in
     let to : (k : ℕ) → ServiceRequested k latches.bits latches.enable → ServiceRequestedAt k acts = λ k h. rw (is.bits, is.enable) at h in
@@ -124,8 +123,7 @@ raised_is before now latches acts word mask is was asks =
 
 -- The summary bits and the enable are updated.
 pub stands_for_updated : (before now : ℕ) (latches : Latches) (acts : List StatusAct) (word mask : ℕ) → StandsFor latches acts
-    → HasEnabledBits before latches.bits latches.enable → HasEnabledBits now word mask
-    → StandsFor (record {
+    → HasEnabledBits before latches.bits latches.enable → HasEnabledBits now word mask → StandsFor (record {
       bits = word;
       enable = mask;
       request =
@@ -194,6 +192,5 @@ polled_bit latches acts k is = same_shown k latches.bits (bits acts) (latches.re
 
 -- The status byte that `*STB?` returns.
 pub master_bit : (latches : Latches) (acts : List StatusAct) (k : ℕ) (master : Bool) → StandsFor latches acts
-    → (master ≡ true) ↔ Master acts
-    → ShowsBit k latches.bits (master ≡ true) ↔ MasterBit k acts
+    → (master ≡ true) ↔ Master acts → ShowsBit k latches.bits (master ≡ true) ↔ MasterBit k acts
 master_bit latches acts k master is same = same_shown k latches.bits (bits acts) (master ≡ true) (Master acts) is.bits same

@@ -52,15 +52,13 @@ ends_channels first last h =
 
 -- Channels are a valid list if there are 1 to 128 of them.
 channels_are_list : (before list : List ℕ) → list_all is_channel before ≡ true → length before ≤ longest_list → 1 ≤ length before
-    → before ≡ list
-    → is_channel_list list ≡ true
+    → before ≡ list → is_channel_list list ≡ true
 channels_are_list before list all most some e = rw (← e) (rw (le-leb 1 (length before) some, le-leb (length before) longest_list most) all)
 
 -- If an item and the items after it are read without error, all of them are channels.
 item_channels : (o : Option Ends) (before list : List ℕ) (others : List ℕ → Result (List ℕ) Code) → list_all is_channel before ≡ true
     → ((so_far : List ℕ) → list_all is_channel so_far ≡ true → length so_far ≤ longest_list → 1 ≤ length so_far → others so_far ≡ Ok list
-    → is_channel_list list ≡ true)
-    → next o before others ≡ Ok list → is_channel_list list ≡ true
+    → is_channel_list list ≡ true) → next o before others ≡ Ok list → is_channel_list list ≡ true
 item_channels None before list others all go h = absurd cc
 item_channels (Some ends) before list others all go h =
     at (is_channel ends.first && is_channel ends.last)

@@ -107,8 +107,7 @@ sign_split (b ∷ text) = at (b == 43) (b == 45) refl refl
 
 -- A leading point and the digits after it are read.
 pub fraction_before_text : (piece digits text : List ℕ) → IsFraction piece digits → begins is_ascii_digit text ≡ false
-    → begins is_point text ≡ false
-    → (fraction_in (piece ++ text) ≡ digits) × (behind_fraction (piece ++ text) ≡ text)
+    → begins is_point text ≡ false → (fraction_in (piece ++ text) ≡ digits) × (behind_fraction (piece ++ text) ≡ text)
 fraction_before_text piece digits text (inl f) d p = rw (f.0, f.1) (none text p)
   where
     none : (text : List ℕ) → begins is_point text ≡ false → (fraction_in text ≡ []) × (behind_fraction text ≡ text)

@@ -63,8 +63,7 @@ suffix_spelled text h = let a = trim_start_split text in (a.0, a.1, a.2, h)
 
 -- White space around an exponent's letter is skipped.
 mark_joined : (before behind text : List ℕ) (letter : ℕ) → IsSpace before → (letter ≡ 69) ⊎ (letter ≡ 101) → IsSpace behind
-    → begins is_white text ≡ false
-    → behind_mark (before ++ letter ∷ (behind ++ text)) ≡ text
+    → begins is_white text ≡ false → behind_mark (before ++ letter ∷ (behind ++ text)) ≡ text
 mark_joined before behind text letter b (inl l) h plain =
     rw l (ap behind_letter (trim_start_append before (69 ∷ (behind ++ text)) b) ∙ trim_start_append behind text h ∙ trim_none text plain)
 mark_joined before behind text letter b (inr l) h plain =
@@ -173,8 +172,7 @@ front_empty (b ∷ front) behind some e = absurd cc
 
 -- The exponent and the suffix that are read after the mantissa are spelled there.
 read_tail_is_spelled : (tail : List ℕ) (number : Parts) → is_down tail ≡ number.down → exponent_in tail ≡ number.exponent
-    → trim_start (behind_exponent tail) ≡ number.suffix → begins_well number.suffix ≡ true
-    → IsTail tail number
+    → trim_start (behind_exponent tail) ≡ number.suffix → begins_well number.suffix ≡ true → IsTail tail number
 read_tail_is_spelled tail number d x s w = at (is_empty (exponent_in tail)) refl
   where
     at : (t : Bool) → is_empty (exponent_in tail) ≡ t → IsTail tail number
@@ -216,8 +214,7 @@ there_digits [] (b ∷ fraction) h = inr (λ e. absurd cc)
 there_digits [] [] h = absurd cc
 
 same_parts : (number : Parts) (negative down : Bool) (whole fraction exponent suffix : List ℕ) → negative ≡ number.negative
-    → whole ≡ number.whole → fraction ≡ number.fraction → down ≡ number.down
-    → exponent ≡ number.exponent → suffix ≡ number.suffix
+    → whole ≡ number.whole → fraction ≡ number.fraction → down ≡ number.down → exponent ≡ number.exponent → suffix ≡ number.suffix
     → record { negative = negative; whole = whole; fraction = fraction; down = down; exponent = exponent; suffix = suffix } ≡ number
 same_parts number negative down whole fraction exponent suffix n w f d x s = rw (n, w, f, d, x, s) refl
 

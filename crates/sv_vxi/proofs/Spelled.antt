@@ -57,8 +57,7 @@ encoded_fields_are_read (boolean ∷ kinds) makes values bytes after bounds h =
 encoded_fields_are_read (opaque most ∷ kinds) makes values bytes after bounds h =
     rw (opaque_reads most _ _ _ h.1 bounds.0) (encoded_fields_are_read kinds (makes values.0) values.1 h.0 after bounds.1 h.2)
 
-bind_ok : {A B : Type 0} (r : Result A XdrFault) (f : A → Result B Garbage) (b : B) → (r >>= f) ≡ Ok b
-    → (x : A) × (r ≡ Ok x) × (f x ≡ Ok b)
+bind_ok : {A B : Type 0} (r : Result A XdrFault) (f : A → Result B Garbage) (b : B) → (r >>= f) ≡ Ok b → (x : A) × (r ≡ Ok x) × (f x ≡ Ok b)
 bind_ok (Ok x) f b e = (x, refl, e)
 bind_ok (Err fault) f b e = absurd cc
 

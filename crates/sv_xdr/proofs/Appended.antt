@@ -40,9 +40,7 @@ opaque_appended size text n old one two new size_is n_is first second third =
 
 -- If a piece has no room, the writing stops there.
 pub each_stops_at_fault : (piece : List ℕ) (pieces : List (List ℕ)) (fault : XdrFault) (r : Result Unit XdrFault) (old new : Writer)
-    → r ≡ Err fault
-    → Writes piece (Err fault) old new
-    → WritesEach (piece ∷ pieces) r old new
+    → r ≡ Err fault → Writes piece (Err fault) old new → WritesEach (piece ∷ pieces) r old new
 each_stops_at_fault piece pieces fault r old new e h =
     let nothing : Appends [] old new = record {
       text = h.2.text ∙ sym (append-nil (text_of old));

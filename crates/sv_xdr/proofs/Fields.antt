@@ -119,8 +119,7 @@ opaque_reads max bytes text after b le =
 
 -- Opaque data that are read are encoded there.
 pub opaque_takes : (bytes size rest text after : List ℕ) (n max : ℕ) → bytes ≡ size ++ rest → IsWord size n → n ≤ max
-    → padded_at n rest ≡ Ok (text, after)
-    → Begins bytes (Opaque text) after × (length text ≤ max)
+    → padded_at n rest ≡ Ok (text, after) → Begins bytes (Opaque text) after × (length text ≤ max)
 opaque_takes bytes size rest text after n max front word le e =
     let t = padded_takes n rest text after e in
     let pad = t.0 in
@@ -129,8 +128,7 @@ opaque_takes bytes size rest text after n max front word le e =
 
 -- If the length isn't above the maximum, the bytes after it decide what is read.
 pub opaque_length_decides : (max n : ℕ) (bytes rest text after : List ℕ) (r : Result (List ℕ × List ℕ) XdrFault)
-    → unsigned_at bytes ≡ Ok (n, rest)
-    → n ≤ max → padded_at n rest ≡ r
+    → unsigned_at bytes ≡ Ok (n, rest) → n ≤ max → padded_at n rest ≡ r
     → Begins bytes (Opaque text) after → length text ≤ max → r ≡ Ok (text, after)
 unfolding opaque_at
 opaque_length_decides max n bytes rest text after r first le second b short =

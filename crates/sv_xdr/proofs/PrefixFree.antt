@@ -67,8 +67,7 @@ SameKinds (x ∷ xs) [] = ⊥
 
 -- Two such lists whose encodings begin the same bytes are equal, and so is what follows them.
 pub fields_unique : (xs ys : List Field) (bytes after behind : List ℕ) → SameKinds xs ys → BeginsAll bytes xs after
-    → BeginsAll bytes ys behind
-    → (xs ≡ ys) × (after ≡ behind)
+    → BeginsAll bytes ys behind → (xs ≡ ys) × (after ≡ behind)
 fields_unique [] [] bytes after behind kinds h k = (refl, sym h ∙ k)
 fields_unique (x ∷ xs) (y ∷ ys) bytes after behind kinds h k =
     let one = field_unique x y bytes h.0 k.0 kinds.0 h.1 k.1 in

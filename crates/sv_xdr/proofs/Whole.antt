@@ -14,8 +14,7 @@ room_left bytes old new a =
     omega (arith, ap length a.rest, length-append (take (length bytes) (rest_of old)) (rest_of new))
 
 pub whole_is_written : (pieces : List (List ℕ)) (r : Result Unit XdrFault) (old new : Writer) → WritesEach pieces r old new
-    → length (concat pieces) ≤ length (rest_of old)
-    → Appends (concat pieces) old new
+    → length (concat pieces) ≤ length (rest_of old) → Appends (concat pieces) old new
 whole_is_written pieces (Ok done) old new w room = w
 whole_is_written pieces (Err fault) old new w room =
     let front = w.1 in

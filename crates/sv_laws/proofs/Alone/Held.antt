@@ -118,8 +118,7 @@ held_unit_answers query awaited.Nothing is acts = absurd (never query is)
 -- ---- the read is suspended
 
 read_is_suspended : (config : Config) (polled c lid most io_timeout lock_timeout flags term_char : ℕ) (acts : List DeviceAct)
-    → IsFree c lid acts
-    → is_answerable (instrument_acts acts) ≡ false
+    → IsFree c lid acts → is_answerable (instrument_acts acts) ≡ false
     → admission config polled c (OnLink (pos lid) (DeviceRead most io_timeout lock_timeout flags term_char))
     (stop_of c (OnLink (pos lid) (DeviceRead most io_timeout lock_timeout flags term_char)) acts) acts
     ≡ suspend_by (Entered c (Some lid) ForResponse (Some (config.clock + ticks acts + io_timeout)))

@@ -94,8 +94,7 @@ fitting_answer_is_added answer acts fits = rw fits refl
 
 -- No read can be answered while there is no response, and the message has ended but isn't finished.
 pub unanswerable_without_response : (log : List Act) → response (exchange_acts (inside log)) ≡ []
-    → has_ended (exchange_acts (inside log)) ≡ true
-    → is_answerable (inside log) ≡ false
+    → has_ended (exchange_acts (inside log)) ≡ true → is_answerable (inside log) ≡ false
 unanswerable_without_response log none ended = rw (none, ended) (and_false _)
   where
     and_false : (b : Bool) → (b && false) ≡ false

@@ -60,8 +60,7 @@ stays_initiated what adds newer initiated reads =
 
 -- If a unit ended in a log, it ended at the same moment in the log with more acts.
 abbrev pub unit_end_with_more_acts : (what : Awaited) (base adds acts new : List InstrumentAct) → new ≡ adds ++ acts
-    → UnitEnd what base acts
-    → UnitEnd what base new
+    → UnitEnd what base acts → UnitEnd what base new
 unit_end_with_more_acts what base adds acts new is e = record {
   done = e.done;
   newer = e.newer;

@@ -45,8 +45,7 @@ use Rattle.sv_laws.proofs.Cuts.FirstPart.{Resting}
 
 -- A call that can resume after another call left the queue could also resume before.
 pub able_after_leaving_was_able : (holds : Option ℕ) (writes reads : Bool) (c d : ℕ) (acts : List WaitAct)
-    → IsAble holds writes reads (Left c ∷ acts) d
-    → IsAble holds writes reads acts d
+    → IsAble holds writes reads (Left c ∷ acts) d → IsAble holds writes reads acts d
 able_after_leaving_was_able holds writes reads c d acts h = elim (cases_Bool (c == d)) [
   | inl e ↦ absurd (let z : false ≡ true = rw e at h in cc)
   | inr e ↦ rw e at h

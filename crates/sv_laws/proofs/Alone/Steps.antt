@@ -84,8 +84,7 @@ abbrev pub happened : List InstrumentAct → List Act → List Act
 happened adds log = map OnDevice (map Applied adds) ++ log
 
 pub stage_after_acts : (base log : List Act) (adds acts : List InstrumentAct) → Stage base log acts
-    → scan_acts (adds ++ acts) ≡ scan_acts acts
-    → Stage base (happened adds log) (adds ++ acts)
+    → scan_acts (adds ++ acts) ≡ scan_acts acts → Stage base (happened adds log) (adds ++ acts)
 stage_after_acts base log adds acts s scans =
     let there : device_acts (happened adds log) ≡ map Applied adds ++ device_acts log = device_acts_append (map Applied adds) log in
     let now : instrument_acts (device_acts (happened adds log)) ≡ adds ++ acts =

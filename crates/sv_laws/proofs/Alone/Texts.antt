@@ -110,8 +110,7 @@ write_with_end_is_left bytes parts part acts l cut = record {
 -- The step that is due for a message that has ended and isn't too long, if no answers were dropped.
 due_of_ended_message : (part other : List ℕ) (more : List (List ℕ)) (acts : List ExchangeAct)
     → drop (messages_finished acts) (messages (text acts)) ≡ part ∷ other ∷ more → length part ≤ max_message
-    → has_dropped (current acts) ≡ false
-    → due acts
+    → has_dropped (current acts) ≡ false → due acts
     ≡ due_unit (slice_get (units part) (units_done (current acts))) ((units_done (current acts) == 0) && is_something (response acts)) true
 due_of_ended_message part other more acts left short kept =
     let is : message acts ≡ part = first_of_drop (messages_finished acts) (messages (text acts)) part (other ∷ more) left in

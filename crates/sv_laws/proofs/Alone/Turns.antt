@@ -54,8 +54,7 @@ turn_adds_outcome config polled c lid call outcome log n is =
 -- ---- the write
 
 write_is_accepted : (config : Config) (polled c lid io_timeout lock_timeout flags : ℕ) (sent : List ℕ) (acts : List DeviceAct)
-    → IsFree c lid acts
-    → length sent ≤ max_message → has_ended (exchange_acts acts) ≡ false
+    → IsFree c lid acts → length sent ≤ max_message → has_ended (exchange_acts acts) ≡ false
     → admission config polled c (OnLink (pos lid) (DeviceWrite io_timeout lock_timeout flags sent))
     (stop_of c (OnLink (pos lid) (DeviceWrite io_timeout lock_timeout flags sent)) acts) acts
     ≡ answer_with (Applied (Exchanged (Accepted sent (bit_at flags 3 == 1))) ∷ []) (Size NoError (length sent))
@@ -138,8 +137,7 @@ by_count answer most count term e ends =
     (Read NoError (record { request_count = n == most; character = is_some term; end = true }) bytes)) (length-append answer (10 ∷ [])))
 
 nonempty_response_is_read : (bytes got : List ℕ) (most : ℕ) (term : Option ℕ) (other : CallOutcome) → got ≡ bytes
-    → is_something bytes ≡ true
-    → cond (is_something got) (reads got most term) other ≡ reads bytes most term
+    → is_something bytes ≡ true → cond (is_something got) (reads got most term) other ≡ reads bytes most term
 nonempty_response_is_read bytes got most term other is some = rw (is, some) refl
 
 pub line_is_nonempty : (answer : List ℕ) → is_something (answer ++ 10 ∷ []) ≡ true

@@ -91,8 +91,7 @@ first_unit_is_at_root acts none held =
     subst (λ (n : ℕ). Leaves (reverse (take n (units (message (exchange_acts acts))))) []) (sym begun) refl
 
 query_adds_answer : (asked : Question) (answer : List ℕ) (acts : List InstrumentAct) (fault : Option Code) → fault ≡ None
-    → Says asked acts answer
-    → fits_response (answers (UnitDone ∷ exchange_acts acts)) answer ≡ true
+    → Says asked acts answer → fits_response (answers (UnitDone ∷ exchange_acts acts)) answer ≡ true
     → Replies fault asked acts (answer_acts asked answer ++ acts)
 query_adds_answer asked answer acts fault none says fits =
     let left : after_answering answer (done (after_query asked acts)) ≡ after_answering answer (done (taken_acts asked ++ acts)) =

@@ -106,8 +106,7 @@ calm_times_nothing_out config log base new rest v (c, wait, oldest, for, is) = r
 
 -- If a step is due, it is a step of message exchange.
 pub calm_step_is_of_instrument : (config : Config) (log base new : List Act) → Resting config base
-    → Calm (device_acts log) (device_acts base)
-    → IsNext config log new → InstrumentDoes IsStep log new
+    → Calm (device_acts log) (device_acts base) → IsNext config log new → InstrumentDoes IsStep log new
 calm_step_is_of_instrument config log base new rest v (inl fires) = absurd (calm_fires_nothing config log base new rest.rests v fires)
 calm_step_is_of_instrument config log base new rest v (inr (none, inl resumes)) =
     absurd (calm_resumes_nothing config log base new rest v resumes)
@@ -142,8 +141,7 @@ released_adds awaited.Readings log = answered_more (Exchanged UnitDone) _ log
 
 -- If no step is due while a unit is held, a measurement is under way.
 pub held_unit_means_measuring : (config : Config) (base : List Act) (what : Awaited) → Rested config base
-    → held_unit (instrument_acts (device_acts base)) ≡ Some what
-    → is_idle (instrument_acts (device_acts base)) ≡ true → ⊥
+    → held_unit (instrument_acts (device_acts base)) ≡ Some what → is_idle (instrument_acts (device_acts base)) ≡ true → ⊥
 held_unit_means_measuring config base what rest holds idle =
     let log = instrument_acts (device_acts base) in
     let so = released_adds what log in

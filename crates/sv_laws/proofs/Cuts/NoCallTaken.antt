@@ -143,8 +143,7 @@ follows_call c bytes base log (adds, is, none) = (
 -- If no call was taken after the call `bytes`, and the newest two acts are the taking of a call and
 -- then a reply, that call is `bytes`, and the reply is the only act since.
 pub taken_once : (acts : List ConnAct) (bytes reply call : List ℕ) (base rest : List ConnAct) → AllByRecursion TakesNoCall acts
-    → acts ++ CallTaken bytes ∷ base ≡ Replied reply ∷ CallTaken call ∷ rest
-    → (acts ≡ Replied reply ∷ []) × (bytes ≡ call) × (base ≡ rest)
+    → acts ++ CallTaken bytes ∷ base ≡ Replied reply ∷ CallTaken call ∷ rest → (acts ≡ Replied reply ∷ []) × (bytes ≡ call) × (base ≡ rest)
 taken_once [] bytes reply call base rest none same = absurd cc
 taken_once (act ∷ []) bytes reply call base rest none same =
     let first : act ≡ Replied reply = cc in

@@ -148,8 +148,7 @@ same_reading_append one two more same = reading_append one more ∙ ap (λ (r : 
 -- If two streams have the same tail, the same further records are read of both after the same bytes
 -- are appended.
 pub same_tail_same_records : (one two : List ℕ) (n m : ℕ) → length (records_of one) ≡ n → length (records_of two) ≡ m
-    → tail_of one ≡ tail_of two
-    → (more : List ℕ) → drop n (records_of (one ++ more)) ≡ drop m (records_of (two ++ more))
+    → tail_of one ≡ tail_of two → (more : List ℕ) → drop n (records_of (one ++ more)) ≡ drop m (records_of (two ++ more))
 same_tail_same_records one two n m first second same more =
     ap (λ (l : List (List ℕ)). drop n l) (records_of_append one more)
     ∙ drop_at (records_of one) (resumed_at (tail_of one) more).0 n first

@@ -229,8 +229,7 @@ lasts_master : (log : List Act) → Lasts log → Master log
 lasts_master (Polled ∷ log) h = absurd h
 lasts_master log h = h
 
-parts_accepted : (bytes : List ℕ) (ended : Bool) (log other : List Act) → SameParts log other
-    → SameParts (accepted bytes ended ∷ log) other
+parts_accepted : (bytes : List ℕ) (ended : Bool) (log other : List Act) → SameParts log other → SameParts (accepted bytes ended ∷ log) other
 parts_accepted bytes ended log other v = assumption (
   (λ (name : RegisterName) (k : ℕ). stood_over name k bytes ended log ∙ v.since name k),
   (λ (name : RegisterName) (k : ℕ). iff_transitive (since_skips_act (Passes name k) (NotCleared name) (accepted bytes ended) log

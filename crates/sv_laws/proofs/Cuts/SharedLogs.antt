@@ -84,8 +84,7 @@ events_keep_same_logs config first second one two (event ∷ events) base log al
 
 -- ---- the bytes added on a port
 
-ahead_back : (first second : List ℕ) (acts others : List ConnAct) → SameAhead first second acts others
-    → SameAhead second first others acts
+ahead_back : (first second : List ℕ) (acts others : List ConnAct) → SameAhead first second acts others → SameAhead second first others acts
 ahead_back first second acts others v = record {
   role = sym v.role;
   call = sym v.call;

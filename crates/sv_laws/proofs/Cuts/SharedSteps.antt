@@ -71,8 +71,7 @@ abbrev pub LeadsAlike : List Act → List Act → (List Act → Type 0) → (Lis
 LeadsAlike log other Here There = (new : List Act) → Here new → (adds : List Act) × (new ≡ adds ++ log) × There (adds ++ other)
 
 first_shared : (log other : List Act) (A B C D : List Act → Type 0) → LeadsAlike log other A C → LeadsAlike other log C A
-    → LeadsAlike log other B D
-    → LeadsAlike log other (First A B) (First C D)
+    → LeadsAlike log other B D → LeadsAlike log other (First A B) (First C D)
 first_shared log other A B C D to from on new (inl a) = let so = to new a in (so.0, so.1, inl so.2)
 first_shared log other A B C D to from on new (inr b) =
     let so = on new b.1 in (so.0, so.1, inr ((λ one c. let back = from one c in b.0 (back.0 ++ log) back.2), so.2))

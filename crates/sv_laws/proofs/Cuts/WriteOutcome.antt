@@ -68,8 +68,7 @@ core_in _ (Err (Version xid)) call is = absurd cc
 core_in _ (Err BadHeader) call is = absurd cc
 
 pub core_call_on_any_role : (role : Option Role) (bytes : List ℕ) (request : Request) (call : CoreCall)
-    → request_for role (Some bytes) ≡ Some request
-    → core_call bytes ≡ Some call → IsCore request call
+    → request_for role (Some bytes) ≡ Some request → core_call bytes ≡ Some call → IsCore request call
 core_call_on_any_role None bytes request call asks is = absurd cc
 core_call_on_any_role (Some role) bytes request call asks is =
     let same : request_of role (call_at bytes) ≡ request = cc in

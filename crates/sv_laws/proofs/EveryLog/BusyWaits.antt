@@ -166,8 +166,7 @@ steps_keep config = record {
 -- ---- an event's own acts
 
 -- A call that is taken is answered or suspended.
-all_admitted : (config : Config) (polled c : ℕ) (call : CoreCall) (stop : Option Stop) (log : List Act)
-    → ((d : ℕ) → d ≢ c → HasWait d log)
+all_admitted : (config : Config) (polled c : ℕ) (call : CoreCall) (stop : Option Stop) (log : List Act) → ((d : ℕ) → d ≢ c → HasWait d log)
     → AllWait (acts_of c (call_effect call.xid (admission config polled c call.arguments stop (device_acts log))) ++ log)
 all_admitted config polled c call None log all =
     let acts = device_acts log in

@@ -136,8 +136,7 @@ steps_keep config = steps_keep_by_effects config Everywhere (λ adds log. all_sh
 
 -- ---- an event's own acts
 
-port_replied : (call : List ℕ) (xid : ℕ) (port : Result ℕ Garbage) → xid_of (call_at call) ≡ Some xid
-    → IsReplyTo call (port_reply xid port)
+port_replied : (call : List ℕ) (xid : ℕ) (port : Result ℕ Garbage) → xid_of (call_at call) ≡ Some xid → IsReplyTo call (port_reply xid port)
 port_replied call xid (Ok port) is = (xid, Success, Unsigned port ∷ [], is, refl)
 port_replied call xid (Err garbage) is = (xid, GarbageArgs, [], is, refl)
 

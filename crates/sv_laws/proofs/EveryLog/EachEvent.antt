@@ -55,8 +55,7 @@ settling_keeps config IsSo step (suc n) log new so (middle, next, more) =
 
 pub induction_over_history : (config : Config) (IsSo : List Act → Type 0) → IsSo []
     → ((event : PlainEvent) (polled : ℕ) (channel_log : List ChannelAct) (log : List Act) → IsEvent event
-    → refusal config channel_log event log ≡ None
-    → IsSo log → IsSo (own_acts config polled event log ++ log))
+    → refusal config channel_log event log ≡ None → IsSo log → IsSo (own_acts config polled event log ++ log))
     → ((log new : List Act) → IsSo log → IsNext config log new → IsSo new)
     → (history : List PlainEvent) (log : List Act) → IsLogOf config history log → IsSo log
 induction_over_history config IsSo empty acts step [] log (given, none) = subst IsSo (sym none) empty
@@ -192,8 +191,7 @@ fit_connected c ok None log fit = fit_without_suspended c (connect_effect c ok N
 
 -- A create_link that resumes isn't suspended again.
 pub create_link_resumes_once : (wait : Wait) (arguments : Arguments) (acts : List DeviceAct) (next : Wait × ℕ)
-    → is_create_link arguments ≡ true
-    → next_wait wait arguments acts ≡ Some next → ⊥
+    → is_create_link arguments ≡ true → next_wait wait arguments acts ≡ Some next → ⊥
 create_link_resumes_once Lock (CreateLink client_id lock_device lock_timeout device) acts next is e = cc
 create_link_resumes_once Lock _ acts next is e = cc
 create_link_resumes_once ForInput arguments acts next is e = cc
@@ -375,8 +373,7 @@ suits_links (_ ∷ links) acts before h all = (tt, suits_links links acts before
 abbrev pub close_acts : ℕ → List DeviceAct → List DeviceAct
 close_acts c acts = Channel (ChannelClosed c) ∷ (map Linked (closing c (link_acts acts)) ++ Waited (Left c) ∷ [])
 
-pub device_acts_of_close : (c : ℕ) (log : List Act)
-    → device_acts (map OnDevice (close_acts c (device_acts log)) ++ On c PortClosed ∷ log)
+pub device_acts_of_close : (c : ℕ) (log : List Act) → device_acts (map OnDevice (close_acts c (device_acts log)) ++ On c PortClosed ∷ log)
     ≡ Channel (ChannelClosed c) ∷ (map Linked (closing c (link_acts (device_acts log))) ++ Waited (Left c) ∷ device_acts log)
 device_acts_of_close c log = device_acts_append (close_acts c (device_acts log)) (On c PortClosed ∷ log)
     ∙ ap (λ (l : List DeviceAct). Channel (ChannelClosed c) ∷ l)

@@ -107,8 +107,7 @@ owner_after_acts_by c n d May (_ ∷ adds) acts h is = owner_after_acts_by c n d
 
 -- If the connection's acts and its suspended call are the same, `IsHeld` still holds.
 pub same_call_stays_on_core : (c : ℕ) (own now : List ConnAct) (acts after : List WaitAct) → now ≡ own → SameCall c after acts
-    → SuspendedIsOnCore c own acts
-    → SuspendedIsOnCore c now after
+    → SuspendedIsOnCore c own acts → SuspendedIsOnCore c now after
 same_call_stays_on_core c own now acts after same call held = λ wait is.
     let was = held wait (sym call.wait ∙ is) in (
       ap open_role same ∙ was.0,

@@ -183,8 +183,7 @@ mapped_lock for (Some was) ne e = ne (some_injective for Lock e)
 mapped_lock for None ne e = cc
 
 waiting_names_no_locked : (acts : List DeviceAct) → AllSuit acts → AllKeep acts → (d n : ℕ) → WaitsForLock acts d
-    → link d (wait_acts acts) ≡ Some n
-    → is_locked n (link_acts acts) ≡ false
+    → link d (wait_acts acts) ≡ Some n → is_locked n (link_acts acts) ≡ false
 waiting_names_no_locked [] all keep d n w h = absurd cc
 waiting_names_no_locked (Linked (Made lid conn) ∷ acts) all keep d n w h = waiting_names_no_locked acts all.1 keep.1 d n w h
 waiting_names_no_locked (Linked (Destroyed lid) ∷ acts) all keep d n w h =

@@ -32,8 +32,7 @@ link_numbers_rise (Linked (Destroyed lid) ∷ acts) all =
 link_numbers_rise (_ ∷ acts) all = link_numbers_rise acts all.1
 
 rising_owner : (n c last : ℕ) (xs : List Link) → IsRising xs last
-    → option_map (λ link. link.conn) (find (λ link. eqb link.lid n) xs) ≡ Some c
-    → n ≤ last
+    → option_map (λ link. link.conn) (find (λ link. eqb link.lid n) xs) ≡ Some c → n ≤ last
 rising_owner n c last [] rising h = absurd cc
 rising_owner n c last (x ∷ xs) rising h = elim (cases_Bool (eqb x.lid n)) [
   | inl e ↦ let same : x.lid ≡ n = eqb-true x.lid n e in omega (arith, same, rising.0)
@@ -171,9 +170,7 @@ not_there lid named (Some Dial) writes reads input response other h = absurd cc
 not_there lid named None writes reads input response other h = absurd cc
 
 pub others_blocked_by_lock : (c lid : ℕ) (acts : List DeviceAct) → AllSuit acts → holder (link_acts acts) ≡ Some lid
-    → owner lid (link_acts acts) ≡ Some c
-    → NoOtherWaits c (wait_acts acts)
-    → (d : ℕ) → d ≢ c → CanResume acts d → ⊥
+    → owner lid (link_acts acts) ≡ Some c → NoOtherWaits c (wait_acts acts) → (d : ℕ) → d ≢ c → CanResume acts d → ⊥
 others_blocked_by_lock c lid acts all held owns rest d ne able =
     not_there lid (link d (wait_acts acts)) (waits d (wait_acts acts)) _ _ (rest d ne).0 (rest d ne).1
     (λ n named same. ne (sym ((suspended_link_is_named acts all d n named).1 c (ap (λ (m : ℕ). owner m (link_acts acts)) same ∙ owns))))

@@ -118,8 +118,7 @@ leaving_call_keeps_view c lid d acts other ne view =
     )
 
 pub same_act_keeps_view : (c lid : ℕ) (act : DeviceAct) (acts other : List DeviceAct) → IsOwn c act
-    → holder (link_acts (act ∷ acts)) ≡ Some lid
-    → View c lid acts other → View c lid (act ∷ acts) (act ∷ other)
+    → holder (link_acts (act ∷ acts)) ≡ Some lid → View c lid acts other → View c lid (act ∷ acts) (act ∷ other)
 same_act_keeps_view c lid (Linked act) acts other h now view = assumption (
   owns_alike_same_act c act (link_acts acts) (link_acts other) h view.owns,
   now,
@@ -202,8 +201,7 @@ same_request c channel_log also true same = same_act_keeps_channel c Requested c
 same_request c channel_log also false same = same
 
 pub tells_same : (c : ℕ) (act : DeviceAct) (acts other : List DeviceAct) → instrument_acts acts ≡ instrument_acts other
-    → TellsAs c acts other
-    → TellsAs c (act ∷ acts) (act ∷ other)
+    → TellsAs c acts other → TellsAs c (act ∷ acts) (act ∷ other)
 tells_same c (Linked act) acts other instrument tells = λ channel_log (before, hears, is).
     let so = tells before hears in (link_told act so.0, (so.0, so.1, refl), rw is (same_link c before so.0 act so.2))
 tells_same c (Waited act) acts other instrument tells = tells
@@ -254,8 +252,7 @@ foreign_acts_keep_pair c lid (OnDevice act ∷ new) log other h locks all pair =
 
 -- The same acts are added to both logs.
 pub same_acts_keep_pair : (c lid : ℕ) (new log other : List Act) → Each (IsOwnAct c) new log → Each (HoldsAfter lid) new log
-    → Pair c lid log other
-    → Pair c lid (new ++ log) (new ++ other)
+    → Pair c lid log other → Pair c lid (new ++ log) (new ++ other)
 same_acts_keep_pair c lid [] log other h locks pair = pair
 same_acts_keep_pair c lid (On d act ∷ new) log other h locks pair =
     let so = same_acts_keep_pair c lid new log other h.1 locks.1 pair in

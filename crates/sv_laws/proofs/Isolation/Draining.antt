@@ -53,8 +53,7 @@ able_back c lid acts other view able =
     rw (view.held, view.instrument, view.call.named, view.call.wait) (rw view.also at able)
 
 pub same_instrument_same_poll : (polled : ℕ) (acts other : List DeviceAct) → instrument_acts acts ≡ instrument_acts other
-    → IsPolled polled acts
-    → IsPolled polled other
+    → IsPolled polled acts → IsPolled polled other
 same_instrument_same_poll polled acts other same said =
     subst (λ (l : List InstrumentAct). (k : ℕ) → (bit_at polled k ≡ 1) ↔ PolledBit k l) same said
 
@@ -114,8 +113,7 @@ no_resume config c lid log other fit also pair none new resumes =
     none there.0 there.1
 
 pub nothing_else_in_other : (config : Config) (c lid : ℕ) (log other : List Act) → Fit log → Fit other → Pair c lid log other
-    → NothingElse config log
-    → NothingElse config other
+    → NothingElse config log → NothingElse config other
 nothing_else_in_other config c lid log other fit also pair (fire, resume, step) = (
   no_fire c lid log other pair fire,
   no_resume config c lid log other fit also pair resume,
@@ -173,8 +171,7 @@ failing_keeps_pair c lid d log other error ne pair =
 
 -- The case that no call of another connection is left to time out.
 nothing_to_drain : (config : Config) (c lid : ℕ) (log other : List Act) (found : Option ℕ) → Fit other → Pair c lid log other
-    → IsOldestExpired config other found
-    → (found ≡ None) ⊎ (found ≡ Some c) → Drained config c lid log other
+    → IsOldestExpired config other found → (found ≡ None) ⊎ (found ≡ Some c) → Drained config c lid log other
 nothing_to_drain config c lid log other found also pair due own = record {
   last = other;
   reaches = reaches_none config other;

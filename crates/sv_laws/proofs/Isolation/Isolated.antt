@@ -167,8 +167,7 @@ own_events_alone c lid config past all (event ∷ events) locked later log is le
 -- ---- the bytes that are added
 
 sent_same : (c lid : ℕ) (port : Port) (log other : List Act) (channel_log also : List ChannelAct) → port_number port ≡ c
-    → Pair c lid log other
-    → SameChannel c channel_log also → all_sent port channel_log log ≡ all_sent port also other
+    → Pair c lid log other → SameChannel c channel_log also → all_sent port channel_log log ≡ all_sent port also other
 sent_same c lid (Conn d) log other channel_log also e pair same = rw e (ap all_replies pair.own)
 sent_same c lid (Intr d) log other channel_log also e pair same = rw e (ap concat same.all)
 

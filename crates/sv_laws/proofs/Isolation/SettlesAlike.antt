@@ -46,8 +46,7 @@ LocksOver lid log middle = (acts : List Act) → middle ≡ acts ++ log → Each
 
 -- The instrument takes the same step in both logs.
 does_alike : (config : Config) (c lid : ℕ) (IsSuch : List InstrumentAct → List InstrumentAct → Type 0) (log middle other : List Act)
-    → Fit other
-    → Pair c lid log other → LocksOver lid log middle → InstrumentDoes IsSuch log middle
+    → Fit other → Pair c lid log other → LocksOver lid log middle → InstrumentDoes IsSuch log middle
     → ((after : List Act) → InstrumentDoes IsSuch other after → IsNext config other after) → Advanced config c lid middle other
 does_alike config c lid IsSuch log middle other also pair locks (adds, such, is) due =
     let new = map OnDevice (map Applied adds) in
@@ -288,8 +287,7 @@ ends_alike config c lid log other fit also pair settled =
         (subst (λ (o : Option ℕ). IsOldestExpired config last o) none due) times.0 times.2.0
 
 pub settles_alike : (n : ℕ) (config : Config) (c lid : ℕ) (whole later log other new : List Act) → HoldsThroughout lid log whole
-    → whole ≡ later ++ new → SettlesIn n config log new → Fit log → Fit other → Pair c lid log other
-    → SettledAlike config c lid new other
+    → whole ≡ later ++ new → SettlesIn n config log new → Fit log → Fit other → Pair c lid log other → SettledAlike config c lid new other
 settles_alike zero config c lid whole later log other new holds is (settled, same) fit also pair =
     subst (λ (l : List Act). SettledAlike config c lid l other) (sym same) (ends_alike config c lid log other fit also pair settled)
 settles_alike (suc n) config c lid whole later log other new holds is (middle, next, more) fit also pair =

@@ -25,8 +25,7 @@ AreForeign config polled c d arguments acts stop = Each (IsForeign c) (admission
 
 -- A link of another connection than the holder's is locked out.
 others_link_is_locked_out : (c d lid : ℕ) (named : Option ℕ) (acts : List DeviceAct) → holder (link_acts acts) ≡ Some lid
-    → owner lid (link_acts acts) ≡ Some c
-    → d ≢ c → owns d named acts ≡ true → is_locked_out (holder (link_acts acts)) named ≡ true
+    → owner lid (link_acts acts) ≡ Some c → d ≢ c → owns d named acts ≡ true → is_locked_out (holder (link_acts acts)) named ≡ true
 others_link_is_locked_out c d lid None acts held mine ne own = absurd cc
 others_link_is_locked_out c d lid (Some n) acts held mine ne own =
     let owns : owner n (link_acts acts) ≡ Some d = owns_means_owner d (Some n) acts n own refl in
@@ -45,8 +44,7 @@ some_of (Some wait) e = (wait, refl)
 some_of None e = absurd cc
 
 locked_out_call_is_foreign : (config : Config) (polled c d lid : ℕ) (named : ℤ) (call : LinkCall) (acts : List DeviceAct)
-    → is_some (lock_wait call) ≡ true
-    → holder (link_acts acts) ≡ Some lid → owner lid (link_acts acts) ≡ Some c → d ≢ c
+    → is_some (lock_wait call) ≡ true → holder (link_acts acts) ≡ Some lid → owner lid (link_acts acts) ≡ Some c → d ≢ c
     → AreForeign config polled c d (OnLink named call) acts (stop_of d (OnLink named call) acts)
 locked_out_call_is_foreign config polled c d lid named call acts minds held mine ne =
     elim (cases_Bool (owns d (lid_of (Some named)) acts)) [

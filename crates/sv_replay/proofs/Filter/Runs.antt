@@ -19,8 +19,7 @@ use Rattle.sv_replay.proofs.Filter.Printed.{written_on, written_stop}
 
 -- Filtering what is printed for an explained event leaves what its replay prints.
 filtered_event : (config : Config) (line : ℕ) (history : List PlainEvent) (event : PlainEvent) (text : List ℕ) (after : List PlainEvent)
-    → Explains config line history event (Ok tt) text after
-    → (own : List ℕ) × Replays config history event (Ok tt) own after
+    → Explains config line history event (Ok tt) text after → (own : List ℕ) × Replays config history event (Ok tt) own after
     × ((behind : List ℕ) → filtered (text ++ behind) ≡ own ++ filtered behind)
 filtered_event config line history event text after e = (
   e.printed,
@@ -49,8 +48,7 @@ filtered_event_stop config line history event fault text after e =
 
 -- The same for a list of events.
 prints_filtered : (config : Config) (history : List PlainEvent) (events : List ScriptEvent) (text : List ℕ) (after : List PlainEvent)
-    → Prints Explained config history events text after
-    → (own : List ℕ) × Prints Plain config history events own after
+    → Prints Explained config history events text after → (own : List ℕ) × Prints Plain config history events own after
     × ((behind : List ℕ) → filtered (text ++ behind) ≡ own ++ filtered behind)
 prints_filtered config history [] text after (none, same) =
     ([], (refl, same), λ behind. ap (λ (l : List ℕ). filtered (l ++ behind)) none)
@@ -101,15 +99,13 @@ printed_filtered config lines text (events, after, script, prints) = (
 )
 
 up_to_filtered : (config : Config) (lines : List (List ℕ)) (fault : ReplayFault) (text : List ℕ)
-    → PrintedUpTo config Explained lines fault text
-    → PrintedUpTo config Plain lines fault (filtered text)
+    → PrintedUpTo config Explained lines fault text → PrintedUpTo config Plain lines fault (filtered text)
 up_to_filtered config lines fault text (events, after, script, stops) =
     (events, after, script, stops_filtered config [] events fault text after stops)
 
 -- The same if the line with the clock follows, or a prefix of it.
 to_end_filtered : (config : Config) (lines : List (List ℕ)) (front last part : List ℕ) → PrintedToEnd config lines front last
-    → IsFront part last
-    → Printed config Plain lines (filtered (front ++ part))
+    → IsFront part last → Printed config Plain lines (filtered (front ++ part))
 to_end_filtered config lines front last part (events, after, log, script, prints, is_log, is) of = (
   events,
   after,
@@ -118,8 +114,7 @@ to_end_filtered config lines front last part (events, after, log, script, prints
 )
 
 output_filtered : (config : Config) (read : List ℕ) (rest : Option (List ℕ)) (text : List ℕ)
-    → Runs config Explained read rest (Err Output) text
-    → Runs config Plain read rest (Err Output) (filtered text)
+    → Runs config Explained read rest (Err Output) text → Runs config Plain read rest (Err Output) (filtered text)
 output_filtered config read rest text (lines, behind, is, whole, inl printed) =
     (lines, behind, is, whole, inl (printed_filtered config lines text printed))
 output_filtered config read rest text (lines, behind, is, whole, inr (fault, printed)) =

@@ -49,8 +49,7 @@ result_is_short words _ h = omega arith
 -- The header of a reply and its fields are both written completely if they fit.
 pub both_are_written : (xid : ℕ) (fields : List Field) (r s : Result Unit XdrFault) (old mid new : Writer) → text_of old ≡ []
     → length (concat (map spelling (reply_fields xid Success ++ fields))) ≤ length (rest_of old)
-    → WritesEach (map spelling (reply_fields xid Success)) r old mid
-    → WritesEach (map spelling fields) s mid new
+    → WritesEach (map spelling (reply_fields xid Success)) r old mid → WritesEach (map spelling fields) s mid new
     → text_of new ≡ concat (map spelling (reply_fields xid Success ++ fields))
 both_are_written xid fields r s old mid new empty room first second =
     let header = map spelling (reply_fields xid Success) in

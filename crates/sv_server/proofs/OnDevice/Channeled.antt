@@ -21,10 +21,8 @@ use Rattle.sv_server.proofs.OnDevice.Owned.{room_to_enable_srq, owned_enabled}
 
 -- A channel acts, and the rest of the device stays.
 pub device_channel : (kept : Device) (intr : Channels) (config : Config) (acts : List DeviceAct) (act : ChannelAct)
-    → IsDevice kept config acts
-    → ((channel_log : List ChannelAct) → HearsOf acts channel_log → AreChannels kept.intr channel_log
-    → AreChannels intr (act ∷ channel_log))
-    → AreOwned intr.enabled (link_acts acts) → AreReady intr (wait_acts acts)
+    → IsDevice kept config acts → ((channel_log : List ChannelAct) → HearsOf acts channel_log → AreChannels kept.intr channel_log
+    → AreChannels intr (act ∷ channel_log)) → AreOwned intr.enabled (link_acts acts) → AreReady intr (wait_acts acts)
     → IsDevice (record kept { intr = intr }) config (Channel act ∷ acts)
 device_channel kept intr config acts act (links, instrument, set_up, clock, waiting, reserved, was, before) stands owned ready =
     let (channel_log, tells, are, had) = was in (
@@ -41,8 +39,7 @@ device_channel kept intr config acts act (links, instrument, set_up, clock, wait
 -- Only the memory of a channel changes, so the same acts determine the device's state.
 pub device_same : (kept : Device) (intr : Channels) (config : Config) (acts : List DeviceAct) → IsDevice kept config acts
     → ((channel_log : List ChannelAct) → AreChannels kept.intr channel_log → AreChannels intr channel_log)
-    → intr.enabled ≡ kept.intr.enabled
-    → AreReady intr (wait_acts acts) → IsDevice (record kept { intr = intr }) config acts
+    → intr.enabled ≡ kept.intr.enabled → AreReady intr (wait_acts acts) → IsDevice (record kept { intr = intr }) config acts
 device_same kept intr config acts (links, instrument, set_up, clock, waiting, reserved, was, before) stands same ready =
     let (channel_log, tells, are, owned) = was in
     (links, instrument, set_up, clock, waiting, reserved, (channel_log, tells, stands channel_log are, rw same owned), ready)
@@ -56,8 +53,7 @@ ready_left old new c acts ready others = λ d dials. others d (dials_left c d ac
 pub device_left_same : (kept : Device) (intr : Channels) (config : Config) (acts : List DeviceAct) (c : ℕ)
     → IsDevice kept config (Waited (Left c) ∷ acts)
     → ((channel_log : List ChannelAct) → AreChannels kept.intr channel_log → AreChannels intr channel_log)
-    → intr.enabled ≡ kept.intr.enabled
-    → ((d : ℕ) → (d ≡ c → ⊥) → IsReady kept.intr d → IsReady intr d)
+    → intr.enabled ≡ kept.intr.enabled → ((d : ℕ) → (d ≡ c → ⊥) → IsReady kept.intr d → IsReady intr d)
     → IsDevice (record kept { intr = intr }) config (Waited (Left c) ∷ acts)
 device_left_same kept intr config acts c is stands same others =
     device_same kept intr config (Waited (Left c) ∷ acts) is stands same (ready_left kept.intr intr c (wait_acts acts) is.7 others)
@@ -65,8 +61,7 @@ device_left_same kept intr config acts c is stands same others =
 pub device_cancelled : (kept : Device) (intr : Channels) (config : Config) (acts : List DeviceAct) (links : List LinkAct) (c : ℕ)
     → IsDevice kept config (map Linked links ++ Waited (Left c) ∷ acts)
     → ((channel_log : List ChannelAct) → AreChannels kept.intr channel_log → AreChannels intr channel_log)
-    → intr.enabled ≡ kept.intr.enabled
-    → ((d : ℕ) → (d ≡ c → ⊥) → IsReady kept.intr d → IsReady intr d)
+    → intr.enabled ≡ kept.intr.enabled → ((d : ℕ) → (d ≡ c → ⊥) → IsReady kept.intr d → IsReady intr d)
     → IsDevice (record kept { intr = intr }) config (map Linked links ++ Waited (Left c) ∷ acts)
 device_cancelled kept intr config acts links c is stands same others =
     let waits = wait_acts_links links (Waited (Left c) ∷ acts) in
@@ -78,8 +73,7 @@ device_cancelled kept intr config acts links c is stands same others =
 pub device_opened : (kept : Device) (intr : Channels) (config : Config) (acts : List DeviceAct) (c : ℕ) (act : ChannelAct)
     → IsDevice kept config (Waited (Left c) ∷ acts)
     → ((channel_log : List ChannelAct) → AreChannels kept.intr channel_log → AreChannels intr (act ∷ channel_log))
-    → intr.enabled ≡ kept.intr.enabled
-    → ((d : ℕ) → (d ≡ c → ⊥) → IsReady kept.intr d → IsReady intr d)
+    → intr.enabled ≡ kept.intr.enabled → ((d : ℕ) → (d ≡ c → ⊥) → IsReady kept.intr d → IsReady intr d)
     → IsDevice (record kept { intr = intr }) config (Channel act ∷ Waited (Left c) ∷ acts)
 device_opened kept intr config acts c act is stands same others =
     device_channel kept intr config (Waited (Left c) ∷ acts) act is (λ channel_log tells are. stands channel_log are)
@@ -112,8 +106,7 @@ room_there kept config acts lid conn is owns =
 pub device_enabled : (kept : Device) (intr : Channels) (config : Config) (acts : List DeviceAct) (lid conn : ℕ) (handle : List ℕ)
     → IsDevice kept config acts → owner lid (link_acts acts) ≡ Some conn
     → (HasRoomFor lid kept.intr → (channel_log : List ChannelAct) → AreChannels kept.intr channel_log
-    → AreChannels intr (SrqEnabled lid conn handle ∷ channel_log))
-    → ((c : ℕ) → IsReady kept.intr c → IsReady intr c)
+    → AreChannels intr (SrqEnabled lid conn handle ∷ channel_log)) → ((c : ℕ) → IsReady kept.intr c → IsReady intr c)
     → IsDevice (record kept { intr = intr }) config (Channel (SrqEnabled lid conn handle) ∷ acts)
 device_enabled kept intr config acts lid conn handle is owns stands still =
     let (channel_log, tells, are, owned) = is.6 in
@@ -136,8 +129,7 @@ owned_less keeps (link ∷ links) acts owned = elim (cases_Bool (keeps link)) [
 
 pub device_disabled : (kept : Device) (intr : Channels) (config : Config) (acts : List DeviceAct) (lid : ℕ) → IsDevice kept config acts
     → ((channel_log : List ChannelAct) → AreChannels kept.intr channel_log → AreChannels intr (SrqDisabled lid ∷ channel_log))
-    → ((c : ℕ) → IsReady kept.intr c → IsReady intr c)
-    → IsDevice (record kept { intr = intr }) config (Channel (SrqDisabled lid) ∷ acts)
+    → ((c : ℕ) → IsReady kept.intr c → IsReady intr c) → IsDevice (record kept { intr = intr }) config (Channel (SrqDisabled lid) ∷ acts)
 device_disabled kept intr config acts lid is stands still =
     let (channel_log, tells, are, owned) = is.6 in
     let now = stands channel_log are in

@@ -40,14 +40,12 @@ channel_open_if_some_wait c channel_log some = open_if_some_wait (is_channel_ope
 
 -- No channel with a number above 15 is open.
 beyond_shut : (kept : KeptDevice) (config : Config) (acts : List DeviceAct) (channel_log : List ChannelAct) (c : ℕ)
-    → IsDevice kept config acts
-    → HearsOf acts channel_log → 16 ≤ c → is_channel_open c channel_log ≡ false
+    → IsDevice kept config acts → HearsOf acts channel_log → 16 ≤ c → is_channel_open c channel_log ≡ false
 beyond_shut kept config acts channel_log c is tells above =
     ap (λ (o : Option Peer). is_some o) ((channels_of kept config acts channel_log is tells).beyond c above)
 
 pub none_wait_beyond : (kept : KeptDevice) (config : Config) (acts : List DeviceAct) (channel_log : List ChannelAct) (c : ℕ)
-    → IsDevice kept config acts
-    → HearsOf acts channel_log → 16 ≤ c → channel_waiting c channel_log ≡ []
+    → IsDevice kept config acts → HearsOf acts channel_log → 16 ≤ c → channel_waiting c channel_log ≡ []
 none_wait_beyond kept config acts channel_log c is tells above =
     none_wait_if_shut (is_channel_open c channel_log) (concat (calls_left (bytes_taken c channel_log) (calls c channel_log)))
     (beyond_shut kept config acts channel_log c is tells above)

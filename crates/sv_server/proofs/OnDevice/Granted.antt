@@ -147,8 +147,7 @@ device_never (DeviceRead request_size timeout lock_timeout flags term_char) acts
 device_never _ acts until e = absurd cc
 
 dial_never : (own long out : Bool) (lock : Option LockWait) (device : Option Stop) (until : Option ℕ)
-    → (device ≡ Some (Awaits Dial until) → ⊥)
-    → cond (not own) (Some (Fails InvalidLink)) (cond long (Some (Fails ParameterError))
+    → (device ≡ Some (Awaits Dial until) → ⊥) → cond (not own) (Some (Fails InvalidLink)) (cond long (Some (Fails ParameterError))
     (cond out (option_map lock_stop lock) device)) ≡ Some (Awaits Dial until) → ⊥
 dial_never false long out lock device until never e = cc
 dial_never true true out lock device until never e = cc
@@ -205,8 +204,7 @@ granted_left (CreateLink client_id lock_device lock_timeout device) kept waiting
 granted_left _ kept waiting config acts c is left may = tt
 
 -- whether a call makes a link tells what it may
-pub may_make_link : (arguments : Arguments) (kept : Device) (acts : List DeviceAct) (c : ℕ)
-    → (is_create_link arguments ≡ true
+pub may_make_link : (arguments : Arguments) (kept : Device) (acts : List DeviceAct) (c : ℕ) → (is_create_link arguments ≡ true
     → (creations (without c kept.waiting) < creations kept.waiting) × (is_locked_out (holder (link_acts acts)) None ≡ false))
     → MayMake arguments c kept acts
 may_make_link (CreateLink client_id lock_device lock_timeout device) kept acts c may = may refl

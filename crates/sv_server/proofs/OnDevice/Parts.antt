@@ -178,8 +178,7 @@ told_destroyed old intr acts lid (channel_log, tells, are, owned) disables =
 pub device_destroyed : (kept : Device) (links : Table) (intr : Channels) (config : Config) (acts : List DeviceAct) (lid : ℕ)
     → IsDevice kept config acts → IsTable links (Destroyed lid ∷ link_acts acts) → links.spare ≡ kept.links.spare
     → ((channel_log : List ChannelAct) → AreChannels kept.intr channel_log → AreChannels intr (SrqDisabled lid ∷ channel_log))
-    → intr.channels ≡ kept.intr.channels
-    → IsDevice (record kept { links = links; intr = intr }) config (Linked (Destroyed lid) ∷ acts)
+    → intr.channels ≡ kept.intr.channels → IsDevice (record kept { links = links; intr = intr }) config (Linked (Destroyed lid) ∷ acts)
 device_destroyed kept links intr config acts lid is stands spare disables same =
     device_linked kept links intr config acts (Destroyed lid ∷ []) is stands
     (omega (arith, is.5.0, destroyed_adds_no_live lid (link_acts acts))) (omega (arith, is.5.1, spare))
@@ -229,8 +228,7 @@ creations_none : (xs : List Entry) → xs ≡ [] → creations xs ≡ 0
 creations_none xs e = rw e refl
 
 pub device_none : (links : Table) (waiting : List Entry) (intr : Channels) (instrument : Kept) (config : Config) → IsTable links []
-    → IsQueue waiting [] → AreChannels intr [] → StandsFor instrument []
-    → IsDevice (record {
+    → IsQueue waiting [] → AreChannels intr [] → StandsFor instrument [] → IsDevice (record {
       links = links;
       waiting = waiting;
       intr = intr;
@@ -270,8 +268,7 @@ told_as config kept channel_log lid n set_up number is =
 pub made_ends : (kept : Device) (links : Table) (config : Config) (acts : List DeviceAct) (c lid : ℕ) (channel_log : Outcome)
     → IsDevice kept config acts → HasPlace kept acts → lids_left (link_acts acts) ≡ true → lid ≡ links_made (link_acts acts) + 1
     → IsTable links (Made lid c ∷ link_acts acts) → kept.links.spare ≤ links.spare + 1
-    → channel_log ≡ Link NoError (pos lid) kept.config.abort max_message
-    → IsResult (make_link config c false acts).result channel_log
+    → channel_log ≡ Link NoError (pos lid) kept.config.abort max_message → IsResult (make_link config c false acts).result channel_log
     × IsDevice (record kept { links = links }) config ((make_link config c false acts).adds ++ acts)
 made_ends kept links config acts c lid channel_log is place left number table spare tells = rw left (
   told_as config kept channel_log lid (links_made (link_acts acts) + 1) is.2 number tells,
@@ -282,8 +279,7 @@ made_ends kept links config acts c lid channel_log is place left number table sp
 pub locked_ends : (kept : Device) (mid links : Table) (config : Config) (acts : List DeviceAct) (c lid : ℕ) (channel_log : Outcome)
     → IsDevice kept config acts → HasPlace kept acts → lids_left (link_acts acts) ≡ true → lid ≡ links_made (link_acts acts) + 1
     → IsTable mid (Made lid c ∷ link_acts acts) → IsTable links (Locked lid ∷ Made lid c ∷ link_acts acts)
-    → kept.links.spare ≤ mid.spare + 1 → links.spare ≡ mid.spare
-    → channel_log ≡ Link NoError (pos lid) kept.config.abort max_message
+    → kept.links.spare ≤ mid.spare + 1 → links.spare ≡ mid.spare → channel_log ≡ Link NoError (pos lid) kept.config.abort max_message
     → IsResult (make_link config c true acts).result channel_log
     × IsDevice (record kept { links = links }) config ((make_link config c true acts).adds ++ acts)
 locked_ends kept mid links config acts c lid channel_log is place left number table locked spare same tells = rw left (

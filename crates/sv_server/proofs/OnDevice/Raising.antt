@@ -22,8 +22,7 @@ Tolls old new n = (channel_log : List ChannelAct) → AreChannels old channel_lo
 -- The channels got as many requests as the instrument raised, so the device stands for its acts.
 pub device_raised : (kept : Device) (intr : Channels) (config : Config) (acts : List DeviceAct) (adds : List InstrumentAct) (n : ℕ)
     → HasDone adds kept config acts → Raise adds (instrument_acts acts) n → Tolls kept.intr intr n → intr.enabled ≡ kept.intr.enabled
-    → ((c : ℕ) → IsReady kept.intr c → IsReady intr c)
-    → IsDevice (record kept { intr = intr }) config (map Applied adds ++ acts)
+    → ((c : ℕ) → IsReady kept.intr c → IsReady intr c) → IsDevice (record kept { intr = intr }) config (map Applied adds ++ acts)
 device_raised kept intr config acts adds n (links, instrument, set_up, clock, waiting, reserved, was, ready) raise tolls same still = (
   rw (link_acts_applied adds acts) links,
   rw (instrument_acts_applied adds acts) instrument,
@@ -51,8 +50,7 @@ RaisesInto old new n = (config : Config) (acts : List DeviceAct) (adds : List In
 
 pub device_ran : (kept : Device) (instrument : Kept) (new : Device) (config : Config) (acts : List DeviceAct) (adds : List InstrumentAct)
     (n : ℕ) → IsDevice kept config acts → Ran instrument n (instrument_acts acts) (adds ++ instrument_acts acts)
-    → RaisesInto (record kept { instrument = instrument }) new n
-    → IsDevice new config (map Applied adds ++ acts)
+    → RaisesInto (record kept { instrument = instrument }) new n → IsDevice new config (map Applied adds ++ acts)
 device_ran kept instrument new config acts adds n is ran raises = raises config acts adds
     (device_done kept instrument config acts adds is ran.stands) (ran_raised instrument n (instrument_acts acts) adds ran)
 
@@ -61,8 +59,7 @@ pub instrument_steps : (IsSuch : List InstrumentAct → List InstrumentAct → T
     (config : Config) (acts : List DeviceAct) (raised : Option ℕ)
     → IsDevice kept config acts → Takes IsSuch instrument raised (instrument_acts acts) → IfNone raised (instrument ≡ kept.instrument)
     → ((count : ℕ) → raised ≡ Some count → RaisesInto (record kept { instrument = instrument }) new count)
-    → (raised ≡ None → new ≡ record kept { instrument = instrument })
-    → InstrumentSteps IsSuch (is_some raised) config acts kept new
+    → (raised ≡ None → new ≡ record kept { instrument = instrument }) → InstrumentSteps IsSuch (is_some raised) config acts kept new
 instrument_steps IsSuch kept new instrument config acts None is none same raises stays =
     (none, stays refl ∙ ap (λ (k : Kept). record kept { instrument = k }) same)
 instrument_steps IsSuch kept new instrument config acts (Some count) is (after, such, ran) same raises stays =

@@ -97,16 +97,14 @@ SoFar config history channel_log log n new text = (text ≡ lines_of channel_log
     × ((m : ℕ) → n ≤ m → waiting_on after (port_of m) now ≡ waiting_on channel_log (port_of m) log)
 
 pub so_far_none : (config : Config) (history : List PlainEvent) (channel_log : List ChannelAct) (log : List Act) (state : State)
-    → StandsBy state config history channel_log log
-    → SoFar config history channel_log log 0 state []
+    → StandsBy state config history channel_log log → SoFar config history channel_log log 0 state []
 so_far_none config history channel_log log state s = (refl, channel_log, log, s, λ m h. refl)
 
 pub so_far_more : (config : Config) (history : List PlainEvent) (channel_log : List ChannelAct) (log : List Act) (n next : ℕ)
     (old new : State)
     (text : List ℕ)
     (first mid last : Option (List ℕ)) → next ≡ suc n → SoFar config history channel_log log n old text
-    → Appends first mid text
-    → ((h : List PlainEvent) (after : List ChannelAct) (now : List Act) → StandsBy old config h after now
+    → Appends first mid text → ((h : List PlainEvent) (after : List ChannelAct) (now : List Act) → StandsBy old config h after now
     → (line : List ℕ) × Appends mid last line × ShowsPort (port_of n) config h after now (Ok tt) new line)
     → (whole : List ℕ) × Appends first last whole × SoFar config history channel_log log next new whole
 so_far_more config history channel_log log n next old new text first mid last up (is, after, now, s, same) put shows =
@@ -149,8 +147,7 @@ so_far_skip config history channel_log log n next state text up within unused (i
 
 pub so_far_all : (config : Config) (history : List PlainEvent) (channel_log : List ChannelAct) (log : List Act) (n : ℕ) (new : State)
     (text : List ℕ)
-    → n ≡ 32
-    → SoFar config history channel_log log n new text → ShowsAll config history channel_log log (Ok tt) new text
+    → n ≡ 32 → SoFar config history channel_log log n new text → ShowsAll config history channel_log log (Ok tt) new text
 so_far_all config history channel_log log n new text up (is, after, now, s, same) = (
   is ∙ ap (λ (m : ℕ). lines_of channel_log (first_ports m) log) up,
   after,

@@ -37,10 +37,8 @@ replay_writes_lines : (did : Result Did Refused) (channel_log : List ChannelAct)
     (fault : Result ⊤ ReplayFault)
     (config : Config) (new : State) (head text : List ℕ)
     → did ≢ Err refused.NoMemory → ports_after did ≡ ports → head ≡ head_of did → IsWriteResult r fault
-    → ShowsAll config history channel_log log r new text
-    → (after : List PlainEvent) × (so : List ChannelAct) × (now : List Act)
-    × IsReplayWritten did channel_log log history fault (head ++ text) after
-    × StandsBy new config after so now
+    → ShowsAll config history channel_log log r new text → (after : List PlainEvent) × (so : List ChannelAct) × (now : List Act)
+    × IsReplayWritten did channel_log log history fault (head ++ text) after × StandsBy new config after so now
 replay_writes_lines did channel_log log history (Ok all) fault config new head text some shown is came (lines, so, now, stands) =
     (with_tooks channel_log ports log history, so, now, rw (came, is, lines, shown) (some, refl, refl), stands)
 replay_writes_lines did channel_log log history (Err e) fault config new head text some shown is came
@@ -63,8 +61,7 @@ replay_writes_lines did channel_log log history (Err e) fault config new head te
 pub replay_shown : (config : Config) (history : List PlainEvent) (event : PlainEvent) (did : Result Did Refused) (mid new : State)
     (head : List ℕ) (first put last : Option (List ℕ)) (r : Result ⊤ WriteFault)
     (fault : Result ⊤ ReplayFault) → did ≢ Err refused.NoMemory → ports_after did ≡ ports → head ≡ head_of did → IsWriteResult r fault
-    → (answers : AnswersNow config history event did)
-    → StandsFor mid config (history_after event did history) → Appends first put head
+    → (answers : AnswersNow config history event did) → StandsFor mid config (history_after event did history) → Appends first put head
     → ((h : List PlainEvent) (channel_log : List ChannelAct) (log : List Act) → StandsBy mid config h channel_log log
     → (text : List ℕ) × Appends put last text × ShowsAll config h channel_log log r new text)
     → Left config history event answers.0 did fault new first last
@@ -96,8 +93,7 @@ replay_shown config history event did mid new head first put last r fault some s
 pub replay_stopped : (config : Config) (history : List PlainEvent) (event : PlainEvent) (refusal : Refused) (mid : State)
     (first last : Option (List ℕ)) (e : WriteFault) (fault : Result ⊤ ReplayFault)
     → fault ≡ Err Write → (answers : AnswersNow config history event (Err refusal)) → StandsFor mid config history
-    → IsTakenByWriter first last (Err e) (refusal_line refusal)
-    → Left config history event answers.0 (Err refusal) fault mid first last
+    → IsTakenByWriter first last (Err e) (refusal_line refusal) → Left config history event answers.0 (Err refusal) fault mid first last
 replay_stopped config history event refusal mid first last e fault came answers s (part, front, begun) = (
   part,
   history,

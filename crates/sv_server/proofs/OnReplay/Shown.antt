@@ -55,8 +55,7 @@ took_of_all_allowed : (count : ℕ) (bytes : List ℕ) → count ≡ length byte
 took_of_all_allowed count bytes e = if_false (nat_lt (length bytes) count) _ _ (le-ltb (length bytes) count (omega arith))
 
 pub took_of_conn_allowed : (c count : ℕ) (config : Config) (channel_log : List ChannelAct) (log : List Act) → c ≤ 15
-    → is_open (of c log) ≡ true
-    → count ≡ length (waiting (of c log)) → refusal config channel_log (Took (Conn c) count) log ≡ None
+    → is_open (of c log) ≡ true → count ≡ length (waiting (of c log)) → refusal config channel_log (Took (Conn c) count) log ≡ None
 took_of_conn_allowed c count config channel_log log within o e =
     let shut : is_shut c log ≡ false = ap (λ (b : Bool). b || not (is_open (of c log))) (le-ltb 15 c within) ∙ ap not o in
     if_false (is_shut c log) _ _ shut ∙ took_of_all_allowed count (waiting (of c log)) e
@@ -83,8 +82,7 @@ took_is_applied : (event : PlainEvent) (config : Config) (channel_log : List Cha
     (result : Result Did Refused)
     (new : State)
     → IsPolled polled (device_acts log) → HearsOf (device_acts log) channel_log → refusal config channel_log event log ≡ None
-    → Acts config event log result new
-    → result ≢ Err NoMemory → Represents new config (own_acts config polled event log ++ log)
+    → Acts config event log result new → result ≢ Err NoMemory → Represents new config (own_acts config polled event log ++ log)
 took_is_applied event config channel_log log polled (Ok what) new said tells none (free_of, done, rep) other = rep polled said
 took_is_applied event config channel_log log polled (Err NoMemory) new said tells none h other = absurd (other refl)
 took_is_applied event config channel_log log polled (Err ConnInUse) new said tells none h other =
@@ -136,8 +134,7 @@ pub stands_after_took : (port : Port) (bytes : List ℕ) (config : Config) (hist
     (log : List Act)
     (old new : State) (result : Result Did Refused) → StandsBy old config history channel_log log
     → bytes ≡ waiting_on channel_log port log → 0 < length bytes → length bytes ≤ max_output
-    → Acts config (Took port (length bytes)) log result new
-    → StandsBy new config (with_took port (waiting_on channel_log port log) history)
+    → Acts config (Took port (length bytes)) log result new → StandsBy new config (with_took port (waiting_on channel_log port log) history)
     (told_with_took port (waiting_on channel_log port log) channel_log)
     (log_with_took port (waiting_on channel_log port log) log)
 stands_after_took (Intr c) bytes config history channel_log log old new result (is_log, rep, settled, tells) is some few acts =

@@ -53,8 +53,7 @@ refuse_refused config c log _ kept new open_now why = λ channel_log tells. rw o
 
 -- A Refuse that isn't refused answers the next call of the connection.
 pub refuse_done : (state : State) (config : Config) (log : List Act) (c : ℕ) (kept : Connection)
-    → Represents state config log → length state.connections ≡ 16 → c < 16 → is_shut c log ≡ false
-    → Refuses (of c log) (Ok tt) kept
+    → Represents state config log → length state.connections ≡ 16 → c < 16 → is_shut c log ≡ false → Refuses (of c log) (Ok tt) kept
     → Acts config (Refuse c) log (Ok Done) (record state { connections = set state.connections c kept })
 refuse_done state config log c kept rep sixteen lt open_now (none, bytes, call, next, known, mine) =
     let answered = Replied (refused_reply call) in

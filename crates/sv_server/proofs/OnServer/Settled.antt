@@ -12,8 +12,7 @@ use Rattle.sv_server.proofs.OnServer.Steps.{reaches_by_step, reaches_trans, sett
 abbrev pub SomeStepsTaken : State → State → Type 0
 SomeStepsTaken first now = (config : Config) (log : List Act) → Represents first config log → GoesTo config log (λ mid. ⊤) now
 
-pub then_one_step : (first mid now : State) → SomeStepsTaken first mid
-    → ((config : Config)
+pub then_one_step : (first mid now : State) → SomeStepsTaken first mid → ((config : Config)
     (log : List Act) → Represents mid config log → (next : List Act) × IsNext config log next × Represents now config next)
     → SomeStepsTaken first now
 then_one_step first mid now gone step = λ config log rep.
@@ -30,8 +29,7 @@ then_more_steps first mid now IsSo gone other = λ config log rep.
 
 -- One more step is taken, after which the claim holds because it holds for every log.
 pub then_last_step : (first mid now : State) (IsSo : Config → List Act → Type 0) → ((config : Config) (log : List Act) → IsSo config log)
-    → SomeStepsTaken first mid
-    → ((config : Config)
+    → SomeStepsTaken first mid → ((config : Config)
     (log : List Act) → Represents mid config log → (next : List Act) × IsNext config log next × Represents now config next)
     → (config : Config) (log : List Act) → Represents first config log → GoesTo config log (IsSo config) now
 then_last_step first mid now IsSo always gone step config log rep =

@@ -39,10 +39,8 @@ stands_acted config history event old new s is_event free settles =
     }
 
 stands_after : (config : Config) (history : List PlainEvent) (event : PlainEvent) (old mid new : State) (did : Did)
-    → StandsFor old config history → IsEvent event
-    → ((k : Config) (log : List Act) → Represents old k log → Acts k event log (Ok did) mid)
-    → ((k : Config) (log : List Act) → Represents mid k log → Settled k log new)
-    → StandsFor new config (event ∷ history)
+    → StandsFor old config history → IsEvent event → ((k : Config) (log : List Act) → Represents old k log → Acts k event log (Ok did) mid)
+    → ((k : Config) (log : List Act) → Represents mid k log → Settled k log new) → StandsFor new config (event ∷ history)
 stands_after config history event old mid new did s is_event acts settles =
     let (free, done, makes) = acts config s.log s.represents in
     stands_acted config history event old new s is_event free
@@ -59,8 +57,7 @@ quiet_settled config polled _ log quiet none = absurd cc
 
 stands_at_once : (config : Config) (history : List PlainEvent) (event : PlainEvent) (old mid : State) (did : Did)
     → is_quiet event ≡ true → StandsFor old config history → IsEvent event
-    → ((k : Config) (log : List Act) → Represents old k log → Acts k event log (Ok did) mid)
-    → StandsFor mid config (event ∷ history)
+    → ((k : Config) (log : List Act) → Represents old k log → Acts k event log (Ok did) mid) → StandsFor mid config (event ∷ history)
 stands_at_once config history event old mid did quiet s is_event acts =
     let (free, done, makes) = acts config s.log s.represents in
     let (polled, said) = polled_now old.device config (device_acts s.log) s.represents.device in

@@ -26,8 +26,7 @@ first_none A B one other x (inl a) = one x a
 first_none A B one other x (inr b) = other x b.1
 
 pub no_step_if_none_possible : {A B C D : List Act → Type 0} → ((x : List Act) → A x → ⊥) → ((x : List Act) → B x → ⊥)
-    → ((x : List Act) → C x → ⊥)
-    → ((x : List Act) → D x → ⊥) → (x : List Act) → First A (First B (First C D)) x → ⊥
+    → ((x : List Act) → C x → ⊥) → ((x : List Act) → D x → ⊥) → (x : List Act) → First A (First B (First C D)) x → ⊥
 no_step_if_none_possible {A} {B} {C} {D} a b c d = first_none A (First B (First C D)) a (first_none B (First C D) b (first_none C D c d))
 
 -- ---- sequences of steps

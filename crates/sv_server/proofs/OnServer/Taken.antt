@@ -48,8 +48,7 @@ taken_after_append log [] entry all one = (one, tt)
 taken_after_append log (first ∷ entries) entry all one = (all.0, taken_after_append log entries entry all.1 one)
 
 -- A call that isn't create_link waits again at its place in the queue.
-pub taken_anew : (c : ℕ) (wait : Wait) (deadline : Option ℕ) (log new : List Act) (entries : List Entry)
-    → ((d : ℕ) → of d new ≡ of d log)
+pub taken_anew : (c : ℕ) (wait : Wait) (deadline : Option ℕ) (log new : List Act) (entries : List Entry) → ((d : ℕ) → of d new ≡ of d log)
     → ((call : List ℕ) → pending_call (of c log) ≡ Some call → creates_link (core_call call) ≡ false)
     → AllByRecursion (IsTaken log) entries → AllByRecursion (IsTaken new) (map (anew c wait deadline) entries)
 taken_anew c wait deadline log new [] same other all = tt

@@ -6,8 +6,7 @@ use Rattle.sv_net.proofs.serving.sweep.Goals as goal
 
 -- The borrow of a driver ends before each of its parts does. This is a lemma because the prover's
 -- search takes long to split the list.
-ends_first : (κ network memory socket stream listener : Lft)
-    → κ ⊑ network → κ ⊑ memory → κ ⊑ socket → κ ⊑ stream → κ ⊑ listener
+ends_first : (κ network memory socket stream listener : Lft) → κ ⊑ network → κ ⊑ memory → κ ⊑ socket → κ ⊑ stream → κ ⊑ listener
     → κ ⊑ (network ++ (memory ++ (socket ++ (stream ++ (listener ++ [])))))
     ++ (network ++ ((((((((socket ++ []) ++ (socket ++ [])) ++ []) ++ ((((socket ++ []) ++ (socket ++ [])) ++ []) ++ []))
     ++ (memory ++ [])) ++ (memory ++ [])) ++ [])))

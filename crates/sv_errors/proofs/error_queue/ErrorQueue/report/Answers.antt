@@ -24,8 +24,7 @@ reported capacity queue code acts size room stands =
 
 -- The queue is full.
 overflowed : (capacity : ℕ) (queue : Queue) (code : Code) (acts : List QueueAct) (count : ℕ) → capacity ≡ most
-    → length queue.codes ≡ most → count ≡ min (queue.lost_count + 1) most_lost → StandsFor queue acts
-    → StandsFor (record {
+    → length queue.codes ≡ most → count ≡ min (queue.lost_count + 1) most_lost → StandsFor queue acts → StandsFor (record {
       codes = keep_last capacity (take (length queue.codes - 1) queue.codes ++ QueueOverflow ∷ []);
       lost_count = count;
     }) (Report code ∷ acts)

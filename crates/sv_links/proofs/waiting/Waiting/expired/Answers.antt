@@ -13,8 +13,7 @@ use Rattle.sv_links.proofs.waiting.Waiting.expired.Given as given
 abbrev passes : ℕ → Entry → Bool
 passes clock entry = is_past clock entry.deadline
 
-result_is : (g : given.Over) (c : goal.After-copied g)
-    → c.copied.result ≡ find (passes c.args.clock) c.self.inside.entries.items
+result_is : (g : given.Over) (c : goal.After-copied g) → c.copied.result ≡ find (passes c.args.clock) c.self.inside.entries.items
 result_is g c = c.copied.ensures
     ∙ find_from_yields_List {all = c.self.inside.entries.items} (passes c.args.clock) _ _ c.find.result c.find.ensures.ran
     (YieldsList-from_slice _ cc) (λ x b q k. search (rules, tests))

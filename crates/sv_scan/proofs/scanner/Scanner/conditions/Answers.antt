@@ -19,8 +19,7 @@ returns-clause-questionable g c acts is =
 limit_is : (log : List ScanAct) (word : ℕ) (limits_now below above outside : Bool) (lower_now upper_now : ℤ) (last : Option Reading)
     → word ≡ bit 0 (limits_now && below) + bit 1 (limits_now && above) + bit 2 (limits_now && outside)
     → limits_now ≡ limits log → lower_now ≡ lower log → upper_now ≡ upper log → last ≡ last_reading log
-    → below ≡ is_below last lower_now → above ≡ is_above last upper_now → outside ≡ is_outside log
-    → word ≡ limit log
+    → below ≡ is_below last lower_now → above ≡ is_above last upper_now → outside ≡ is_outside log → word ≡ limit log
 limit_is log word limits_now below above outside lower_now upper_now last word_is limits_are lower_is upper_is last_is low high out =
     rw (word_is, low, high, out, last_is, limits_are, lower_is, upper_is) refl
 

@@ -6,8 +6,7 @@ use Rattle.sv_history.specs.Act.{wait_acts, instrument_acts}
 use Rattle.sv_server.proofs.device.Device.is_still.Goals as goal
 
 unhurried : (clock : ℕ) (acts : List WaitAct) (found : Option Entry) (none : Bool) → is_some found ≡ not none
-    → IsOldest acts (IsExpired clock acts) (option_map (λ entry. entry.conn) found)
-    → (none ≡ true) ↔ ((c : ℕ) → IsExpired clock acts c → ⊥)
+    → IsOldest acts (IsExpired clock acts) (option_map (λ entry. entry.conn) found) → (none ≡ true) ↔ ((c : ℕ) → IsExpired clock acts c → ⊥)
 unhurried clock acts None true same oldest = ((λ e. oldest), (λ h. refl))
 unhurried clock acts None false same oldest = absurd cc
 unhurried clock acts (Some entry) true same oldest = absurd cc

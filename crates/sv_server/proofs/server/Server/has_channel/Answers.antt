@@ -4,8 +4,7 @@ use Rattle.sv_history.specs.declared.event.Refused.{Refused}
 use Rattle.sv_history.specs.declared.event.Refused.TheVariants.{NoConn}
 use Rattle.sv_server.proofs.server.Server.has_channel.Goals as goal
 
-ok_told : {A : Type 0} (r : Result A Refused) (b : Bool)
-    → MatchResult r (λ a. b ≡ false) (λ e. (e ≡ NoConn) × (b ≡ true)) → is_ok r ≡ not b
+ok_told : {A : Type 0} (r : Result A Refused) (b : Bool) → MatchResult r (λ a. b ≡ false) (λ e. (e ≡ NoConn) × (b ≡ true)) → is_ok r ≡ not b
 ok_told (Ok a) b is = sym (ap not is)
 ok_told (Err e) b is = sym (ap not is.1)
 
