@@ -8,7 +8,7 @@ ghost use Rattle.std.specs.Prelude.{IfSome};
 ghost use Rattle.sv_replay.specs.Entry.{IsAccepted};
 
 use crate::client::Client;
-use crate::door::Door;
+use crate::listener::Listener;
 use crate::stream::Stream;
 use mio::event::Event as Report;
 use mio::net::TcpStream;
@@ -29,7 +29,7 @@ const CLIENTS: usize = 4;
 #[derive(Drop)]
 pub struct Control<A: Allocator = Global, S: Stream = TcpStream> {
     registry: Registry,
-    door: Door,
+    listener: Listener,
     clients: Vec<Option<Client<S>>, A>,
     /// The place of the client that is served next.
     next: usize,
@@ -73,11 +73,11 @@ impl<A: Allocator, S: Stream> Control<A, S> {
         port: u16,
     ) -> io::Result<Control<A, S>> {
         let registry = poll.registry().try_clone()?;
-        let door = Door::listen(network, port, &registry, Token(FIRST))?;
+        let listener = Listener::listen(network, port, &registry, Token(FIRST))?;
         let clients = no_clients(alloc)?;
         Ok(Control {
             registry,
-            door,
+            listener,
             clients,
             next: 0,
         })
@@ -87,7 +87,7 @@ impl<A: Allocator, S: Stream> Control<A, S> {
     pub(crate) fn report(&self, event: &Report) {
         let Token(number) = event.token();
         if number == FIRST {
-            self.door.report();
+            self.listener.report();
         } else if number > FIRST {
             if let Some(Some(client)) = self.clients.get(number - FIRST - 1) {
                 client.report(event);
@@ -97,7 +97,7 @@ impl<A: Allocator, S: Stream> Control<A, S> {
 
     /// Accepts a client, if one connects. If no place is free, drops the client.
     fn accept(&mut self) {
-        let Answer::Got(stream) = self.door.accept() else {
+        let Answer::Got(stream) = self.listener.accept() else {
             return;
         };
         let Some(free) = self.clients.iter().position(|place| place.is_none()) else {
@@ -141,7 +141,7 @@ impl<A: Allocator, S: Stream> Control<A, S> {
     /// Whether [`stimulus`](Control::stimulus) has something to do even if no report comes.
     pub(crate) fn is_busy(&self) -> bool {
         let clients = &self.clients;
-        self.door.is_waiting()
+        self.listener.is_waiting()
             || clients.iter().any(|place| match place {
                 Some(client) => client.is_busy(),
                 None => false,
@@ -151,10 +151,10 @@ impl<A: Allocator, S: Stream> Control<A, S> {
     /// Returns how long to wait at most: as long as `limit` says, or less if an accept failed and
     /// the next one is due before that.
     pub(crate) fn limit(&self, limit: Option<Duration>) -> Option<Duration> {
-        if !self.door.is_knocked() {
+        if !self.listener.is_readable() {
             return limit;
         }
-        let patience = Duration::from_millis(u64::from(self.door.patience()));
+        let patience = Duration::from_millis(u64::from(self.listener.patience()));
         match limit {
             Some(limit) => Some(limit.min(patience)),
             None => Some(patience),

@@ -8,7 +8,7 @@
 mod buffer;
 mod client;
 mod control;
-mod door;
+mod listener;
 mod fault;
 pub mod laws;
 mod machine;

@@ -4,7 +4,7 @@ ghost use Rattle.std.specs.Prelude.{◌≡◌, ◌<◌, ◌≤◌, Some, None, O
 ghost use Rattle.sv_serve.specs.Heard.{IsWithin, bytes_of};
 ghost use Rattle.sv_net.specs.Sockets.{socket_number, Gives, Skips, Takes, Does};
 
-use crate::door::Door;
+use crate::listener::Listener;
 use crate::socket::Socket;
 use crate::stream::Stream;
 use mio::event::Event;
@@ -30,7 +30,7 @@ const SOCKETS: usize = 32;
 pub struct Net<N: Network + Drop, A: Allocator = Global, S: Stream = TcpStream> {
     network: N,
     registry: Registry,
-    doors: [Door; 3],
+    listeners: [Listener; 3],
     sockets: Vec<Option<Socket<S>>, A>,
 }
 
@@ -43,7 +43,7 @@ impl<N: Network + Drop, A: Allocator, S: Stream> Model for Net<N, A, S> {
 }
 
 /// Returns the index of the socket that listens for connections of this role.
-fn door_number(role: Role) -> usize
+fn listener_number(role: Role) -> usize
     ensures { result < 3 }
 {
     match role {
@@ -99,16 +99,16 @@ fn write_at<S: Stream>(place: &mut Option<Socket<S>>, bytes: &[u8]) -> Answer<us
 
 /// Listens on three ports, and registers the three sockets for the system's reports. Their tokens
 /// follow those of the sockets of connections and interrupt channels.
-fn open_doors(
+fn open_listeners(
     network: &impl Network,
     registry: &Registry,
     ports: [u16; 3],
-) -> io::Result<[Door; 3]> {
+) -> io::Result<[Listener; 3]> {
     let [core, abort, portmap] = ports;
     Ok([
-        Door::listen(network, core, registry, Token(SOCKETS))?,
-        Door::listen(network, abort, registry, Token(SOCKETS + 1))?,
-        Door::listen(network, portmap, registry, Token(SOCKETS + 2))?,
+        Listener::listen(network, core, registry, Token(SOCKETS))?,
+        Listener::listen(network, abort, registry, Token(SOCKETS + 1))?,
+        Listener::listen(network, portmap, registry, Token(SOCKETS + 2))?,
     ])
 }
 
@@ -137,12 +137,12 @@ impl<N: Network + Drop, A: Allocator, S: Stream> Net<N, A, S> {
         ensures { IfOk result (λ net. net ≡ replicate 32 None) }
     {
         let registry = poll.registry().try_clone()?;
-        let doors = open_doors(&network, &registry, ports)?;
+        let listeners = open_listeners(&network, &registry, ports)?;
         let sockets = no_sockets(alloc)?;
         Ok(Net {
             network,
             registry,
-            doors,
+            listeners,
             sockets,
         })
     }
@@ -153,27 +153,29 @@ impl<N: Network + Drop, A: Allocator, S: Stream> Net<N, A, S> {
         match self.sockets.get(number) {
             Some(Some(socket)) => socket.report(event),
             Some(None) => {}
-            None => self.report_door(number),
+            None => self.report_listener(number),
         }
     }
 
     /// Records a report of the system about the listening socket with this token's number.
-    fn report_door(&self, number: usize) {
-        if let Some(door) = self.doors.get(number.saturating_sub(SOCKETS)) {
-            door.report();
+    fn report_listener(&self, number: usize) {
+        if let Some(listener) = self.listeners.get(number.saturating_sub(SOCKETS)) {
+            listener.report();
         }
     }
 
     /// Whether an accept is due at once on at least one port: a connection might be waiting to be
     /// accepted on this port, and the last accept on it didn't fail.
     pub(crate) fn is_accept_due(&self) -> bool {
-        self.doors[0].is_waiting() | self.doors[1].is_waiting() | self.doors[2].is_waiting()
+        let [core, abort, portmap] = &self.listeners;
+        core.is_waiting() | abort.is_waiting() | portmap.is_waiting()
     }
 
     /// Whether a connection might be waiting to be accepted on at least one port. A failed accept
     /// doesn't make this false.
-    pub(crate) fn is_knocked(&self) -> bool {
-        self.doors[0].is_knocked() | self.doors[1].is_knocked() | self.doors[2].is_knocked()
+    pub(crate) fn is_readable(&self) -> bool {
+        let [core, abort, portmap] = &self.listeners;
+        core.is_readable() | abort.is_readable() | portmap.is_readable()
     }
 
     /// Returns how many milliseconds the server may sleep before the next accept is due; at most
@@ -181,7 +183,7 @@ impl<N: Network + Drop, A: Allocator, S: Stream> Net<N, A, S> {
     pub(crate) fn patience(&self) -> u32
         ensures { result ≤ 100 }
     {
-        let [core, abort, portmap] = &self.doors;
+        let [core, abort, portmap] = &self.listeners;
         core.patience()
             .min(abort.patience())
             .min(portmap.patience())
@@ -217,7 +219,7 @@ impl<N: Network + Drop, A: Allocator, S: Stream> Wire for Net<N, A, S> {
     ghost hears = { Hears S.remaining S.contents };
 
     fn accept(&mut self, role: Role, conn: Option<u8>) -> Answer<()> {
-        match (self.doors[door_number(role)].accept(), conn) {
+        match (self.listeners[listener_number(role)].accept(), conn) {
             (Answer::Got(stream), Some(conn)) => {
                 let socket = Socket::connected(S::accepted(stream));
                 match self.keep(Port::Conn(conn), socket) {

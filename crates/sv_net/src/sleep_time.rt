@@ -63,8 +63,8 @@ pub(crate) fn sleep_time<N: Network + Drop, A: Allocator, S: Stream, J: Journal 
 ) -> Option<Duration>
     ensures { MaySleep left pace.now.swept now result driver.now }
 {
-    let knocked = driver.wire().is_knocked();
-    if left > FEW && !knocked && driver.is_played() && is_idle(driver, u32::MAX) {
+    let readable = driver.wire().is_readable();
+    if left > FEW && !readable && driver.is_played() && is_idle(driver, u32::MAX) {
         return None;
     }
     Some(Duration::from_nanos(pace.sleep_time(now, longest(driver))))

@@ -22,14 +22,14 @@ impl<W: Wire + Drop, A: Allocator, J: Journal + Drop> Driver<W, A, J> {
     pub(crate) fn accept(&mut self, role: Role)
         ensures { Steps J.notes (Accepts W.hears role) self.old self.new }
     {
-        let conn = self.lowest();
-        let answer = self.greet(role, conn);
+        let conn = self.free_number();
+        let answer = self.accept_from_wire(role, conn);
         self.open(role, conn, answer);
     }
 
     /// Tells the wire to accept a connection under the number `conn`; or, if `conn` is `None`, to
     /// accept a connection and drop it.
-    fn greet(&mut self, role: Role, conn: Option<u8>) -> Answer<()>
+    fn accept_from_wire(&mut self, role: Role, conn: Option<u8>) -> Answer<()>
         ensures { Steps J.notes (Hears W.hears (WasAccepted role conn result)) self.old self.new }
     {
         self.wire.accept(role, conn)
@@ -37,7 +37,7 @@ impl<W: Wire + Drop, A: Allocator, J: Journal + Drop> Driver<W, A, J> {
 
     /// Returns the lowest number from 0 to 15 that no open connection has; `None` if all are in
     /// use.
-    fn lowest(&self) -> Option<u8>
+    fn free_number(&self) -> Option<u8>
         ensures { (config : Config) (history : List PlainEvent)
             → StandsFor self.now.server config history
             → IsLowest result config (driver_view self.now history) }

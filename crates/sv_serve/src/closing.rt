@@ -24,21 +24,21 @@ impl<W: Wire + Drop, A: Allocator, J: Journal + Drop> Driver<W, A, J> {
         match self.dials[usize::from(conn)] {
             None => {}
             Some(_) => {
-                self.shut(Port::Intr(conn));
-                self.forget(conn);
+                self.close_socket(Port::Intr(conn));
+                self.forget_dial(conn);
             }
         }
     }
 
     /// Tells the wire to close the socket of a port.
-    fn shut(&mut self, port: Port)
+    fn close_socket(&mut self, port: Port)
         ensures { Steps J.notes (Hears W.hears (WasClosed port)) self.old self.new }
     {
         self.wire.close(port);
     }
 
     /// Records that no peer is dialed for the interrupt channel of a connection.
-    fn forget(&mut self, conn: u8)
+    fn forget_dial(&mut self, conn: u8)
         requires { conn < 16 }
         ensures { Steps J.notes (Remembers conn None) self.old self.new }
     {
@@ -53,7 +53,7 @@ impl<W: Wire + Drop, A: Allocator, J: Journal + Drop> Driver<W, A, J> {
             (Conn conn) config at true)
             (Closes W.hears conn) self.old self.new }
     {
-        self.shut(Port::Conn(conn));
+        self.close_socket(Port::Conn(conn));
         self.close_channel(conn);
         let port = Port::Conn(conn);
         self.apply(Event::Close { port });

@@ -146,10 +146,10 @@ impl<W: Wire + Drop, A: Allocator, J: Journal + Drop> Driver<W, A, J> {
     {
         match answer {
             Answer::Got(()) => {
-                self.remember(conn, dial);
+                self.record_dial(conn, dial);
                 self.apply(Event::Dialed { conn, ok: true });
             }
-            Answer::Pending => self.remember(conn, dial),
+            Answer::Pending => self.record_dial(conn, dial),
             Answer::Failed => {
                 self.apply(Event::Dialed { conn, ok: false });
             }
@@ -157,7 +157,7 @@ impl<W: Wire + Drop, A: Allocator, J: Journal + Drop> Driver<W, A, J> {
     }
 
     /// Records which peer was dialed for the interrupt channel of a connection.
-    fn remember(&mut self, conn: u8, dial: Dial)
+    fn record_dial(&mut self, conn: u8, dial: Dial)
         requires { conn < 16 }
         ensures { Steps J.notes (Remembers conn (Some dial)) self.old self.new }
     {

@@ -48,12 +48,12 @@ impl<W: Wire + Drop, A: Allocator, J: Journal + Drop> Driver<W, A, J> {
             return;
         }
         let answer = self.wire.write(port, bytes);
-        self.leave(port, answer);
+        self.record_write(port, answer);
     }
 
     /// Tells the server how many bytes the wire took; the server drops these bytes. If the write
     /// failed, closes the port.
-    fn leave(&mut self, port: Port, answer: Answer<usize>)
+    fn record_write(&mut self, port: Port, answer: Answer<usize>)
         requires number { port_number port < 16 }
         requires counted { (n : ℕ) → answer ≡ Answer.Got n → n < 4294967296 }
         ensures { From J.notes (Handed port answer)

@@ -5,9 +5,9 @@ use Rattle.sv_serve.proofs.driver.Driver.accept.Goals as goal
 
 pub returns : goal.returns
 returns g c = λ first config history stands.
-    let low = c.lowest-conn.ensures config history stands.0 in
-    let (h0, s0, p0) = c.greet-answer.ensures _ config history stands in
-    let still = still_lowest c.lowest-conn.result config (driver_view c.args.self.now history) (driver_view c.greet-answer.new.self h0)
+    let low = c.free_number-conn.ensures config history stands.0 in
+    let (h0, s0, p0) = c.accept_from_wire-answer.ensures _ config history stands in
+    let still = still_lowest c.free_number-conn.result config (driver_view c.args.self.now history) (driver_view c.accept_from_wire-answer.new.self h0)
     (ap (λ m. m.history) p0.2) low in
     let (h1, s1, p1) = c.«open».ensures _ config h0 s0 still in
-    (h1, s1, (c.lowest-conn.result, c.greet-answer.result, low, (driver_view c.greet-answer.new.self h0, p0, p1)))
+    (h1, s1, (c.free_number-conn.result, c.accept_from_wire-answer.result, low, (driver_view c.accept_from_wire-answer.new.self h0, p0, p1)))

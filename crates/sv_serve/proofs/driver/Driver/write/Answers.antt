@@ -16,7 +16,7 @@ returns-then-is_empty g c = λ first config history stands. (
 pub returns : goal.returns
 returns g c = rw (← c.self.view_is) (λ first config history stands.
     let waits = c.waiting-bytes.ensures.waiting config history stands.0 in
-    let (h0, s0, p0) = c.leave.ensures _ config history stands
+    let (h0, s0, p0) = c.record_write.ensures _ config history stands
     (c.waiting-bytes.result.now, waits, search rules, c.write-answer.ensures.within) in (
       h0,
       s0,

@@ -3,7 +3,7 @@ use Rattle.sv_history.specs.Event.{Close}
 use Rattle.sv_serve.specs.DriverView.{driver_view}
 use Rattle.sv_serve.proofs.Suited.{took_suits, channel_suits, handed_means_open, closes_channel_same_history, still_suited}
 use Rattle.sv_serve.proofs.Branches.{write_failed}
-use Rattle.sv_serve.proofs.driver.Driver.leave.Goals as goal
+use Rattle.sv_serve.proofs.driver.Driver.record_write.Goals as goal
 
 pub returns-in-Got-default : goal.returns-in-Got-default
 returns-in-Got-default g c = λ first config history stands handed.

@@ -4,7 +4,7 @@ use Rattle.sv_history.specs.declared.event.Port.TheVariants.{Conn}
 use Rattle.std.specs.Prelude.{true}
 use Rattle.sv_serve.specs.Asked.{IsOpen}
 use Rattle.sv_serve.proofs.Joined.{below_one_more}
-use Rattle.sv_serve.proofs.driver.Driver.lowest.Goals as goal
+use Rattle.sv_serve.proofs.driver.Driver.free_number.Goals as goal
 
 pub loop-conn-preserved : goal.loop-conn-preserved
 loop-conn-preserved g c = λ config history stands.

@@ -12,15 +12,15 @@ use sv_serve::Answer;
 
 /// A listening socket, and whether connections might be waiting to be accepted.
 #[derive(Drop)]
-pub(crate) struct Door {
+pub(crate) struct Listener {
     listener: TcpListener,
     /// Connections might be waiting to be accepted.
-    knocked: Cell<bool>,
+    readable: Cell<bool>,
     /// How many milliseconds to wait before the next accept, if the last accept failed; else 0.
     delay: Cell<u32>,
 }
 
-impl Door {
+impl Listener {
     /// Listens on a port of 127.0.0.1, and registers the socket for the system's reports. Each
     /// report about the socket then has this token.
     pub(crate) fn listen(
@@ -28,13 +28,13 @@ impl Door {
         port: u16,
         registry: &Registry,
         token: Token,
-    ) -> io::Result<Door> {
+    ) -> io::Result<Listener> {
         let addr = SocketAddr::V4(SocketAddrV4::new(Ipv4Addr::LOCALHOST, port));
         let mut listener = TcpListener::bind(network, addr)?;
         registry.register(&mut listener, token, Interest::READABLE)?;
-        Ok(Door {
+        Ok(Listener {
             listener,
-            knocked: Cell::new(false),
+            readable: Cell::new(false),
             delay: Cell::new(0),
         })
     }
@@ -42,18 +42,18 @@ impl Door {
     /// Records a report of the system about the socket: connections might be waiting to be
     /// accepted.
     pub(crate) fn report(&self) {
-        self.knocked.set(true);
+        self.readable.set(true);
     }
 
     /// Whether a connection might be waiting to be accepted.
-    pub(crate) fn is_knocked(&self) -> bool {
-        self.knocked.get()
+    pub(crate) fn is_readable(&self) -> bool {
+        self.readable.get()
     }
 
     /// Whether the next accept is due at once: a connection might be waiting to be accepted, and
     /// the last accept didn't fail.
     pub(crate) fn is_waiting(&self) -> bool {
-        self.knocked.get() & (self.delay.get() == 0)
+        self.readable.get() & (self.delay.get() == 0)
     }
 
     /// Returns how many milliseconds to sleep at most before the next accept. This is 100 if it is
@@ -62,7 +62,7 @@ impl Door {
     pub(crate) fn patience(&self) -> u32
         ensures { result ≤ 100 }
     {
-        if self.knocked.get() {
+        if self.readable.get() {
             self.delay.get().max(1).min(STILL)
         } else {
             STILL
@@ -71,7 +71,7 @@ impl Door {
 
     /// Accepts a connection, if one might be waiting.
     pub(crate) fn accept(&self) -> Answer<TcpStream> {
-        if !self.knocked.get() {
+        if !self.readable.get() {
             return Answer::Pending;
         }
         match self.listener.accept() {
@@ -87,7 +87,7 @@ impl Door {
     fn refused(&self, kind: ErrorKind) -> Answer<TcpStream> {
         match kind {
             ErrorKind::WouldBlock => {
-                self.knocked.set(false);
+                self.readable.set(false);
                 Answer::Pending
             }
             ErrorKind::Interrupted => Answer::Pending,

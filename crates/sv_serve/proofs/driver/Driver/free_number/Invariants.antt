@@ -6,7 +6,7 @@ use Rattle.sv_history.specs.Event.{PlainEvent}
 use Rattle.sv_server.specs.Server.State.{StandsFor}
 use Rattle.sv_serve.specs.Asked.{IsOpen}
 use Rattle.sv_serve.specs.DriverView.{driver_view}
-use Rattle.sv_serve.proofs.driver.Driver.lowest.Given as goal
+use Rattle.sv_serve.proofs.driver.Driver.free_number.Given as goal
 
 -- Each connection below this number is open.
 abbrev pub invariant-loop-conn : goal.invariant-loop-conn
