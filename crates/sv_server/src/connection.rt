@@ -16,8 +16,9 @@ ghost use Rattle.sv_server.specs.Connection.Inside.Replies.{answer_bytes, IsShor
 pub mod reply;
 pub mod request;
 
-use crate::connection::reply::{Answer, LONGEST_REPLY, put_reply};
+use crate::connection::reply::{LONGEST_REPLY, put_reply};
 use crate::connection::request::{CoreCall, core_call};
+use crate::outcome::Answer;
 use std::alloc::{AllocError, Allocator};
 use std::marker::Model;
 use sv_bytes::drop_front;

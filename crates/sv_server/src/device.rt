@@ -25,8 +25,8 @@ ghost use Rattle.sv_server.specs.Device.Representation.{IsDevice, HasDone};
 
 pub mod abort_channel;
 pub mod admission;
+pub mod admitted;
 mod arguments;
-pub mod call_outcome;
 mod core_channel;
 pub mod error_results;
 mod interrupts;

@@ -3,13 +3,14 @@
 //! The server has four parts, and the first file of each says what the part does. [`device`] is
 //! what all connections share, [`connection`] is one connection, [`server`] joins both, and
 //! [`replay`] prints. `device` and `connection` don't use each other; both use [`conn`], the number
-//! of a connection. The crate `sv_history` specifies what the server has to do.
+//! of a connection. What comes of a call is an [`outcome`]. The crate `sv_history` specifies what the server has to do.
 #![tactic(auto)]
 
 mod conn;
 mod connection;
 mod device;
 mod explain;
+mod outcome;
 mod replay;
 mod server;
 

@@ -31,7 +31,7 @@ use crate::device::Device;
 use crate::server::input_check::may_input;
 use crate::server::refusing::refuse;
 use crate::server::settling::is_quiet;
-use crate::server::turn::{Turned, turn};
+use crate::server::turn::turn;
 use std::alloc::{AllocError, Allocator, Global};
 use std::marker::Model;
 use sv_history::{Config, Did, Event, Port, Refused, Role};
@@ -346,13 +346,9 @@ impl<A: Allocator> Server<A> {
     {
         let (conn, role) = self.open_connection(conn)?;
         let connection = &mut self.connections[conn.index()];
-        match turn(connection, &mut self.device, conn, role)? {
-            Turned::Idle => Ok(Did::Idle),
-            Turned::Done { aborts } => {
-                self.abort(aborts);
-                Ok(Did::Done)
-            }
-        }
+        let (did, aborted) = turn(connection, &mut self.device, conn, role)?;
+        self.abort(aborted);
+        Ok(did)
     }
 
     /// Takes the next call of a connection, and answers it with error 9 (out of resources) without
@@ -368,15 +364,15 @@ impl<A: Allocator> Server<A> {
         Ok(Did::Done)
     }
 
-    /// Ends the suspended call of connection `aborts`, because a device_abort aborts that call.
-    /// Does nothing if `aborts` is `None`.
-    fn abort(&mut self, aborts: Option<u8>)
+    /// Ends the suspended call of connection `aborted`, because a device_abort aborts that call.
+    /// Does nothing if `aborted` is `None`.
+    fn abort(&mut self, aborted: Option<u8>)
         ensures { (config : Config) (log : List Act) → Represents self.old config log
-            → ((conn : ℕ) → aborts ≡ Some conn → waits conn (wait_acts (device_acts log)) ≡ None
+            → ((conn : ℕ) → aborted ≡ Some conn → waits conn (wait_acts (device_acts log)) ≡ None
             → ⊥)
-            → Represents self.new config (abort_acts aborts log ++ log) }
+            → Represents self.new config (abort_acts aborted log ++ log) }
     {
-        let Some(number) = aborts else {
+        let Some(number) = aborted else {
             return;
         };
         if let Some(conn) = Conn::new(number) {

@@ -12,8 +12,8 @@ use Rattle.sv_xdr.proofs.Whole.{room_left, whole_is_written}
 use Rattle.sv_rpc.specs.declared.reply.Reply.{Reply}
 use Rattle.sv_rpc.specs.declared.reply.Reply.TheVariants.{Success}
 use Rattle.sv_rpc.specs.Reply.{reply_fields}
-use Rattle.sv_server.specs.declared.connection.reply.Answer.{Answer}
-use Rattle.sv_server.specs.declared.connection.reply.Answer.TheVariants as answers
+use Rattle.sv_server.specs.declared.outcome.Answer.{Answer}
+use Rattle.sv_server.specs.declared.outcome.Answer.TheVariants as answers
 use Rattle.sv_server.specs.Connection.Inside.Replies.{HasAtMost, answer_text}
 use Rattle.sv_vxi.specs.Results.{Outcome, plain_result, Read, Data, result_fields, data_of}
 

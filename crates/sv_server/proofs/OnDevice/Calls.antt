@@ -1,7 +1,8 @@
 -- What a write and a read add, where they are done.
-use Rattle.std.proofs.Common.{◌≡◌, ℕ, ◌==◌, Bool, true, false, List, ◌∷◌, ◌++◌, length, nat_lt, sym, subst}
+use Rattle.std.proofs.Common.{◌≡◌, ℕ, ◌==◌, Bool, true, false, cond, List, ◌∷◌, ◌++◌, length, nat_lt, refl, sym, subst}
 use Rattle.std.specs.Int.{bit_at}
-use Rattle.std.specs.Prelude.{Option}
+use Rattle.std.specs.Prelude.{Option, Some, None}
+use Rattle.sv_links.specs.declared.waiting.Wait.{Wait}
 use Rattle.sv_errors.specs.declared.code.Code.TheVariants.{QueryUnterminated}
 use Rattle.sv_vxi.specs.declared.error_code.ErrorCode.TheVariants.{NoError, IoTimeout}
 use Rattle.sv_vxi.specs.Results.{Outcome as VxiOutcome, Size}
@@ -15,6 +16,15 @@ use Rattle.sv_history.specs.CoreCall.{no_bytes}
 use Rattle.sv_history.specs.CoreChannel.{device_write, device_read}
 use Rattle.sv_server.specs.Device.Representation.{IsDevice, Device}
 use Rattle.sv_server.specs.Device.Inside.Outcome.{IsResult}
+
+-- A write that needn't wait finds no message that has ended; a read that needn't wait can be answered.
+pub unended_of : (wait : Wait × ℕ) (b : Bool) → cond b (Some wait) None ≡ None → b ≡ false
+unended_of wait true e = absurd cc
+unended_of wait false e = refl
+
+pub answerable_of : (wait : Wait × ℕ) (b : Bool) → cond b None (Some wait) ≡ None → b ≡ true
+answerable_of wait true e = refl
+answerable_of wait false e = absurd cc
 
 pub written_ends : (config : Config) (acts : List DeviceAct) (new : Device) (flags : ℕ) (bytes : List ℕ) (ended : Bool)
     (encoded : VxiOutcome)

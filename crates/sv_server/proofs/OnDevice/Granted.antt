@@ -1,7 +1,7 @@
 -- What is known of a call by its arguments and by what stops it.
 use Rattle.std.proofs.Common.{◌≡◌, ℕ, ◌<◌, ◌&&◌, Bool, true, false, cond, suc, List, [], ◌∷◌, nat_lt, Option, Some, None, refl, sym, ap, subst, ◌∙◌, arith}
 use Rattle.std.specs.Prelude.{ℤ, pos, negsuc, not, ◌||◌, is_none, is_some, option_map, Result, Ok, Err, IfOk, OnOk, OnErr, ◌==◌}
-use Rattle.sv_vxi.specs.declared.error_code.ErrorCode.TheVariants.{InvalidLink, ParameterError, NotAccessible, NotSupported, OutOfResources, InvalidAddress}
+use Rattle.sv_vxi.specs.declared.error_code.ErrorCode.TheVariants.{InvalidLink, ParameterError, IoTimeout, NotAccessible, NotSupported, OutOfResources, InvalidAddress}
 use Rattle.sv_vxi.specs.declared.error_code.ErrorCode.TheVariants.{Locked as DeviceLocked}
 use Rattle.sv_vxi.specs.declared.arguments.LockWait.{LockWait}
 use Rattle.sv_vxi.specs.Arguments.{LinkCall, DeviceWrite, DeviceRead, Arguments, CreateLink, OnLink, CreateIntrChan, DestroyIntrChan, link, lock_wait, is_create_link}
@@ -20,10 +20,14 @@ use Rattle.sv_history.specs.CoreChannel.{owns, make_link, link_call, own_call}
 use Rattle.sv_history.specs.Admission.{Stop, Fails, Awaits, lock_stop, device_wait, may_make_more, channel_stop, stop_of, admission}
 use Rattle.sv_history.specs.History.{wants_memory}
 use Rattle.sv_server.specs.Device.Representation.{Device, IsDevice, HasPlace}
-use Rattle.sv_server.specs.Device.Inside.Outcome.{IsGranted, MayMake, Admits, AdmitsAt}
-use Rattle.sv_server.specs.declared.device.call_outcome.CallOutcome.{CallOutcome as Outcome}
-use Rattle.sv_exchange.specs.Exchange.{has_ended}
+use Rattle.sv_server.specs.Device.Inside.Outcome.{IsReadyFor, CanExecute, IsCall, IsFree, NeedsNoWait, IsGranted, MayMake, Admits, AdmitsAt, executed, makes_link}
+use Rattle.sv_server.specs.declared.outcome.Outcome.{Outcome}
+use Rattle.sv_server.specs.declared.device.admitted.Admitted.{Admitted}
+use Rattle.sv_server.specs.declared.device.admitted.Admitted.TheVariants as admitted
+use Rattle.sv_vxi.specs.Reading.{plain_call}
+use Rattle.sv_exchange.specs.Exchange.{has_ended, response, is_something}
 use Rattle.sv_instrument.specs.Step.{is_answerable}
+use Rattle.sv_instrument.specs.Representation.{Kept}
 
 pub both_true : (a b : Bool) → (a && b) ≡ true → (a ≡ true) × (b ≡ true)
 both_true true true e = (refl, refl)
@@ -164,22 +168,118 @@ dials c (OnLink lid call) acts until e = absurd (dial_never (owns c (lid_of (Som
     (option_map (λ (wait : Wait × ℕ). Awaits wait.0 (Some wait.1)) (device_wait call acts)) until (device_never call acts until) e)
 dials c DestroyIntrChan acts until e = absurd cc
 
--- ---- a call on a link
+-- ---- a call that is executed
 
 some_number : (a b : ℕ) → Some a ≡ Some b → a ≡ b
 some_number a b e = cc
 
--- one whose link has a number is done with it
-pub own_numbered : (config : Config) (polled c n : ℕ) (lid : ℤ) (call : LinkCall) (acts : List DeviceAct) → Some n ≡ lid_of (Some lid)
-    → own_call config polled c (OnLink lid call) acts ≡ link_call polled c n call acts
-own_numbered config polled c n (pos m) call acts e = ap (λ (k : ℕ). link_call polled c k call acts) (sym (some_number n m e))
-own_numbered config polled c n (negsuc m) call acts e = absurd cc
+-- The number by which a call names a link is that of the link.
+pub link_numbered : (n : ℕ) (lid : ℤ) → Some n ≡ lid_of (Some lid) → lid ≡ pos n
+link_numbered n (pos m) e = ap pos (sym (some_number n m e))
+link_numbered n (negsuc m) e = absurd cc
 
--- and one whose link has none fails
+-- A call that names a link by a negative number fails.
 pub own_nameless : (config : Config) (polled c : ℕ) (lid : ℤ) (call : LinkCall) (acts : List DeviceAct) → None ≡ lid_of (Some lid)
     → own_call config polled c (OnLink lid call) acts ≡ only (failure (OnLink lid call) InvalidLink)
 own_nameless config polled c (pos m) call acts e = absurd cc
 own_nameless config polled c (negsuc m) call acts e = refl
+
+-- A write that is too long fails.
+pub own_too_long : (config : Config) (polled c n : ℕ) (call : LinkCall) (acts : List DeviceAct) → is_too_long call ≡ true
+    → own_call config polled c (OnLink (pos n) call) acts ≡ only (failure (OnLink (pos n) call) ParameterError)
+own_too_long config polled c n (DeviceWrite timeout lock_timeout flags bytes) acts long = rw long refl
+own_too_long config polled c n _ acts long = absurd cc
+
+-- A call that would have to wait for the device times out.
+pub own_times_out : (config : Config) (polled c n : ℕ) (call : LinkCall) (acts : List DeviceAct) → is_too_long call ≡ false
+    → is_some (device_wait call acts) ≡ true
+    → own_call config polled c (OnLink (pos n) call) acts ≡ only (failure (OnLink (pos n) call) IoTimeout)
+own_times_out config polled c n (DeviceWrite timeout lock_timeout flags bytes) acts short due =
+    rw (short, ended_of (has_ended (exchange_acts acts)) due) refl
+  where
+    ended_of : (b : Bool) → is_some {T = Wait × ℕ} (cond b (Some (Input, timeout)) None) ≡ true → b ≡ true
+    ended_of true e = refl
+    ended_of false e = absurd cc
+own_times_out config polled c n (DeviceRead request_size timeout lock_timeout flags term_char) acts short due =
+    let none = unanswerable_of (is_answerable (instrument_acts acts)) due in
+    rw (none, nothing_there (response (exchange_acts acts)) _ none) refl
+  where
+    unanswerable_of : (b : Bool) → is_some {T = Wait × ℕ} (cond b None (Some (Response, timeout))) ≡ true → b ≡ false
+    unanswerable_of true e = absurd cc
+    unanswerable_of false e = refl
+    nothing_there : (bytes : List ℕ) (b : Bool) → (is_something bytes || b) ≡ false → is_something bytes ≡ false
+    nothing_there [] b e = refl
+    nothing_there (byte ∷ bytes) b e = absurd cc
+own_times_out config polled c n _ acts short due = absurd cc
+
+-- An admitted call does what a call with its arguments does.
+pub executed_is : (config : Config) (polled c : ℕ) (call : Admitted) (arguments : Arguments) (acts : List DeviceAct) → IsCall call arguments
+    → own_call config polled c arguments acts ≡ executed config polled c call acts
+executed_is config polled c (admitted.CreateLink lock_device) arguments acts (client_id, lock_timeout, device, is) = rw is refl
+executed_is config polled c (admitted.OnLink lid call) arguments acts is = rw is refl
+executed_is config polled c admitted.DestroyIntrChan arguments acts is = rw is refl
+
+-- It makes a link if it is a create_link.
+pub makes_as : (call : Admitted) (arguments : Arguments) → IsCall call arguments → is_create_link arguments ≡ makes_link call
+makes_as (admitted.CreateLink lock_device) arguments (client_id, lock_timeout, device, is) = rw is refl
+makes_as (admitted.OnLink lid call) arguments is = rw is refl
+makes_as admitted.DestroyIntrChan arguments is = rw is refl
+
+-- A call can be executed as long as the instrument stays as it is.
+pub can_still : (call : Admitted) (old new : Device) → new.instrument ≡ old.instrument → CanExecute call old → CanExecute call new
+can_still (admitted.OnLink lid call) old new same can =
+    (subst (λ (instrument : Kept). IsReadyFor (plain_call call) instrument) (sym same) can.0, can.1)
+can_still (admitted.CreateLink lock_device) old new same can = tt
+can_still admitted.DestroyIntrChan old new same can = tt
+
+-- A call that nothing stops needn't wait for the device.
+no_stop : (own long out : Bool) (lock : Option LockWait) (device : Option (Wait × ℕ))
+    → cond (not own) (Some (Fails InvalidLink)) (cond long (Some (Fails ParameterError))
+    (cond (is_some lock && out) (option_map lock_stop lock) (option_map (λ (wait : Wait × ℕ). Awaits wait.0 (Some wait.1)) device))) ≡ None
+    → device ≡ None
+no_stop false long out lock device e = absurd cc
+no_stop true true out lock device e = absurd cc
+no_stop true false true (Some wait) device e = absurd cc
+no_stop true false true None None e = refl
+no_stop true false true None (Some wait) e = absurd cc
+no_stop true false false (Some lock) None e = refl
+no_stop true false false (Some lock) (Some wait) e = absurd cc
+no_stop true false false None None e = refl
+no_stop true false false None (Some wait) e = absurd cc
+
+-- What stops a call on a link while another link holds the lock, and while none does.
+pub stops_locked : (out : Bool) (lock : Option LockWait) (wait : LockWait) (other : Option Stop) → Some wait ≡ cond out lock None
+    → cond (is_some lock && out) (option_map lock_stop lock) other ≡ Some (lock_stop wait)
+stops_locked true (Some lock) wait other e = ap (option_map lock_stop) (sym e)
+stops_locked true None wait other e = absurd cc
+stops_locked false lock wait other e = absurd cc
+
+pub stops_unlocked : (out : Bool) (lock : Option LockWait) (stop other : Option Stop) → None ≡ cond out lock None
+    → cond (is_some lock && out) stop other ≡ other
+stops_unlocked true (Some lock) stop other e = absurd cc
+stops_unlocked true None stop other e = refl
+stops_unlocked false (Some lock) stop other e = refl
+stops_unlocked false None stop other e = refl
+
+-- A call that needn't wait is not made to.
+pub none_due : (wait : Option (Wait × ℕ)) → false ≡ is_some wait → wait ≡ None
+none_due None e = refl
+none_due (Some wait) e = absurd cc
+
+pub needs_no_wait : (c : ℕ) (call : Admitted) (arguments : Arguments) (acts : List DeviceAct) → IsCall call arguments
+    → stop_of c arguments acts ≡ None → NeedsNoWait call acts
+needs_no_wait c (admitted.CreateLink lock_device) arguments acts is free = tt
+needs_no_wait c (admitted.OnLink lid call) arguments acts is free =
+    no_stop (owns c (Some lid) acts) (is_too_long (plain_call call)) (is_locked_out (holder (link_acts acts)) (Some lid))
+    (lock_wait (plain_call call)) (device_wait (plain_call call) acts) (rw is at free)
+needs_no_wait c admitted.DestroyIntrChan arguments acts is free = tt
+
+-- So what a call needs is there.
+pub free_of : (call : Admitted) (arguments : Arguments) (kept : Device) (acts : List DeviceAct) → IsCall call arguments
+    → IsGranted arguments kept acts → NeedsNoWait call acts → IsFree call kept acts
+free_of (admitted.CreateLink lock_device) arguments kept acts (client_id, lock_timeout, device, is) granted needs = rw is at granted
+free_of (admitted.OnLink lid call) arguments kept acts is granted needs = needs
+free_of admitted.DestroyIntrChan arguments kept acts is granted needs = tt
 
 -- a call begins as what stops it says
 pub admits_as : (stop : Option Stop) {E : Type 0} (result : Result Outcome E) (c : ℕ) (arguments : Arguments) (old new : Device)

@@ -21,7 +21,7 @@ use Rattle.sv_server.specs.Device.Representation.{Device as KeptDevice}
 use Rattle.sv_history.specs.CoreCall.{creates_link}
 use Rattle.sv_server.specs.Server.State.{State, Represents, IsTaken}
 use Rattle.sv_server.specs.Server.Inside.Ending.{Concludes, ConcludesResumed}
-use Rattle.sv_server.specs.declared.device.resuming.Cause.TheVariants.{Able}
+use Rattle.sv_server.specs.declared.device.resuming.WakeReason.TheVariants.{Able}
 use Rattle.sv_server.specs.Server.Inside.Acting.{TakesStep}
 use Rattle.sv_server.specs.Device.Inside.Outcome.{InstrumentSteps, MayResume, MayWaitAnew}
 use Rattle.sv_server.specs.Server.Inside.Ending.{HasPlaceOfLink}

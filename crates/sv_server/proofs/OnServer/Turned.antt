@@ -19,7 +19,7 @@ use Rattle.sv_server.specs.Device.Representation.{Device}
 use Rattle.sv_server.specs.Device.Inside.Outcome.{MayWait}
 use Rattle.sv_server.specs.Server.Inside.Ending.{EndsAs, IsSuspended, asks_for_link}
 use Rattle.sv_server.specs.Connection.Inside.Requests.{xid_of}
-use Rattle.sv_server.specs.declared.server.execution.Executed.{Executed}
+use Rattle.sv_server.specs.declared.outcome.Outcome.{Outcome}
 use Rattle.sv_history.specs.Effect.{Effect}
 use Rattle.sv_history.specs.Request.{Request, NoCall, Decided, CoreRequest, PortRequest, abort_request, request_of, core_call_of, core_call, request_for, next_request}
 use Rattle.sv_history.proofs.Deciding.{request_unless_decided, header_reply, request_by_header}
@@ -65,13 +65,13 @@ core_alone role (Err (Version xid)) call e = absurd (let z : Decided xid Mismatc
 core_alone role (Err BadHeader) call e = absurd (let z : NoCall ≡ CoreRequest call = e in cc)
 
 -- what waits is held as is said
-pub held_as : (executed : Executed) (c : ℕ) (role : Role) (bytes : List ℕ) (request : Request) (device : Device) (config : Config)
+pub held_as : (outcome : Outcome) (c : ℕ) (role : Role) (bytes : List ℕ) (request : Request) (device : Device) (config : Config)
     (acts : List DeviceAct) (effect : Effect) (old new : List Entry)
-    → request ≡ request_of role (call_at bytes) → EndsAs executed (xid_of request) device config acts effect
-    → MayWait (IsSuspended executed request) c (asks_for_link request) old new
+    → request ≡ request_of role (call_at bytes) → EndsAs outcome (xid_of request) device config acts effect
+    → MayWait (IsSuspended outcome request) c (asks_for_link request) old new
     → MayWait (effect.own ≡ []) c (creates_link (core_call bytes)) old new
-held_as executed c role bytes request device config acts effect old new asks ends (inl same) = inl same
-held_as executed c role bytes request device config acts effect old new asks ends (inr ((is, call, core), behind)) =
+held_as outcome c role bytes request device config acts effect old new asks ends (inl same) = inl same
+held_as outcome c role bytes request device config acts effect old new asks ends (inr ((is, call, core), behind)) =
     let known = sym asks ∙ core in
     let read : core_call bytes ≡ Some call =
     ap (λ (r : Role). core_call_of (request_of r (call_at bytes))) (sym (core_alone role (call_at bytes) call known))

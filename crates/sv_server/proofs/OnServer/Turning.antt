@@ -4,10 +4,10 @@ use Rattle.std.specs.Prelude.{◌||◌, is_none, Ok, Err}
 use Rattle.sv_links.specs.declared.waiting.Entry.{Entry}
 use Rattle.sv_links.specs.Waiting.{waits}
 use Rattle.sv_history.specs.declared.event.Config.{Config}
-use Rattle.sv_history.specs.declared.event.Did.TheVariants.{Done as DidSo, Idle as DidNothing}
+use Rattle.sv_history.specs.declared.event.Did.{Did}
+use Rattle.sv_history.specs.declared.event.Did.TheVariants.{Done, Idle}
 use Rattle.sv_history.specs.declared.event.Refused.{Refused}
 use Rattle.sv_history.specs.declared.event.Refused.TheVariants.{NoMemory}
-use Rattle.sv_server.specs.declared.server.turn.Turned.TheVariants.{Idle, Done}
 use Rattle.sv_history.specs.Event.{Turn}
 use Rattle.sv_history.specs.Act.{Act, DeviceAct, CallTaken, On, of, device_acts, wait_acts}
 use Rattle.sv_history.specs.Connection.{next_call, is_busy}
@@ -53,16 +53,24 @@ none_next : (found : Option (List ℕ)) → is_none found ≡ true → found ≡
 none_next None e = refl
 none_next (Some call) e = absurd cc
 
-pub turn_idle : (state : State) (config : Config) (log : List Act) (c : ℕ) (kept : Connection) (device : KeptDevice)
+-- After a call was taken, the suspended call that it ends, if any, is ended.
+abbrev pub EndsCall : Option ℕ → State → State → Type 0
+EndsCall aborted state new = (k : Config) (mid : List Act) → Represents state k mid
+    → ((d : ℕ) → aborted ≡ Some d → waits d (wait_acts (device_acts mid)) ≡ None → ⊥) → Represents new k (abort_acts aborted mid ++ mid)
+
+turn_idle : (state new : State) (config : Config) (log : List Act) (c : ℕ) (aborted : Option ℕ) (kept : Connection) (device : KeptDevice)
     → Represents state config log → length state.connections ≡ 16 → c < 16 → is_shut c log ≡ false
-    → Turns config c log state.device.waiting (Ok Idle) kept device
-    → Acts config (Turn c) log (Ok DidNothing) (record state { connections = set state.connections c kept; device = device })
-turn_idle state config log c kept device rep sixteen lt open_now (none, idle, mine, all, same) = (
+    → Turns config c log state.device.waiting (Ok (Idle, aborted)) kept device
+    → EndsCall aborted (record state { connections = set state.connections c kept; device = device }) new
+    → Acts config (Turn c) log (Ok Idle) new
+turn_idle state new config log c aborted kept device rep sixteen lt open_now (none, idle, nothing, mine, all, same) ends = (
   λ channel_log tells. rw open_now none,
   rw idle refl,
-  λ polled said. rw (none_next (next_call (of c log)) idle)
-      (acted state config log log c kept device rep sixteen lt mine all (λ d ne. refl)
-      (rw same rep.taken) state.connections_used rep.connections_used),
+  λ polled said.
+      let mid = acted state config log log c kept device rep sixteen lt mine all (λ d ne. refl) (rw same rep.taken) state.connections_used
+      rep.connections_used in
+      rw (none_next (next_call (of c log)) idle)
+      (rw nothing at (ends config log mid (λ d e. absurd {0} (let z : None ≡ Some d = sym nothing ∙ e in cc)))),
 )
 
 -- ---- a Turn that takes one
@@ -75,13 +83,12 @@ idle_of false false found call e = refl
 pub not_busy : (c : ℕ) (log : List Act) (call : List ℕ) → next_call (of c log) ≡ Some call → is_busy (of c log) ≡ false
 not_busy c log call e = idle_of _ (is_busy (of c log)) _ call e
 
-pub turn_done : (state new : State) (config : Config) (log : List Act) (c : ℕ) (aborted : Option ℕ) (kept : Connection)
+turn_done : (state new : State) (config : Config) (log : List Act) (c : ℕ) (aborted : Option ℕ) (kept : Connection)
     (device : KeptDevice)
     → Represents state config log → length state.connections ≡ 16 → c < 16 → is_shut c log ≡ false
-    → Turns config c log state.device.waiting (Ok (Done aborted)) kept device
-    → ((k : Config) (mid : List Act) → Represents (record state { connections = set state.connections c kept; device = device }) k mid
-    → ((d : ℕ) → aborted ≡ Some d → waits d (wait_acts (device_acts mid)) ≡ None → ⊥) → Represents new k (abort_acts aborted mid ++ mid))
-    → Acts config (Turn c) log (Ok DidSo) new
+    → Turns config c log state.device.waiting (Ok (Done, aborted)) kept device
+    → EndsCall aborted (record state { connections = set state.connections c kept; device = device }) new
+    → Acts config (Turn c) log (Ok Done) new
 turn_done state new config log c aborted kept device rep sixteen lt open_now (none, idle, call, request, is, (next, asks, so)) ends = (
   λ channel_log tells. rw open_now none,
   rw idle refl,
@@ -99,3 +106,16 @@ turn_done state new config log c aborted kept device rep sixteen lt open_now (no
       rw (asks, next, ← is)
       (subst (λ (l : List Act). Represents new config l) (sym (append_assoc (abort_acts aborted (acts ++ log)) acts log)) all),
 )
+
+-- ---- a Turn that isn't refused
+
+pub turn_ends : (state new : State) (config : Config) (log : List Act) (c : ℕ) (did : Did) (aborted : Option ℕ) (kept : Connection)
+    (device : KeptDevice)
+    → Represents state config log → length state.connections ≡ 16 → c < 16 → is_shut c log ≡ false
+    → Turns config c log state.device.waiting (Ok (did, aborted)) kept device
+    → EndsCall aborted (record state { connections = set state.connections c kept; device = device }) new
+    → Acts config (Turn c) log (Ok did) new
+turn_ends state new config log c Idle aborted kept device rep sixteen lt open_now so ends =
+    turn_idle state new config log c aborted kept device rep sixteen lt open_now so ends
+turn_ends state new config log c Done aborted kept device rep sixteen lt open_now so ends =
+    turn_done state new config log c aborted kept device rep sixteen lt open_now so ends

@@ -5,6 +5,7 @@ ghost use Rattle.sv_xdr.specs.Writer.{text_of, rest_of};
 ghost use Rattle.sv_history.specs.Limits.{longest_reply};
 ghost use Rattle.sv_server.specs.Connection.Inside.Replies.{answer_text, answer_bytes, HasAtMost, IsShort};
 
+use crate::outcome::Answer;
 use std::alloc::Allocator;
 use sv_exchange::MAX_READ;
 use sv_rpc::{Reply, put_record, write_reply};
@@ -23,18 +24,6 @@ const BRIEF_DATA: usize = 256;
 /// The size in bytes of the longest reply that has at most 256 bytes of data, without the header of
 /// its fragment.
 const BRIEF_TEXT: usize = LONGEST_TEXT - MAX_READ + BRIEF_DATA;
-
-/// The answer to a call.
-#[derive(Clone, Copy)]
-pub enum Answer<'a> {
-    /// A reply that has only a header. The reply follows from the call's header or arguments; the
-    /// device isn't used.
-    Header(Reply),
-    /// The TCP port that is the result of a GETPORT.
-    Port(u32),
-    /// The result of a call of the core or the abort channel.
-    Result(VxiResult<'a>),
-}
 
 /// Appends a reply to the outgoing bytes.
 pub fn put_reply<A: Allocator>(out: &mut Vec<u8, A>, xid: u32, answer: &Answer<'_>)

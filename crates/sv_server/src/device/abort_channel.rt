@@ -16,15 +16,6 @@ use crate::device::error_results::plain;
 use std::alloc::Allocator;
 use sv_vxi::{ErrorCode, VxiResult};
 
-/// The outcome of device_abort.
-#[derive(Clone, Copy)]
-pub struct Aborted {
-    /// The result that the reply gives.
-    pub result: VxiResult<'static>,
-    /// If device_abort ends a suspended call: the connection of that call. Else `None`.
-    pub conn: Option<u8>,
-}
-
 /// Whether `named`, the link that a call names, is the link `lid`.
 fn is_this(lid: u32, named: Option<u32>) -> bool
     ensures { result ≡ is_this_link lid named }
@@ -36,20 +27,18 @@ fn is_this(lid: u32, named: Option<u32>) -> bool
 }
 
 impl<A: Allocator> Device<A> {
-    /// The outcome of a device_abort that names this link.
-    pub fn abort(&self, lid: i32) -> Aborted
+    /// The result of a device_abort that names this link, and the connection whose suspended call
+    /// it ends; `None` if it ends no call.
+    pub fn abort(&self, lid: i32) -> (VxiResult<'static>, Option<u8>)
         ensures answer { (config : Config) (acts : List DeviceAct) → IsDevice self.now config acts
-            → plain_result result.result ≡ result_of (lid_for (Some lid)) acts }
+            → plain_result result.0 ≡ result_of (lid_for (Some lid)) acts }
         ensures conn { (config : Config) (acts : List DeviceAct) → IsDevice self.now config acts
-            → result.conn ≡ where_waiting_with (owner_for (lid_for (Some lid)) acts)
+            → result.1 ≡ where_waiting_with (owner_for (lid_for (Some lid)) acts)
             (lid_for (Some lid)) acts }
-        ensures short { data_of (plain_result result.result) ≡ [] }
+        ensures short { data_of (plain_result result.0) ≡ [] }
     {
         let lid = lid_of(Some(lid));
-        Aborted {
-            result: self.abort_result(lid),
-            conn: self.aborted(lid),
-        }
+        (self.abort_result(lid), self.aborted(lid))
     }
 
     /// The connection that made a link; `None` if there is no such link.

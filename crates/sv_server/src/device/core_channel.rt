@@ -1,43 +1,44 @@
 //! What each call of the core channel does if nothing stops it (VXI-11 revision 1.0, B.6).
 
-ghost use Rattle.std.specs.Prelude.{◌≡◌, ◌<◌, ◌≤◌, ◌^◌, ℕ, pos, List, [], ◌∷◌, length, map, Some, None, true, false};
-ghost use Rattle.sv_vxi.specs.Arguments.{Generic, OnLink};
-ghost use Rattle.sv_vxi.specs.Reading.{plain_call, plain_arguments};
+ghost use Rattle.std.specs.Prelude.{◌≡◌, ◌<◌, ◌≤◌, ◌^◌, ◌||◌, ℕ, pos, List, [], ◌∷◌, length, map, Some, None, true, false, IsTrue};
+ghost use Rattle.sv_vxi.specs.Arguments.{Generic};
+ghost use Rattle.sv_vxi.specs.Reading.{plain_call};
 ghost use Rattle.sv_vxi.specs.declared.error_code.ErrorCode.TheVariants.{NoError};
 ghost use Rattle.sv_vxi.specs.Results.{Link, Status, Plain, plain_result, data_of};
 ghost use Rattle.sv_layers.specs.Act.{Exchanged, Polled, Purged};
-ghost use Rattle.sv_exchange.specs.Exchange.{ResponseRead, response};
+ghost use Rattle.sv_exchange.specs.Exchange.{ResponseRead, response, has_ended, is_something};
 ghost use Rattle.sv_exchange.specs.ReadGiven.{IsReadOf};
-ghost use Rattle.sv_exchange.specs.Contents.{shown_by};
+ghost use Rattle.sv_exchange.specs.Contents.{shown_by, is_open};
+ghost use Rattle.sv_instrument.specs.Step.{is_answerable};
 ghost use Rattle.sv_instrument.specs.Stimulus.{trigger_acts};
 ghost use Rattle.sv_history.specs.declared.event.Config.{Config as Configured};
 ghost use Rattle.sv_links.specs.Links.{Destroyed, holder, is_locked_out};
 ghost use Rattle.sv_exchange.specs.Limits.{max_message, max_read};
 ghost use Rattle.sv_history.specs.Act.{DeviceAct, Linked, Applied, link_acts, instrument_acts, exchange_acts};
 ghost use Rattle.sv_history.specs.CallOutcome.{answer_with};
+ghost use Rattle.sv_history.specs.CoreCall.{is_too_long};
 ghost use Rattle.sv_server.specs.Device.Representation.{IsDevice, HasPlace};
-ghost use Rattle.sv_history.specs.CoreChannel.{owns, make_link, device_lock, device_unlock, device_write, device_read, link_call, own_call};
-ghost use Rattle.sv_server.specs.Device.Inside.Outcome.{IsDeviceAt, IsGranted, OutcomeIs, IsBrief};
+ghost use Rattle.sv_history.specs.Admission.{device_wait};
+ghost use Rattle.sv_history.specs.CoreChannel.{owns, make_link, device_lock, device_unlock, device_write, device_read, link_call};
+ghost use Rattle.sv_server.specs.Device.Inside.Outcome.{IsDeviceAt, GivesResult, OutcomeIs, IsBrief, IsReadyFor, CanExecute, IsFree, executed};
 
 use crate::conn::Conn;
 use crate::device::Device;
-use crate::device::arguments::{lid_of, term_of};
-use crate::device::call_outcome::CallOutcome;
+use crate::device::admitted::Admitted;
+use crate::device::arguments::term_of;
 use crate::device::error_results::{call_failure, no_link, nothing_read, plain, written};
+use crate::outcome::{Answer, Outcome};
 use std::alloc::Allocator;
 use sv_exchange::{MAX_MESSAGE, Read};
-use sv_vxi::{Args, ErrorCode, Flags, GenericCall, LinkCall, VxiResult};
+use sv_vxi::{ErrorCode, Flags, GenericCall, LinkCall, VxiResult};
 
 impl<A: Allocator> Device<A> {
     /// Whether a link was made by this connection.
-    pub(super) fn owns(&self, conn: Conn, lid: Option<u32>) -> bool
+    pub(super) fn owns(&self, conn: Conn, lid: u32) -> bool
         ensures { (config : Configured) (acts : List DeviceAct) → IsDevice self.now config acts
-            → result ≡ owns conn.number lid acts }
+            → result ≡ owns conn.number (Some lid) acts }
     {
-        match lid {
-            Some(lid) => self.links.owner(lid) == Some(conn.number),
-            None => false,
-        }
+        self.links.owner(lid) == Some(conn.number)
     }
 
     /// The result of a create_link that made the link `lid`.
@@ -56,43 +57,43 @@ impl<A: Allocator> Device<A> {
     }
 
     /// Makes a link. A place and memory for it must already be reserved.
-    fn make_free(&mut self, conn: Conn) -> CallOutcome
+    fn make_free(&mut self, conn: Conn) -> VxiResult<'static>
         ensures ends { (config : Configured) (acts : List DeviceAct) → IsDevice self.old config acts
             → HasPlace self.old acts
-            → OutcomeIs result self.new config acts (make_link config conn.number false acts) }
-        ensures short { IsBrief result }
+            → GivesResult result self.new config acts (make_link config conn.number false acts) }
+        ensures short { data_of (plain_result result) ≡ [] }
         ensures waiting { self.new.waiting ≡ self.old.waiting }
     {
         let Ok(lid) = self.links.create(conn.number) else {
-            return CallOutcome::Result(no_link(ErrorCode::OutOfResources));
+            return no_link(ErrorCode::OutOfResources);
         };
-        CallOutcome::Result(self.told_link(lid))
+        self.told_link(lid)
     }
 
     /// Makes a link and gives it the lock, which no link holds. A place and memory for the link
     /// must already be reserved.
-    fn make_locked(&mut self, conn: Conn) -> CallOutcome
+    fn make_locked(&mut self, conn: Conn) -> VxiResult<'static>
         ensures ends { (config : Configured) (acts : List DeviceAct) → IsDevice self.old config acts
             → HasPlace self.old acts → is_locked_out (holder (link_acts acts)) None ≡ false
-            → OutcomeIs result self.new config acts (make_link config conn.number true acts) }
-        ensures short { IsBrief result }
+            → GivesResult result self.new config acts (make_link config conn.number true acts) }
+        ensures short { data_of (plain_result result) ≡ [] }
         ensures waiting { self.new.waiting ≡ self.old.waiting }
     {
         let Ok(lid) = self.links.create(conn.number) else {
-            return CallOutcome::Result(no_link(ErrorCode::OutOfResources));
+            return no_link(ErrorCode::OutOfResources);
         };
         let _ = self.links.lock(lid);
-        CallOutcome::Result(self.told_link(lid))
+        self.told_link(lid)
     }
 
     /// Makes a link, with the lock if the call asks for the lock.
-    fn make_link(&mut self, conn: Conn, lock_device: bool) -> CallOutcome
+    fn make_link(&mut self, conn: Conn, lock_device: bool) -> VxiResult<'static>
         ensures ends { (config : Configured) (acts : List DeviceAct) → IsDevice self.old config acts
             → HasPlace self.old acts
             → (lock_device ≡ true → is_locked_out (holder (link_acts acts)) None ≡ false)
-            → OutcomeIs result self.new config acts
+            → GivesResult result self.new config acts
             (make_link config conn.number lock_device acts) }
-        ensures short { IsBrief result }
+        ensures short { data_of (plain_result result) ≡ [] }
         ensures waiting { self.new.waiting ≡ self.old.waiting }
     {
         if lock_device {
@@ -102,82 +103,78 @@ impl<A: Allocator> Device<A> {
     }
 
     /// destroy_link: destroys the link, and disables its service requests.
-    fn destroy_link(&mut self, lid: u32) -> CallOutcome
+    fn destroy_link(&mut self, lid: u32) -> VxiResult<'static>
         ensures ends { (config : Configured) (acts : List DeviceAct) → IsDevice self.old config acts
-            → OutcomeIs result self.new config acts
+            → GivesResult result self.new config acts
             (answer_with (Linked (Destroyed lid) ∷ []) (Plain NoError)) }
-        ensures short { IsBrief result }
+        ensures short { data_of (plain_result result) ≡ [] }
         ensures waiting { self.new.waiting ≡ self.old.waiting }
     {
         self.links.destroy(lid);
         self.intr.disable(lid);
-        CallOutcome::Result(plain(ErrorCode::NoError))
+        plain(ErrorCode::NoError)
     }
 
     /// device_lock: the link gets the lock, unless another link holds it.
-    fn device_lock(&mut self, lid: u32) -> CallOutcome
+    fn device_lock(&mut self, lid: u32) -> VxiResult<'static>
         ensures ends { (config : Configured) (acts : List DeviceAct) → IsDevice self.old config acts
-            → OutcomeIs result self.new config acts (device_lock lid acts) }
-        ensures short { IsBrief result }
+            → GivesResult result self.new config acts (device_lock lid acts) }
+        ensures short { data_of (plain_result result) ≡ [] }
         ensures waiting { self.new.waiting ≡ self.old.waiting }
     {
         if !self.links.lock(lid) {
-            return CallOutcome::Result(plain(ErrorCode::Locked));
+            return plain(ErrorCode::Locked);
         }
-        CallOutcome::Result(plain(ErrorCode::NoError))
+        plain(ErrorCode::NoError)
     }
 
     /// device_unlock: the link frees the lock, if it holds the lock.
-    fn device_unlock(&mut self, lid: u32) -> CallOutcome
+    fn device_unlock(&mut self, lid: u32) -> VxiResult<'static>
         ensures ends { (config : Configured) (acts : List DeviceAct) → IsDevice self.old config acts
-            → OutcomeIs result self.new config acts (device_unlock lid acts) }
-        ensures short { IsBrief result }
+            → GivesResult result self.new config acts (device_unlock lid acts) }
+        ensures short { data_of (plain_result result) ≡ [] }
         ensures waiting { self.new.waiting ≡ self.old.waiting }
     {
         if !self.links.unlock(lid) {
-            return CallOutcome::Result(plain(ErrorCode::NoLock));
+            return plain(ErrorCode::NoLock);
         }
-        CallOutcome::Result(plain(ErrorCode::NoError))
+        plain(ErrorCode::NoError)
     }
 
     /// device_write: the instrument accepts the bytes. If the call's flag END is set, these bytes
     /// end the message.
-    fn device_write(&mut self, flags: Flags, bytes: &[u8]) -> CallOutcome
+    fn device_write(&mut self, flags: Flags, bytes: &[u8]) -> VxiResult<'static>
+        requires open { IsTrue (is_open self.old.instrument.layers.exchange) }
+        requires within { length bytes.now ≤ max_message }
         ensures ends { (config : Configured) (acts : List DeviceAct) → IsDevice self.old config acts
-            → OutcomeIs result self.new config acts (device_write flags.0 bytes.now acts) }
-        ensures short { IsBrief result }
+            → has_ended (exchange_acts acts) ≡ false
+            → GivesResult result self.new config acts (device_write flags.0 bytes.now acts) }
+        ensures short { data_of (plain_result result) ≡ [] }
         ensures waiting { self.new.waiting ≡ self.old.waiting }
     {
-        if bytes.len() > MAX_MESSAGE {
-            return CallOutcome::Result(written(ErrorCode::ParameterError, 0));
-        }
-        if !self.instrument.can_write() {
-            return CallOutcome::Result(written(ErrorCode::IoTimeout, 0));
-        }
         let raised = self.instrument.write(bytes, flags.has_end());
         self.raise(raised);
-        CallOutcome::Result(written(ErrorCode::NoError, bytes.len() as u32))
+        written(ErrorCode::NoError, bytes.len() as u32)
     }
 
-    /// device_read: if the instrument has a response, the outcome is `Reads`, and the caller then
-    /// reads bytes of the response. If there is no response, the result is a timeout. If moreover
-    /// no response can come without a further write, the bytes of the unfinished message are
-    /// dropped, and the instrument's error -420 is reported.
-    fn device_read(&mut self, most: u32, term: Option<u8>) -> CallOutcome
+    /// device_read: if the instrument has a response, the call is answered with bytes of it. If no
+    /// response can come without a further write, the result is a timeout, the bytes of the
+    /// unfinished message are dropped, and the instrument's error -420 is reported.
+    fn device_read(&mut self, most: u32, term: Option<u8>) -> Outcome
+        requires { IsTrue (is_something (shown_by self.old.instrument.layers.exchange)
+            || is_open self.old.instrument.layers.exchange) }
         ensures ends { (config : Configured) (acts : List DeviceAct) → IsDevice self.old config acts
+            → is_answerable (instrument_acts acts) ≡ true
             → OutcomeIs result self.new config acts (device_read most term acts) }
         ensures short { IsBrief result }
         ensures waiting { self.new.waiting ≡ self.old.waiting }
     {
         if self.instrument.readable() {
-            return CallOutcome::Reads { most, term };
-        }
-        if !self.instrument.can_read() {
-            return CallOutcome::Result(nothing_read(ErrorCode::IoTimeout));
+            return Outcome::Response { most, term };
         }
         let raised = self.instrument.unterminated();
         self.raise(raised);
-        CallOutcome::Result(nothing_read(ErrorCode::IoTimeout))
+        Outcome::Reply(Answer::Result(nothing_read(ErrorCode::IoTimeout)))
     }
 
     /// Returns the bytes of the response that a read would return, and the reasons why the read
@@ -206,127 +203,114 @@ impl<A: Allocator> Device<A> {
     }
 
     /// device_readstb: returns the status byte, and ends the request for service.
-    fn device_readstb(&mut self) -> CallOutcome
+    fn device_readstb(&mut self) -> VxiResult<'static>
         ensures ends { (config : Configured) (polled : ℕ) (acts : List DeviceAct)
             → IsDeviceAt self.old config polled acts
-            → OutcomeIs result self.new config acts
+            → GivesResult result self.new config acts
             (answer_with (Applied Polled ∷ []) (Status NoError polled)) }
-        ensures short { IsBrief result }
+        ensures short { data_of (plain_result result) ≡ [] }
         ensures waiting { self.new.waiting ≡ self.old.waiting }
     {
-        CallOutcome::Result(VxiResult::Status {
+        VxiResult::Status {
             error: ErrorCode::NoError,
             stb: self.instrument.poll(),
-        })
+        }
     }
 
     /// device_trigger: the instrument gets a trigger from the controller.
-    fn device_trigger(&mut self) -> CallOutcome
+    fn device_trigger(&mut self) -> VxiResult<'static>
         ensures ends { (config : Configured) (acts : List DeviceAct) → IsDevice self.old config acts
-            → OutcomeIs result self.new config acts
+            → GivesResult result self.new config acts
             (answer_with (map Applied (trigger_acts (instrument_acts acts))) (Plain NoError)) }
-        ensures short { IsBrief result }
+        ensures short { data_of (plain_result result) ≡ [] }
         ensures waiting { self.new.waiting ≡ self.old.waiting }
     {
         let raised = self.instrument.trigger();
         self.raise(raised);
-        CallOutcome::Result(plain(ErrorCode::NoError))
+        plain(ErrorCode::NoError)
     }
 
     /// device_clear: drops the bytes of messages that aren't executed yet, the held unit (which
     /// waits for the end of a measurement), and the response.
-    fn device_clear(&mut self) -> CallOutcome
+    fn device_clear(&mut self) -> VxiResult<'static>
         ensures ends { (config : Configured) (acts : List DeviceAct) → IsDevice self.old config acts
-            → OutcomeIs result self.new config acts
+            → GivesResult result self.new config acts
             (answer_with (Applied Purged ∷ []) (Plain NoError)) }
-        ensures short { IsBrief result }
+        ensures short { data_of (plain_result result) ≡ [] }
         ensures waiting { self.new.waiting ≡ self.old.waiting }
     {
         let raised = self.instrument.clear();
         self.raise(raised);
-        CallOutcome::Result(plain(ErrorCode::NoError))
+        plain(ErrorCode::NoError)
     }
 
     /// Executes a call that nothing stops, on the link `lid`.
-    fn link_call(&mut self, conn: Conn, lid: u32, call: &LinkCall<'_>) -> CallOutcome
+    fn link_call(&mut self, conn: Conn, lid: u32, call: &LinkCall<'_>) -> Outcome
+        requires ready { IsReadyFor (plain_call call.now) self.old.instrument }
+        requires within { is_too_long (plain_call call.now) ≡ false }
         ensures ends { (config : Configured) (polled : ℕ) (acts : List DeviceAct)
-            → IsDeviceAt self.old config polled acts
+            → IsDeviceAt self.old config polled acts → device_wait (plain_call call.now) acts ≡ None
             → OutcomeIs result self.new config acts
             (link_call polled conn.number lid (plain_call call.now) acts) }
         ensures short { IsBrief result }
         ensures waiting { self.new.waiting ≡ self.old.waiting }
     {
         match *call {
-            LinkCall::DeviceWrite { flags, bytes, .. } => self.device_write(flags, bytes),
+            LinkCall::DeviceWrite { flags, bytes, .. } => {
+                Outcome::Reply(Answer::Result(self.device_write(flags, bytes)))
+            }
             LinkCall::DeviceRead {
                 request_size,
                 flags,
                 term_char,
                 ..
             } => self.device_read(request_size, term_of(flags, term_char)),
-            LinkCall::Generic { call, .. } => self.generic_call(call),
-            LinkCall::DeviceLock { .. } => self.device_lock(lid),
-            LinkCall::DeviceUnlock => self.device_unlock(lid),
+            LinkCall::Generic { call, .. } => Outcome::Reply(Answer::Result(self.generic_call(call))),
+            LinkCall::DeviceLock { .. } => Outcome::Reply(Answer::Result(self.device_lock(lid))),
+            LinkCall::DeviceUnlock => Outcome::Reply(Answer::Result(self.device_unlock(lid))),
             LinkCall::DeviceEnableSrq { enable, handle } => {
-                self.device_enable_srq(conn, lid, enable, handle)
+                Outcome::Reply(Answer::Result(self.device_enable_srq(conn, lid, enable, handle)))
             }
-            LinkCall::DestroyLink => self.destroy_link(lid),
-            LinkCall::DeviceAbort => CallOutcome::Result(plain(ErrorCode::NotSupported)),
+            LinkCall::DestroyLink => Outcome::Reply(Answer::Result(self.destroy_link(lid))),
+            LinkCall::DeviceAbort => Outcome::Reply(Answer::Result(plain(ErrorCode::NotSupported))),
             LinkCall::DeviceDocmd { .. } => {
-                CallOutcome::Result(call_failure(call, ErrorCode::NotSupported))
+                Outcome::Reply(Answer::Result(call_failure(call, ErrorCode::NotSupported)))
             }
         }
     }
 
     /// Executes one of the five calls whose arguments are Device_GenericParms.
-    fn generic_call(&mut self, call: GenericCall) -> CallOutcome
+    fn generic_call(&mut self, call: GenericCall) -> VxiResult<'static>
         ensures ends { (config : Configured) (polled : ℕ) (acts : List DeviceAct)
             → IsDeviceAt self.old config polled acts → (c lid flags lock_timeout io_timeout : ℕ)
-            → OutcomeIs result self.new config acts
+            → GivesResult result self.new config acts
             (link_call polled c lid (Generic call flags lock_timeout io_timeout) acts) }
-        ensures short { IsBrief result }
+        ensures short { data_of (plain_result result) ≡ [] }
         ensures waiting { self.new.waiting ≡ self.old.waiting }
     {
         match call {
             GenericCall::Readstb => self.device_readstb(),
             GenericCall::Trigger => self.device_trigger(),
             GenericCall::Clear => self.device_clear(),
-            GenericCall::Remote => CallOutcome::Result(plain(ErrorCode::NoError)),
-            GenericCall::Local => CallOutcome::Result(plain(ErrorCode::NoError)),
-        }
-    }
-
-    /// Executes a call that nothing stops, on the link with the number `lid`. For a negative `lid`,
-    /// which no link has, the result is the error for an invalid link.
-    fn on_link(&mut self, conn: Conn, lid: i32, call: &LinkCall<'_>) -> CallOutcome
-        ensures ends { (config : Configured) (polled : ℕ) (acts : List DeviceAct)
-            → IsDeviceAt self.old config polled acts
-            → OutcomeIs result self.new config acts
-            (own_call config polled conn.number (OnLink lid (plain_call call.now)) acts) }
-        ensures short { IsBrief result }
-        ensures waiting { self.new.waiting ≡ self.old.waiting }
-    {
-        match lid_of(Some(lid)) {
-            Some(lid) => self.link_call(conn, lid, call),
-            None => CallOutcome::Result(call_failure(call, ErrorCode::InvalidLink)),
+            GenericCall::Remote => plain(ErrorCode::NoError),
+            GenericCall::Local => plain(ErrorCode::NoError),
         }
     }
 
     /// Executes a call that nothing stops.
-    pub(super) fn own_call(&mut self, conn: Conn, args: &Args<'_>) -> CallOutcome
+    pub(super) fn execute(&mut self, conn: Conn, call: &Admitted<'_>) -> Outcome
+        requires { CanExecute call.now self.old }
         ensures ends { (config : Configured) (polled : ℕ) (acts : List DeviceAct)
-            → IsDeviceAt self.old config polled acts
-            → IsGranted (plain_arguments args.now) self.old acts
+            → IsDeviceAt self.old config polled acts → IsFree call.now self.old acts
             → OutcomeIs result self.new config acts
-            (own_call config polled conn.number (plain_arguments args.now) acts) }
+            (executed config polled conn.number call.now acts) }
         ensures short { IsBrief result }
         ensures waiting { self.new.waiting ≡ self.old.waiting }
     {
-        match *args {
-            Args::CreateLink { lock_device, .. } => self.make_link(conn, lock_device),
-            Args::OnLink { lid, call } => self.on_link(conn, lid, &call),
-            Args::DestroyIntrChan => self.destroy_channel(conn),
-            Args::CreateIntrChan { .. } => CallOutcome::Result(plain(ErrorCode::NotSupported)),
+        match *call {
+            Admitted::CreateLink { lock_device } => Outcome::Reply(Answer::Result(self.make_link(conn, lock_device))),
+            Admitted::OnLink { lid, call } => self.link_call(conn, lid, &call),
+            Admitted::DestroyIntrChan => Outcome::Reply(Answer::Result(self.destroy_channel(conn))),
         }
     }
 }

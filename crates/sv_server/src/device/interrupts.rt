@@ -3,7 +3,7 @@
 
 ghost use Rattle.std.specs.Prelude.{◌≡◌, ◌<◌, ◌≤◌, ℕ, List, length, [], ◌∷◌, Some, None, IfOk, IfSome, OnErr, false, true, if◌then◌else◌};
 ghost use Rattle.sv_vxi.specs.declared.error_code.ErrorCode.TheVariants.{NoError, InvalidLink, NotEstablished};
-ghost use Rattle.sv_vxi.specs.Results.{Plain};
+ghost use Rattle.sv_vxi.specs.Results.{Plain, plain_result, data_of};
 ghost use Rattle.sv_links.specs.Waiting.{Left};
 ghost use Rattle.sv_links.specs.Queue.{without};
 ghost use Rattle.sv_links.specs.Channels.{ChannelOpened};
@@ -19,15 +19,14 @@ ghost use Rattle.sv_links.specs.Limits.{max_queued};
 ghost use Rattle.sv_links.specs.ChannelRepresentation.{bytes_of};
 ghost use Rattle.sv_history.specs.Requests.{HearsOf};
 ghost use Rattle.sv_history.specs.CoreChannel.{owns};
-ghost use Rattle.sv_server.specs.Device.Inside.Outcome.{OutcomeIs, IsBrief};
+ghost use Rattle.sv_server.specs.Device.Inside.Outcome.{GivesResult};
 
 use crate::conn::Conn;
 use crate::device::Device;
-use crate::device::call_outcome::CallOutcome;
 use crate::device::error_results::{failure, plain};
 use std::alloc::Allocator;
 use sv_links::{MAX_HANDLE, Peer, Wait};
-use sv_vxi::{Args, ErrorCode};
+use sv_vxi::{Args, ErrorCode, VxiResult};
 
 /// Whether an interrupt channel may be connected to this peer: an address in 127.0.0.0/8 and a port
 /// of 1 to 65535.
@@ -54,55 +53,55 @@ impl<A: Allocator> Device<A> {
         lid: u32,
         enable: bool,
         handle: &[u8],
-    ) -> CallOutcome
+    ) -> VxiResult<'static>
         ensures ends { (config : Configured) (acts : List DeviceAct) → IsDevice self.old config acts
-            → OutcomeIs result self.new config acts
+            → GivesResult result self.new config acts
             (if owns conn.number (Some lid) acts
             then enabled_srq conn.number enable lid handle.now else only (Plain InvalidLink)) }
-        ensures short { IsBrief result }
+        ensures short { data_of (plain_result result) ≡ [] }
         ensures waiting { self.new.waiting ≡ self.old.waiting }
     {
-        if !self.owns(conn, Some(lid)) {
-            return CallOutcome::Result(plain(ErrorCode::InvalidLink));
+        if !self.owns(conn, lid) {
+            return plain(ErrorCode::InvalidLink);
         }
         self.enable_srq(conn, enable, lid, handle)
     }
 
     /// Enables or disables service requests of a link that the connection owns. A handle above 40
     /// bytes gets the error for a wrong parameter, but `read_args` doesn't read a call with one.
-    fn enable_srq(&mut self, conn: Conn, enable: bool, lid: u32, handle: &[u8]) -> CallOutcome
+    fn enable_srq(&mut self, conn: Conn, enable: bool, lid: u32, handle: &[u8]) -> VxiResult<'static>
         ensures ends { (config : Configured) (acts : List DeviceAct) → IsDevice self.old config acts
             → owns conn.number (Some lid) acts ≡ true
-            → OutcomeIs result self.new config acts
+            → GivesResult result self.new config acts
             (enabled_srq conn.number enable lid handle.now) }
-        ensures short { IsBrief result }
+        ensures short { data_of (plain_result result) ≡ [] }
         ensures waiting { self.new.waiting ≡ self.old.waiting }
     {
         if !enable {
             self.intr.disable(lid);
-            return CallOutcome::Result(plain(ErrorCode::NoError));
+            return plain(ErrorCode::NoError);
         }
         if handle.len() > MAX_HANDLE {
-            return CallOutcome::Result(plain(ErrorCode::ParameterError));
+            return plain(ErrorCode::ParameterError);
         }
         self.intr.enable(lid, conn.number, handle);
-        CallOutcome::Result(plain(ErrorCode::NoError))
+        plain(ErrorCode::NoError)
     }
 
     /// destroy_intr_chan: the channel is closed, if one is open.
-    pub(super) fn destroy_channel(&mut self, conn: Conn) -> CallOutcome
+    pub(super) fn destroy_channel(&mut self, conn: Conn) -> VxiResult<'static>
         ensures ends { (config : Configured) (acts : List DeviceAct) → IsDevice self.old config acts
-            → OutcomeIs result self.new config acts (if channel_there conn.number acts
+            → GivesResult result self.new config acts (if channel_there conn.number acts
             then answer_with (Channel (ChannelClosed conn.number) ∷ []) (Plain NoError)
             else only (Plain NotEstablished)) }
-        ensures short { IsBrief result }
+        ensures short { data_of (plain_result result) ≡ [] }
         ensures waiting { self.new.waiting ≡ self.old.waiting }
     {
         if self.has_channel(conn) {
             self.close_channel(conn);
-            CallOutcome::Result(plain(ErrorCode::NoError))
+            plain(ErrorCode::NoError)
         } else {
-            CallOutcome::Result(plain(ErrorCode::NotEstablished))
+            plain(ErrorCode::NotEstablished)
         }
     }
 
@@ -117,12 +116,12 @@ impl<A: Allocator> Device<A> {
 
     /// Ends a suspended create_intr_chan. `ok` says whether the attempt to connect to its peer
     /// succeeded.
-    pub(super) fn end_dial(&mut self, conn: Conn, ok: bool, args: &Args<'_>) -> CallOutcome
+    pub(super) fn end_dial(&mut self, conn: Conn, ok: bool, args: &Args<'_>) -> VxiResult<'static>
         ensures ends { (config : Configured) (acts : List DeviceAct)
             → IsDevice self.old config acts → is_dialing conn.number (wait_acts acts) ≡ true
-            → OutcomeIs result self.new config (Waited (Left conn.number) ∷ acts)
+            → GivesResult result self.new config (Waited (Left conn.number) ∷ acts)
             (connect_outcome conn.number ok (plain_arguments args.now)) }
-        ensures short { IsBrief result }
+        ensures short { data_of (plain_result result) ≡ [] }
         ensures waiting { self.new.waiting ≡ without conn.number self.old.waiting }
     {
         match *args {
@@ -140,28 +139,28 @@ impl<A: Allocator> Device<A> {
             ),
             Args::CreateLink { .. } | Args::OnLink { .. } | Args::DestroyIntrChan => {
                 self.give_up_channel(conn);
-                CallOutcome::Result(failure(args, ErrorCode::NotEstablished))
+                failure(args, ErrorCode::NotEstablished)
             }
         }
     }
 
     /// Ends a suspended create_intr_chan whose peer is `peer`. `ok` says whether the attempt to
     /// connect to the peer succeeded.
-    fn end_channel(&mut self, conn: Conn, ok: bool, peer: Peer) -> CallOutcome
+    fn end_channel(&mut self, conn: Conn, ok: bool, peer: Peer) -> VxiResult<'static>
         ensures ends { (config : Configured) (acts : List DeviceAct)
             → IsDevice self.old config acts → is_dialing conn.number (wait_acts acts) ≡ true
-            → (addr port family : ℕ) → OutcomeIs result self.new config
+            → (addr port family : ℕ) → GivesResult result self.new config
             (Waited (Left conn.number) ∷ acts)
             (connect_outcome conn.number ok (CreateIntrChan addr port peer.prog peer.vers family)) }
-        ensures short { IsBrief result }
+        ensures short { data_of (plain_result result) ≡ [] }
         ensures waiting { self.new.waiting ≡ without conn.number self.old.waiting }
     {
         if !ok {
             self.give_up_channel(conn);
-            return CallOutcome::Result(plain(ErrorCode::NotEstablished));
+            return plain(ErrorCode::NotEstablished);
         }
         self.open_channel(conn, peer);
-        CallOutcome::Result(plain(ErrorCode::NoError))
+        plain(ErrorCode::NoError)
     }
 
     /// Opens the channel of a suspended create_intr_chan, and ends the suspension.

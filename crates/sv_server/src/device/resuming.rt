@@ -1,8 +1,9 @@
 //! A suspended call resumes, times out, or ends with another error.
 
-ghost use Rattle.std.specs.Prelude.{◌≡◌, ◌+◌, ◌<◌, ◌≤◌, ℕ, List, Some, None, IfSome, true, false, ◌∷◌};
-ghost use Rattle.sv_vxi.specs.Arguments.{is_create_link as makes_link};
-ghost use Rattle.sv_vxi.specs.Reading.{plain_arguments};
+ghost use Rattle.std.specs.Prelude.{◌≡◌, ◌+◌, ◌<◌, ◌≤◌, ℕ, List, [], Some, None, IfSome, IfOk, true, false, ◌∷◌};
+ghost use Rattle.sv_vxi.specs.Arguments.{OnLink, is_create_link as makes_link};
+ghost use Rattle.sv_vxi.specs.Reading.{plain_call, plain_arguments};
+ghost use Rattle.sv_vxi.specs.Results.{plain_result, data_of};
 ghost use Rattle.sv_links.specs.Waiting.{Left, waits};
 ghost use Rattle.sv_links.specs.Queue.{without, queue_measure, wait_measure};
 ghost use Rattle.sv_history.specs.declared.event.Config.{Config};
@@ -12,20 +13,22 @@ ghost use Rattle.sv_history.specs.CoreCall.{failure as failed};
 ghost use Rattle.sv_history.specs.Interrupts.{is_dial};
 ghost use Rattle.sv_history.specs.Resuming.{next_wait};
 ghost use Rattle.sv_server.specs.Device.Representation.{IsDevice};
-ghost use Rattle.sv_server.specs.declared.device.call_outcome.CallOutcome.TheVariants as outcomes;
-ghost use Rattle.sv_server.specs.Device.Inside.Outcome.{IsDeviceAt, MayMake, MayResume, GoesOnAs, OutcomeIs, ResumedAs, MayWaitAnew, IsBrief, IsNearer, is_able};
+ghost use Rattle.sv_server.specs.declared.outcome.Outcome.TheVariants as outcomes;
+ghost use Rattle.sv_server.specs.Device.Inside.Outcome.{IsDeviceAt, MayMake, MayResume, ContinuesAs, GivesResult, IsReady, CanExecute, ResumedAs, MayWaitAnew, IsBrief, IsNearer, is_able};
 
 use crate::conn::Conn;
 use crate::device::Device;
-use crate::device::call_outcome::CallOutcome;
+use crate::device::admitted::Admitted;
+use crate::device::arguments::{is_too_long, lid_of};
 use crate::device::error_results::failure;
+use crate::outcome::{Answer, Outcome};
 use std::alloc::Allocator;
 use sv_links::Wait;
-use sv_vxi::{Args, ErrorCode};
+use sv_vxi::{Args, ErrorCode, LinkCall, VxiResult};
 
 /// Why a suspended call continues or ends.
 #[derive(Clone, Copy)]
-pub enum Cause {
+pub enum WakeReason {
     /// The call can resume, because it got what it waits for.
     Able(Wait),
     /// The attempt to connect to the call's peer succeeded (`true`) or failed (`false`).
@@ -35,36 +38,36 @@ pub enum Cause {
 }
 
 impl<A: Allocator> Device<A> {
-    /// Continues a suspended call: executes it, suspends it anew, or ends it. `cause` says why the
+    /// Continues a suspended call: executes it, suspends it anew, or ends it. `reason` says why the
     /// call continues.
-    pub fn take_up(&mut self, conn: Conn, cause: Cause, args: &Args<'_>) -> CallOutcome
-        requires { IsNearer cause conn.number self.old.waiting }
+    pub fn continue_call(&mut self, conn: Conn, reason: WakeReason, args: &Args<'_>) -> Outcome
+        requires { IsNearer reason conn.number self.old.waiting }
         ensures ends { (config : Config) (polled : ℕ) (acts : List DeviceAct)
             → IsDeviceAt self.old config polled acts
-            → MayResume cause conn.number (MayMake (plain_arguments args.now) conn.number
+            → MayResume reason conn.number (MayMake (plain_arguments args.now) conn.number
             self.old acts) acts
-            → GoesOnAs cause result self.new config polled conn.number (plain_arguments args.now)
+            → ContinuesAs reason result self.new config polled conn.number (plain_arguments args.now)
             acts }
         ensures short { IsBrief result }
         ensures waiting { MayWaitAnew (result ≡ outcomes.Suspended) conn.number
             (makes_link (plain_arguments args.now))
             self.old.waiting self.new.waiting }
-        ensures left { is_able cause ≡ false
+        ensures left { is_able reason ≡ false
             → self.new.waiting ≡ without conn.number self.old.waiting }
-        ensures measure { is_able cause ≡ true → queue_measure self.new.waiting
+        ensures measure { is_able reason ≡ true → queue_measure self.new.waiting
             < queue_measure self.old.waiting }
     {
-        match cause {
-            Cause::Able(wait) => self.resume(conn, wait, args),
-            Cause::Dialed(ok) => self.end_dial(conn, ok, args),
-            Cause::Failed(error) => self.give_up(conn, error, args),
+        match reason {
+            WakeReason::Able(wait) => self.resume(conn, wait, args),
+            WakeReason::Dialed(ok) => Outcome::Reply(Answer::Result(self.end_dial(conn, ok, args))),
+            WakeReason::Failed(error) => Outcome::Reply(Answer::Result(self.give_up(conn, error, args))),
         }
     }
 
     /// Resumes a call that waited for `wait`, and executes it. But if the call waited for the lock
     /// and now has to wait for the device, it is suspended anew: it keeps its place in the queue,
     /// and its new timeout begins now.
-    fn resume(&mut self, conn: Conn, wait: Wait, args: &Args<'_>) -> CallOutcome
+    fn resume(&mut self, conn: Conn, wait: Wait, args: &Args<'_>) -> Outcome
         requires { queue_measure (without conn.number self.old.waiting) + wait_measure wait
             ≤ queue_measure self.old.waiting }
         ensures resumes { (config : Config) (polled : ℕ) (acts : List DeviceAct)
@@ -80,8 +83,8 @@ impl<A: Allocator> Device<A> {
         ensures measure { queue_measure self.new.waiting < queue_measure self.old.waiting }
     {
         match wait {
-            Wait::Lock => self.pass_lock(conn, args),
-            Wait::Input | Wait::Response | Wait::Dial => self.leave(conn, args),
+            Wait::Lock => self.resume_after_lock(conn, args),
+            Wait::Input | Wait::Response | Wait::Dial => self.finish_wait(conn, args),
         }
     }
 
@@ -101,7 +104,7 @@ impl<A: Allocator> Device<A> {
     }
 
     /// Resumes a call that waited for the lock: executes it, or suspends it anew.
-    fn pass_lock(&mut self, conn: Conn, args: &Args<'_>) -> CallOutcome
+    fn resume_after_lock(&mut self, conn: Conn, args: &Args<'_>) -> Outcome
         requires { queue_measure (without conn.number self.old.waiting) + 2
             ≤ queue_measure self.old.waiting }
         ensures resumes { (config : Config) (polled : ℕ) (acts : List DeviceAct)
@@ -119,13 +122,45 @@ impl<A: Allocator> Device<A> {
         if let Some((wait, timeout)) = self.next_wait(args) {
             let deadline = self.deadline(Some(timeout));
             self.waiting.again(conn.number, wait, deadline);
-            return CallOutcome::Suspended;
+            return Outcome::Suspended;
         }
-        self.leave(conn, args)
+        self.finish_wait(conn, args)
+    }
+
+    /// A suspended call on a link, as it is executed now; else the error with which it fails.
+    fn ready_link_call<'a>(&self, lid: i32, call: LinkCall<'a>) -> Result<Admitted<'a>, ErrorCode>
+        ensures answer { (config : Config) (acts : List DeviceAct) → IsDevice self.now config acts
+            → IsReady result (OnLink lid (plain_call call.entry)) acts }
+        ensures ready { IfOk result (λ call. CanExecute call self.now) }
+    {
+        let Some(lid) = lid_of(Some(lid)) else {
+            return Err(ErrorCode::InvalidLink);
+        };
+        if is_too_long(&call) {
+            return Err(ErrorCode::ParameterError);
+        }
+        if self.device_wait(&call).is_some() {
+            return Err(ErrorCode::IoTimeout);
+        }
+        Ok(Admitted::OnLink { lid, call })
+    }
+
+    /// A suspended call, as it is executed now; else the error with which it fails.
+    fn ready_call<'a>(&self, args: &Args<'a>) -> Result<Admitted<'a>, ErrorCode>
+        ensures answer { (config : Config) (acts : List DeviceAct) → IsDevice self.now config acts
+            → IsReady result (plain_arguments args.now) acts }
+        ensures ready { IfOk result (λ call. CanExecute call self.now) }
+    {
+        match *args {
+            Args::CreateLink { lock_device, .. } => Ok(Admitted::CreateLink { lock_device }),
+            Args::OnLink { lid, call } => self.ready_link_call(lid, call),
+            Args::DestroyIntrChan => Ok(Admitted::DestroyIntrChan),
+            Args::CreateIntrChan { .. } => Err(ErrorCode::NotSupported),
+        }
     }
 
     /// Takes a suspended call out of the queue, and executes it.
-    fn leave(&mut self, conn: Conn, args: &Args<'_>) -> CallOutcome
+    fn finish_wait(&mut self, conn: Conn, args: &Args<'_>) -> Outcome
         ensures ends { (config : Config) (polled : ℕ) (acts : List DeviceAct)
             → IsDeviceAt self.old config polled acts
             → MayMake (plain_arguments args.now) conn.number self.old acts
@@ -135,18 +170,21 @@ impl<A: Allocator> Device<A> {
         ensures waiting { self.new.waiting ≡ without conn.number self.old.waiting }
     {
         self.waiting.leave(conn.number);
-        self.own_call(conn, args)
+        match self.ready_call(args) {
+            Ok(call) => self.execute(conn, &call),
+            Err(error) => Outcome::Reply(Answer::Result(failure(args, error))),
+        }
     }
 
     /// Ends a suspended call with this error.
-    fn give_up(&mut self, conn: Conn, error: ErrorCode, args: &Args<'_>) -> CallOutcome
+    fn give_up(&mut self, conn: Conn, error: ErrorCode, args: &Args<'_>) -> VxiResult<'static>
         ensures ends { (config : Config) (acts : List DeviceAct) → IsDevice self.old config acts
-            → OutcomeIs result self.new config (Waited (Left conn.number) ∷ acts)
+            → GivesResult result self.new config (Waited (Left conn.number) ∷ acts)
             (only (failed (plain_arguments args.now) error)) }
-        ensures short { IsBrief result }
+        ensures short { data_of (plain_result result) ≡ [] }
         ensures waiting { self.new.waiting ≡ without conn.number self.old.waiting }
     {
         self.end_wait(conn);
-        CallOutcome::Result(failure(args, error))
+        failure(args, error)
     }
 }

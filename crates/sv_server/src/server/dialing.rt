@@ -17,9 +17,9 @@ ghost use Rattle.sv_server.specs.Server.State.{Represents, StandsFor};
 ghost use Rattle.sv_server.specs.Server.Inside.Acting.{Acts};
 
 use crate::conn::Conn;
-use crate::device::resuming::Cause;
+use crate::device::resuming::WakeReason;
 use crate::server::Server;
-use crate::server::resuming::take_up;
+use crate::server::resuming::continue_call;
 use std::alloc::Allocator;
 use sv_history::{Dial, Did, Refused};
 use sv_vxi::Args;
@@ -118,7 +118,7 @@ impl<A: Allocator> Server<A> {
             return Err(Refused::NoDial);
         }
         let connection = &mut self.connections[conn.index()];
-        take_up(connection, &mut self.device, conn, Cause::Dialed(ok));
+        continue_call(connection, &mut self.device, conn, WakeReason::Dialed(ok));
         Ok(Did::Done)
     }
 

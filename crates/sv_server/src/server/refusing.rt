@@ -11,9 +11,9 @@ ghost use Rattle.sv_server.specs.Connection.Inside.Requests.{plain_core_call};
 ghost use Rattle.sv_server.specs.Server.Inside.Acting.{Refuses};
 
 use crate::connection::Connection;
-use crate::connection::reply::Answer;
 use crate::connection::request::{CoreCall, Request, request_of};
 use crate::device::error_results::failure;
+use crate::outcome::Answer;
 use std::alloc::Allocator;
 use sv_history::{Refused, Role};
 use sv_vxi::{Args, ErrorCode};

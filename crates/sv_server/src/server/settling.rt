@@ -23,9 +23,9 @@ ghost use Rattle.sv_server.specs.Device.Inside.WaitingCall.{IsKept};
 ghost use Rattle.sv_server.specs.Server.Inside.Acting.{TakesStep, Steps, GoesTo, Settled, is_quiet};
 
 use crate::conn::Conn;
-use crate::device::resuming::Cause;
+use crate::device::resuming::WakeReason;
 use crate::server::Server;
-use crate::server::resuming::take_up;
+use crate::server::resuming::continue_call;
 use std::alloc::Allocator;
 use sv_history::Event;
 use sv_links::{Entry, Wait};
@@ -81,7 +81,7 @@ impl<A: Allocator> Server<A> {
     {
         let conn = Conn { number: entry.conn };
         let connection = &mut self.connections[conn.index()];
-        take_up(connection, &mut self.device, conn, Cause::Able(entry.wait));
+        continue_call(connection, &mut self.device, conn, WakeReason::Able(entry.wait));
     }
 
     /// Ends a suspended call with this error.
@@ -94,7 +94,7 @@ impl<A: Allocator> Server<A> {
         ensures waiting { self.new.device.waiting ≡ without conn.number self.old.device.waiting }
     {
         let connection = &mut self.connections[conn.index()];
-        take_up(connection, &mut self.device, conn, Cause::Failed(error));
+        continue_call(connection, &mut self.device, conn, WakeReason::Failed(error));
     }
 
     /// Applies an immediate trigger, if a trigger is due. Returns whether a trigger was applied.

@@ -10,41 +10,28 @@ ghost use Rattle.sv_history.specs.CoreChannel.{reads};
 ghost use Rattle.sv_server.specs.Connection.Representation.{IsConnection};
 ghost use Rattle.sv_server.specs.Device.Representation.{IsDevice};
 ghost use Rattle.sv_server.specs.Server.Inside.Acting.{Turns};
-ghost use Rattle.sv_server.specs.Server.Inside.Ending.{Concludes, EndsAs, CallEndsAs, IsBriefly};
+ghost use Rattle.sv_server.specs.Server.Inside.Ending.{Concludes, EndsAs};
 ghost use Rattle.sv_server.specs.Device.Inside.Outcome.{IsBrief};
 
 use crate::conn::Conn;
 use crate::connection::Connection;
-use crate::connection::reply::Answer;
 use crate::connection::request::request_of;
 use crate::device::Device;
-use crate::device::call_outcome::CallOutcome;
-use crate::server::execution::{Executed, execute};
+use crate::outcome::{Answer, Outcome};
+use crate::server::execution::execute;
 use std::alloc::Allocator;
-use sv_history::{Refused, Role};
+use sv_history::{Did, Refused, Role};
 use sv_vxi::{ErrorCode, Reason, VxiResult};
 
-/// What a Turn of an open connection did.
-#[derive(Clone, Copy)]
-pub enum Turned {
-    /// Nothing: there was no call to take.
-    Idle,
-    /// A record was taken. Its call was executed or suspended; or the record isn't a call.
-    Done {
-        /// If the call that was taken is a device_abort that ends a suspended call: the connection
-        /// of the suspended call. Else `None`.
-        aborts: Option<u8>,
-    },
-}
-
 /// Takes the next call of an open connection and executes it. Does nothing if there is no call.
-/// Refuses the Turn if the output has too little room for the longest reply.
+/// Refuses the Turn if the output has too little room for the longest reply. For a device_abort
+/// that ends a suspended call, returns also the connection of that call, which isn't ended yet.
 pub fn turn<A: Allocator>(
     connection: &mut Connection<A>,
     device: &mut Device<A>,
     conn: Conn,
     role: Role,
-) -> Result<Turned, Refused>
+) -> Result<(Did, Option<u8>), Refused>
     requires { connection.old.role ≡ Some role }
     ensures acts { (config : Config) (log : List Act)
         → IsConnection connection.old (of conn.number log)
@@ -53,52 +40,26 @@ pub fn turn<A: Allocator>(
     ensures err { OnErr result ((connection.new ≡ connection.old) × (device.new ≡ device.old)) }
 {
     let Some(call) = connection.next_call() else {
-        return Ok(Turned::Idle);
+        return Ok((Did::Idle, None));
     };
     if !connection.has_reply_room() {
         return Err(Refused::NoRoom);
     }
     let request = request_of(role, call);
     let xid = request.xid();
-    let Ok(executed) = execute(device, conn, &request) else {
+    let Ok((outcome, aborted)) = execute(device, conn, &request) else {
         return Err(Refused::NoMemory);
     };
     connection.take_call();
-    conclude(xid, executed, connection, device);
-    Ok(Turned::Done {
-        aborts: executed.aborts(),
-    })
+    conclude(xid, outcome, connection, device);
+    Ok((Did::Done, aborted))
 }
 
-/// Finishes the record that was taken, unless its call is suspended: appends the reply to the
-/// outgoing bytes, or drops the record if it isn't a call.
-fn conclude<A: Allocator>(
+/// Finishes a record that was taken, or a suspended call that continues: appends the reply to the
+/// outgoing bytes, or drops the record if it isn't a call. Does nothing if the call is suspended.
+pub fn conclude<A: Allocator>(
     xid: u32,
-    executed: Executed,
-    connection: &mut Connection<A>,
-    device: &mut Device<A>,
-)
-    requires { IsBriefly executed }
-    ensures ends { (config : Config) (acts : List ConnAct) (before : List DeviceAct)
-        (effect : Effect)
-        → IsConnection connection.old acts → is_busy acts ≡ true
-        → EndsAs executed xid device.old config before effect
-        → Concludes effect config acts before connection.new device.new }
-    ensures waiting { device.new.waiting ≡ device.old.waiting }
-{
-    match executed {
-        Executed::NoCall => connection.fault(),
-        Executed::Answered(answer) => connection.answer(xid, &answer),
-        Executed::Aborts(aborted) => connection.answer(xid, &Answer::Result(aborted.result)),
-        Executed::Call(outcome) => conclude_call(xid, outcome, connection, device),
-    }
-}
-
-/// Appends the reply to a call of the core channel to the outgoing bytes, unless the call is
-/// suspended.
-pub fn conclude_call<A: Allocator>(
-    xid: u32,
-    outcome: CallOutcome,
+    outcome: Outcome,
     connection: &mut Connection<A>,
     device: &mut Device<A>,
 )
@@ -106,14 +67,15 @@ pub fn conclude_call<A: Allocator>(
     ensures ends { (config : Config) (acts : List ConnAct) (before : List DeviceAct)
         (effect : Effect)
         → IsConnection connection.old acts → is_busy acts ≡ true
-        → CallEndsAs outcome xid device.old config before effect
+        → EndsAs outcome xid device.old config before effect
         → Concludes effect config acts before connection.new device.new }
     ensures waiting { device.new.waiting ≡ device.old.waiting }
 {
     match outcome {
-        CallOutcome::Result(result) => connection.answer(xid, &Answer::Result(result)),
-        CallOutcome::Reads { most, term } => answer_response(xid, most, term, connection, device),
-        CallOutcome::Suspended => {}
+        Outcome::Fault => connection.fault(),
+        Outcome::Reply(answer) => connection.answer(xid, &answer),
+        Outcome::Response { most, term } => answer_response(xid, most, term, connection, device),
+        Outcome::Suspended => {}
     }
 }
 

@@ -8,8 +8,8 @@ use Rattle.sv_rpc.specs.declared.reply.Reply.TheVariants.{Success}
 use Rattle.sv_vxi.specs.Results.{plain_result, result_fields, data_of}
 use Rattle.sv_exchange.specs.Limits.{max_read}
 use Rattle.sv_history.specs.Reply.{reply_record}
-use Rattle.sv_server.specs.declared.connection.reply.Answer.{Answer}
-use Rattle.sv_server.specs.declared.connection.reply.Answer.TheVariants as answers
+use Rattle.sv_server.specs.declared.outcome.Answer.{Answer}
+use Rattle.sv_server.specs.declared.outcome.Answer.TheVariants as answers
 
 -- the kind of reply by which an answer is sent
 abbrev pub reply_of : Answer → Reply

@@ -5,11 +5,9 @@ use Rattle.sv_errors.specs.Limits.{is_channel}
 use Rattle.sv_links.specs.declared.waiting.Entry.{Entry}
 use Rattle.sv_history.specs.declared.event.Config.{Config}
 use Rattle.sv_history.specs.declared.event.Did.{Did}
-use Rattle.sv_history.specs.declared.event.Did.TheVariants.{Done as DidSo}
+use Rattle.sv_history.specs.declared.event.Did.TheVariants.{Idle, Done}
 use Rattle.sv_history.specs.declared.event.Refused.{Refused}
 use Rattle.sv_history.specs.declared.event.Refused.TheVariants.{NoMemory}
-use Rattle.sv_server.specs.declared.server.turn.Turned.{Turned}
-use Rattle.sv_server.specs.declared.server.turn.Turned.TheVariants.{Idle, Done}
 use Rattle.sv_server.specs.declared.server.settling.Stepped.{Stepped}
 use Rattle.sv_server.specs.declared.server.settling.Stepped.TheVariants.{Nothing, Instrument, Call}
 use Rattle.sv_links.specs.Channels.{ChannelAct}
@@ -60,10 +58,11 @@ abbrev pub TakesCall : Config → ℕ → List Act → List ℕ → Request → 
 TakesCall config c log call request IsSo = (next_call (of c log) ≡ Some call) × (next_request (of c log) ≡ Some request)
     × ((polled : ℕ) → IsPolled polled (device_acts log) → IsSo (request_effect config polled c request (device_acts log)))
 
-abbrev pub Turns : Config → ℕ → List Act → List Entry → Result Turned Refused → Connection → Device → Type 0
-Turns config c log old (Ok Idle) connection device = (turn_refusal (of c log) ≡ None) × (is_idle (of c log) ≡ true)
-    × IsConnection connection (of c log) × IsDevice device config (device_acts log) × (device.waiting ≡ old)
-Turns config c log old (Ok (Done aborted)) connection device = (turn_refusal (of c log) ≡ None) × (is_idle (of c log) ≡ false)
+-- A Turn of an open connection finds no call; or it takes the next call, and says whose suspended call the taken call ends; or it is refused.
+abbrev pub Turns : Config → ℕ → List Act → List Entry → Result (Did × Option ℕ) Refused → Connection → Device → Type 0
+Turns config c log old (Ok (Idle, aborted)) connection device = (turn_refusal (of c log) ≡ None) × (is_idle (of c log) ≡ true)
+    × (aborted ≡ None) × IsConnection connection (of c log) × IsDevice device config (device_acts log) × (device.waiting ≡ old)
+Turns config c log old (Ok (Done, aborted)) connection device = (turn_refusal (of c log) ≡ None) × (is_idle (of c log) ≡ false)
     × (call : List ℕ) × (request : Request) × (aborted ≡ aborts request (device_acts log))
     × TakesCall config c log call request (λ effect. Concludes effect config (CallTaken call ∷ of c log) (device_acts log) connection device
     × MayWait (effect.own ≡ []) c (creates_link (core_call call)) old device.waiting)
@@ -82,7 +81,7 @@ Refuses acts (Err refused) connection = refuse_refusal acts ≡ Some refused
 -- Either the event Input, which sets a channel's voltage, isn't refused. Or this event is refused,
 -- and the result says why.
 abbrev pub IsInput : ℕ → ℤ → Result Did Refused → Type 0
-IsInput channel microvolts (Ok what) = (what ≡ DidSo) × (is_channel channel ≡ true) × (is_beyond microvolts ≡ false)
+IsInput channel microvolts (Ok what) = (what ≡ Done) × (is_channel channel ≡ true) × (is_beyond microvolts ≡ false)
 IsInput channel microvolts (Err refused) = Some refused ≡ input_refusal channel microvolts
 
 -- If the flag is true, the server took a step for which `IsStep` holds. If the flag is false, no

@@ -1,4 +1,4 @@
-use Rattle.std.proofs.Common.{rules, ◌≡◌, refl, inr}
+use Rattle.std.proofs.Common.{rules, ◌≡◌, refl, sym, ◌∙◌, inr}
 use Rattle.sv_vxi.specs.Arguments.{link}
 use Rattle.sv_vxi.specs.Reading.{plain_arguments}
 use Rattle.sv_history.specs.CoreCall.{lid_of}
@@ -9,7 +9,7 @@ pub returns-in_err-reserve : goal.returns-in_err-reserve
 returns-in_err-reserve g c = record {
   does = λ config polled acts known. search (rules, c.from_residual.ensures);
   lacks = λ config polled acts known. on_err c.from_residual.result _ (λ at. rw at (lock_wants c.args.conn.number
-      (plain_arguments c.args.args.now) acts c.args.wait c.args.timeout _ c.args.conn.within at c.in_err-reserve.ensures.err.1));
+      (plain_arguments c.args.args.now) acts c.args.wait c.args.timeout _ c.args.conn.within at (sym c.is_create_link.ensures ∙ c.in_err-reserve.ensures.err.1)));
   brief = search (rules, c.from_residual.ensures);
   err = search rules;
 }
@@ -25,7 +25,7 @@ returns g c = record {
           refl,
           c.enter.ensures.stands config acts is (λ both.
               let known = lock_place c.args.conn.number arguments acts c.args.wait c.args.timeout at (rw lid at both) in
-              place known.0 known.1),
+              place (c.is_create_link.ensures ∙ known.0) known.1),
         ),
         inr (
           refl,

@@ -8,17 +8,10 @@ use Rattle.sv_server.proofs.OnDevice.Calls.{unread_ends}
 use Rattle.sv_server.proofs.device.Device.device_read.Goals as goal
 
 pub returns-clause-ends : goal.returns-clause-ends
-returns-clause-ends g c = λ config acts old.
+returns-clause-ends g c = λ config acts old answerable.
     let is = rw (← c.self.view_is) at old in
     let log = instrument_acts acts in
     let stands = device_ran _ c.unterminated-raised.new.self _ config acts (Reported QueryUnterminated ∷ Exchanged TextDropped ∷ [])
     c.unterminated-raised.result is (c.unterminated-raised.ensures log is.1) c.raise.ensures.stands in
     unread_ends config acts _ c.args.most c.args.term _ (sym (c.if-readable.ensures.answer log is.1))
-    (sym (c.if-not-can_read.ensures.answer log is.1)) c.nothing_read-2.ensures.result_is stands
-
-pub returns-then-not-can_read-clause-ends : goal.returns-then-not-can_read-clause-ends
-returns-then-not-can_read-clause-ends g c = λ config acts old.
-    let is = rw (← c.self.view_is) at old in
-    let log = instrument_acts acts in
-    rw (sym (c.if-not-can_read.ensures.answer log is.1), sym (c.if-readable.ensures.answer log is.1))
-    (sym c.nothing_read.ensures.result_is, old)
+    answerable c.nothing_read.ensures.result_is stands

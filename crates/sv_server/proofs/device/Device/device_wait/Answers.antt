@@ -1,7 +1,24 @@
+use Rattle.std.proofs.Common.{refl}
+use Rattle.sv_history.specs.Act.{instrument_acts}
+use Rattle.sv_server.proofs.OnDevice.Parts.{not_true, not_false}
 use Rattle.sv_server.proofs.device.Device.device_wait.Goals as goal
 
-pub returns-in-DeviceWrite-clause-answer : goal.returns-in-DeviceWrite-clause-answer
-returns-in-DeviceWrite-clause-answer g c = λ config acts is. rw c.in-DeviceWrite.is (c.input_wait.ensures.answer config acts is)
+pub returns-then-can_write-clause-answer : goal.returns-then-can_write-clause-answer
+returns-then-can_write-clause-answer g c = λ config acts old.
+    let is = rw (← c.self.view_is) at old in
+    rw (c.in-DeviceWrite.is, not_true _ (c.if-can_write.ensures.answer (instrument_acts acts) is.1)) refl
 
-pub returns-in-DeviceRead-clause-answer : goal.returns-in-DeviceRead-clause-answer
-returns-in-DeviceRead-clause-answer g c = λ config acts is. rw c.in-DeviceRead.is (c.response_wait.ensures.answer config acts is)
+pub returns-else-can_write-clause-answer : goal.returns-else-can_write-clause-answer
+returns-else-can_write-clause-answer g c = λ config acts old.
+    let is = rw (← c.self.view_is) at old in
+    rw (c.in-DeviceWrite.is, not_false _ (c.if-can_write.ensures.answer (instrument_acts acts) is.1)) refl
+
+pub returns-then-can_read-clause-answer : goal.returns-then-can_read-clause-answer
+returns-then-can_read-clause-answer g c = λ config acts old.
+    let is = rw (← c.self.view_is) at old in
+    rw (c.in-DeviceRead.is, ← (c.if-can_read.ensures.answer (instrument_acts acts) is.1)) refl
+
+pub returns-else-can_read-clause-answer : goal.returns-else-can_read-clause-answer
+returns-else-can_read-clause-answer g c = λ config acts old.
+    let is = rw (← c.self.view_is) at old in
+    rw (c.in-DeviceRead.is, ← (c.if-can_read.ensures.answer (instrument_acts acts) is.1)) refl

@@ -34,9 +34,9 @@ returns-clause-acts g c = λ config log rep.
       λ channel_log tells. rw (unshut, dialing) refl,
       refl,
       λ polled said. rw c.index.ensures
-          (stands_after_time_out _ config log conn.number _ c.take_up.new.connection c.take_up.new.device state
+          (stands_after_time_out _ config log conn.number _ c.continue_call.new.connection c.continue_call.new.device state
           c.self.invariant conn.within
-          (c.take_up.ensures.concludes config polled (of conn.number log) (device_acts log) is (ap is_some known) (state.device, said)
+          (c.continue_call.ensures.concludes config polled (of conn.number log) (device_acts log) is (ap is_some known) (state.device, said)
           dialing).0
-          (c.take_up.ensures.left refl) call known),
+          (c.continue_call.ensures.left refl) call known),
     )

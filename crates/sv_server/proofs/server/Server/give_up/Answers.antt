@@ -14,8 +14,8 @@ returns-clause-stands g c = λ config log rep does.
     let is = connection_of _ config log conn.number c.index_mut-connection.result.now state conn.within at in
     let (call, known) = suspended_was_taken _ config log conn.number state does in
     let (polled, said) = polled_now _ config (device_acts log) state.device in
-    rw c.index.ensures (stands_after_time_out _ config log conn.number _ c.take_up.new.connection c.take_up.new.device state
+    rw c.index.ensures (stands_after_time_out _ config log conn.number _ c.continue_call.new.connection c.continue_call.new.device state
         c.self.invariant
     conn.within
-    (c.take_up.ensures.concludes config polled (of conn.number log) (device_acts log) is (ap is_some known) (state.device, said) tt).0
-    (c.take_up.ensures.left refl) call known)
+    (c.continue_call.ensures.concludes config polled (of conn.number log) (device_acts log) is (ap is_some known) (state.device, said) tt).0
+    (c.continue_call.ensures.left refl) call known)

@@ -1,4 +1,4 @@
-use Rattle.std.proofs.Common.{rules, ◌≡◌, [], ◌∷◌, refl, sym, ap, inl}
+use Rattle.std.proofs.Common.{rules, ◌≡◌, [], ◌∷◌, refl, sym, ap, inl, arith}
 use Rattle.std.specs.Prelude.{List, ℕ, Some}
 use Rattle.std.proofs.lemmas.Result.{err_from_is_err_and}
 use Rattle.sv_vxi.specs.Results.{Outcome, plain_result}
@@ -49,13 +49,13 @@ returns-in_err-admit-in-Core g c =
 pub returns-in-Abort : goal.returns-in-Abort
 returns-in-Abort g c = record {
   does = λ config polled acts known.
-      let told : plain_result c.abort.result.result ≡ abort_result (lid_of (Some c.in-Abort.lid)) acts =
-      search (rules, c.abort.ensures.answer config acts known.0) in
-      let ends : c.abort.result.conn ≡ if_waiting (owner_of (lid_of (Some c.in-Abort.lid)) acts) (lid_of (Some c.in-Abort.lid)) acts =
-      search (rules, c.abort.ensures.conn config acts known.0) in
+      let told : plain_result c.abort-aborted.result.0 ≡ abort_result (lid_of (Some c.in-Abort.lid)) acts =
+      search (rules, c.abort-aborted.ensures.answer config acts known.0) in
+      let ends : c.abort-aborted.result.1 ≡ if_waiting (owner_of (lid_of (Some c.in-Abort.lid)) acts) (lid_of (Some c.in-Abort.lid)) acts =
+      search (rules, c.abort-aborted.ensures.conn config acts known.0) in
       rw c.in-Abort.is ((ap (λ (o : Outcome). Replied (result_reply c.in-Abort.xid o) ∷ []) (sym told), known.0), inl refl, ends);
   lacks = λ config polled acts known. tt;
-  brief = c.abort.ensures.short;
+  brief = rw c.abort-aborted.ensures.short (omega arith);
   err = tt;
 }
 

@@ -33,7 +33,7 @@ returns-clause-acts g c = λ config log mine all.
       ap is_none next,
       c.in-Some.call.now,
       plain_request c.request_of-request.result,
-      c.aborts.ensures ∙ (c.in-Ok.ensures.does config now (device_acts log) (all, given)).2,
+      (c.in-Ok.ensures.does config now (device_acts log) (all, given)).2,
       (
         next,
         asks_for acts c.args.role c.in-Some.call.now _ (sym mine.role ∙ c.requires) next c.request_of-request.ensures,

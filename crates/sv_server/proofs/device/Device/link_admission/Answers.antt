@@ -1,21 +1,22 @@
 use Rattle.std.proofs.Common.{◌≡◌, ◌∙◌, true, false, refl, sym, subst}
 use Rattle.std.specs.Prelude.{ℕ, Option, None, codes}
 use Rattle.std.specs.Str.{bytes_eq}
+use Rattle.sv_vxi.specs.declared.error_code.ErrorCode.TheVariants.{OutOfResources}
 use Rattle.sv_links.specs.Links.{holder, is_locked_out}
 use Rattle.sv_history.specs.Act.{link_acts}
 use Rattle.sv_history.specs.Admission.{may_make_more}
 use Rattle.sv_server.proofs.OnDevice.Parts.{not_false}
-use Rattle.sv_server.proofs.device.Device.link_stop.Goals as goal
-use Rattle.sv_server.proofs.device.Device.link_stop.Goals.{else-lock_device-via-then-lock_device+else-is_locked_out, else-lock_device-via-else-lock_device}
+use Rattle.sv_server.proofs.device.Device.link_admission.Goals as goal
+use Rattle.sv_server.proofs.device.Device.link_admission.Goals.{else-lock_device-via-then-lock_device+else-is_locked_out, else-lock_device-via-else-lock_device}
 
-pub returns-then-not-may_make_more : goal.returns-then-not-may_make_more
-returns-then-not-may_make_more g c = λ config acts is.
+pub returns-then-not-may_make_more-clause-stops : goal.returns-then-not-may_make_more-clause-stops
+returns-then-not-may_make_more-clause-stops g c = λ config acts is client.
     let named : bytes_eq c.args.device.now (codes "inst0") ≡ true = rw (← c.as_slice.ensures) (not_false _ c.if-ne.ensures) in
     let may : may_make_more acts ≡ false = sym (c.may_make_more.ensures config acts is) ∙ c.if-not-may_make_more.true in
-    rw (named, may) refl
+    (OutOfResources, rw (named, may) refl, c.no_link-then-not-may_make_more.ensures)
 
-pub returns-then-is_locked_out : goal.returns-then-is_locked_out
-returns-then-is_locked_out g c = λ config acts old.
+pub returns-then-is_locked_out-clause-stops : goal.returns-then-is_locked_out-clause-stops
+returns-then-is_locked_out-clause-stops g c = λ config acts old client.
     let is = rw (← c.self.view_is) at old in
     let named : bytes_eq c.args.device.now (codes "inst0") ≡ true = rw (← c.as_slice.ensures) (not_false _ c.if-ne.ensures) in
     let may : may_make_more acts ≡ true = sym (c.may_make_more.ensures config acts old) ∙ c.if-not-may_make_more.false in
@@ -23,8 +24,8 @@ returns-then-is_locked_out g c = λ config acts old.
     (c.holder.ensures.answer (link_acts acts) is.0) (sym c.is_locked_out.ensures ∙ c.if-is_locked_out.true) in
     rw (named, may, c.if-lock_device.true, locked) refl
 
-pub returns : goal.returns
-returns g c = λ config acts old.
+pub returns-clause-stops : goal.returns-clause-stops
+returns-clause-stops g c = λ config acts old client.
     let is = rw (← c.self.view_is) at old in
     let named : bytes_eq c.args.device.now (codes "inst0") ≡ true = rw (← c.as_slice.ensures) (not_false _ c.if-ne.ensures) in
     let may : may_make_more acts ≡ true = sym (c.may_make_more.ensures config acts old) ∙ c.if-not-may_make_more.false in

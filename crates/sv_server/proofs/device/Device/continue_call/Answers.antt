@@ -1,4 +1,4 @@
-use Rattle.sv_server.proofs.device.Device.take_up.Goals as goal
+use Rattle.sv_server.proofs.device.Device.continue_call.Goals as goal
 
 pub resume-requires : goal.resume-requires
 resume-requires g c = rw c.in-Able.is at c.requires

@@ -2,7 +2,7 @@ use Rattle.std.proofs.Common.{refl, inr}
 use Rattle.sv_history.specs.Act.{wait_acts}
 use Rattle.sv_server.proofs.OnDevice.Parts.{device_again}
 use Rattle.sv_server.proofs.OnDevice.Granted.{rank_other}
-use Rattle.sv_server.proofs.device.Device.pass_lock.Goals as goal
+use Rattle.sv_server.proofs.device.Device.resume_after_lock.Goals as goal
 
 pub returns-in-Some-clause-resumes : goal.returns-in-Some-clause-resumes
 returns-in-Some-clause-resumes g c = λ config polled acts known waits may.
@@ -20,4 +20,4 @@ returns-in-Some-clause-waiting g c =
 
 pub returns-clause-resumes : goal.returns-clause-resumes
 returns-clause-resumes g c = λ config polled acts known waits may.
-    rw (← (c.in_default.ensures.answer config acts known.0)) (c.leave.ensures.ends config polled acts known may)
+    rw (← (c.in_default.ensures.answer config acts known.0)) (c.finish_wait.ensures.ends config polled acts known may)
