@@ -382,7 +382,7 @@ reads_alike n config a b c told (room, has, h) (other, had, k) =
     by room (inr (some, answer, few, h)) (inl (none, k)) = absurd (omega (arith, none, some))
     by room (inr (some, answer, few, h)) (inr (more, also, less, k)) =
         same_question_alike (λ x. WasRead n (min room longest_piece) x) (Comes Records n) config answer also (cases_bytes answer also) refl
-            (λ e. cc)
+        (λ e. cc)
         (λ x m b c. same_comes n x config m b c)
         (λ x m b h. extends_by (Comes Records n x) config m b (lift_comes Records n x config m b [] h)
         (comes_grows Any Records n x config m b (λ bytes. tt) tt h)) a b c told h k
@@ -428,7 +428,7 @@ writes_alike port config a b c told (bytes, waits, h) (other, wait, k) = by byte
         (l : List ℕ). 0 < length l) none some in omega (arith, z))
     by bytes (inr (some, answer, few, h)) (inr (more, also, less, k)) =
         same_question_alike (λ x. WasWritten port bytes x) (EndsWrite Records port) config answer also (cases_count answer also) refl
-            (λ e. cc)
+        (λ e. cc)
         (λ x m b c. same_ends_write port x config m b c)
         (λ x m b h. extends_by (EndsWrite Records port x) config m b (lift_ends_write Records port x config m b [] h)
         (ends_write_grows Any Records port x config m b ((λ n. tt), tt) h)) a b c told h k

@@ -59,7 +59,7 @@ same_check : (event : PlainEvent) (config : Config) (history : List PlainEvent) 
 same_check event config history log other one two was also (told, hears, h) (heard, tells, k) =
     let same = one_log config history log other was also in
     let listed = channel_log_unique (device_acts other) told heard (subst (λ (l : List Act). HearsOf (device_acts l) told) same hears) tells
-        in
+    in
     sym (check_is config told event log one h) ∙ ap (λ (l : List Act). refusal config told event l) same
     ∙ ap (λ (l : List ChannelAct). refusal config l event other) listed ∙ check_is config heard event other two k
 
@@ -116,7 +116,7 @@ turn_alike n (Ok did) (Err refused) config a m k b c told e x y s t =
     inr (inr (inl (memory_differs n refused config a b c told e (s ∙ x) (subst (λ v. RefusesIf n (is_no_memory refused) config v c) y t))))
 turn_alike n (Err refused) (Ok did) config a m k b c told e x y s t =
     inr (inr (inr (memory_differs n refused config a c b told (sym e) (t ∙ y)
-        (subst (λ v. RefusesIf n (is_no_memory refused) config v b) x s))))
+    (subst (λ v. RefusesIf n (is_no_memory refused) config v b) x s))))
 turn_alike n (Err one) (Err two) config a m k b c told e x y s t = inl (both_refuse n one two config a b c e
     (subst (λ v. RefusesIf n (is_no_memory one) config v b) x s) (subst (λ v. RefusesIf n (is_no_memory two) config v c) y t))
 
@@ -293,7 +293,7 @@ sweeps_alike ticks config a b c told (m1, s1, (m2, s2, (m3, s3, (m4, s4, (m5, s5
     (lift_each Records (ReadsFrom Records) (ReadsFrom Records) config 16 (λ i. lift_reads Records i config) x y [] h)
     (grows_each Any config (ReadsFrom Records) 16 (λ i x y. reads_grows Any Records i config x y (λ bytes. tt) tt) x y h)) r3 o3 s4 t4 in
     let o5 = next_step_alike (ForEach 16 Turns) config m4 n4 m5 n5
-        (each_step_alike Turns config 16 (λ i. turns_alike i config) turning kept_turning
+    (each_step_alike Turns config 16 (λ i. turns_alike i config) turning kept_turning
     (omega arith))
     (λ x y h. extends_by (ForEach 16 Turns) config x y
     (lift_each Records Turns Turns config 16 (λ i. lift_turns Records i config) x y [] h)

@@ -134,7 +134,7 @@ stimulus_onto hears config stimulus x y trace h =
     let (later, along, same) = lift_stimulates hears stimulus config x y trace h in
     let k = stimulates Records Nothing config stimulus (over_trace x trace) (over_trace y later) same in
     let is : later ≡ trace = through_records k.piece trace later k.through
-        ∙ ap (λ (l : List Heard). l ++ trace) (asks_nothing_is_empty k.piece k.may) in
+    ∙ ap (λ (l : List Heard). l ++ trace) (asks_nothing_is_empty k.piece k.may) in
     subst (λ (l : List Heard). Stimulates stimulus config (over_trace x trace) (over_trace y l)) is same
 
 over_all_sweeps : {W J : Type 0} (hears : W → Heard → W → Type 0) (notes : J → List PlainEvent → J → Type 0) (config : Config)

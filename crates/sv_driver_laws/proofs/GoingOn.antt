@@ -171,9 +171,11 @@ pub waiting_after_calls : (adds acts : List ConnAct) → AreCallActs adds → Is
     → (more : List ℕ) × (waiting (adds ++ acts) ≡ waiting acts ++ more)
 waiting_after_calls adds acts h within = elim (cases_Bool (is_open acts)) [
   | inl e ↦
-      let grown = sent_after_calls adds acts h in
-      (grown.1, rw (is_open_after_calls adds acts h, e, grown.0, grown.2)
-          (drop-append-le (bytes_taken acts) (bytes_sent acts) grown.1 (within e)))
+      let grown = sent_after_calls adds acts h in (
+        grown.1,
+        rw (is_open_after_calls adds acts h, e, grown.0, grown.2)
+            (drop-append-le (bytes_taken acts) (bytes_sent acts) grown.1 (within e)),
+      )
   | inr e ↦ ([], rw (is_open_after_calls adds acts h, e) refl)
 ]
 

@@ -84,7 +84,7 @@ closes_idles : {W : Type 0} (hears : W → Heard → W → Type 0) (c : ℕ) (co
 closes_idles hears c config a b (m, heard, (n, hangs, applies)) = idles_trans a m b
     (hears_idles hears (WasClosed (Conn c)) config a m heard)
     (idles_trans m n b (closes_channel_on_idles hears c (dialed_of c m) config m n hangs)
-        (applied_idles (Close (Conn c)) config n b refl refl applies))
+    (applied_idles (Close (Conn c)) config n b refl refl applies))
 
 comes_idles : {W : Type 0} (hears : W → Heard → W → Type 0) (c : ℕ) (answer : Answer (List ℕ)) (config : Config) (a b : DriverView W)
     → Comes hears c answer config a b → Idles a b
@@ -149,7 +149,7 @@ poll_result_idles hears c (Got all) config a b applies = applied_idles (Dialed c
 poll_result_idles hears c Pending config a b is = idles_refl a b is
 poll_result_idles hears c Failed config a b (m, hangs, applies) =
     idles_trans a m b (closes_channel_on_idles hears c (dialed_of c a) config a m hangs)
-        (applied_idles (Dialed c false) config m b refl refl applies)
+    (applied_idles (Dialed c false) config m b refl refl applies)
 
 dials_for_idles : {W : Type 0} (hears : W → Heard → W → Type 0) (c : ℕ) (wanted dialed : Option Dial) (config : Config) (a b : DriverView W)
     → DialsFor hears c wanted dialed config a b → Idles a b
@@ -172,7 +172,7 @@ ends_write_idles hears port Pending config a b is = idles_refl a b is
 ends_write_idles hears (Conn c) Failed config a b h = closes_idles hears c config a b h
 ends_write_idles hears (Intr c) Failed config a b (m, hangs, applies) =
     idles_trans a m b (closes_channel_on_idles hears c (dialed_of c a) config a m hangs)
-        (applied_idles (Close (Intr c)) config m b refl refl applies)
+    (applied_idles (Close (Intr c)) config m b refl refl applies)
 
 pub writes_idles : {W : Type 0} (hears : W → Heard → W → Type 0) (port : Port) (config : Config) (a b : DriverView W)
     → WritesTo hears port config a b → Idles a b

@@ -110,7 +110,7 @@ keeps_then hears May config a b c x y = record {
       (x.hands trace so h));
   lets = λ trace so h. subst (λ t. ClosesChannelsRightly config c.history t) (sym (append_assoc y.piece x.piece trace))
       (y.lets (x.piece ++ trace) (ap (filter is_outer) x.grown ∙ matching_append x.events a.history x.piece trace x.told so)
-          (x.lets trace so h));
+      (x.lets trace so h));
 }
 
 pub keeps_each : {W : Type 0} (hears : W → Heard → W → Type 0) (May : Subject → Type 0) (config : Config) (step : ℕ → Config → DriverView W
@@ -199,7 +199,7 @@ only_heard hears May config heard may wire before between after was is silent ca
     None before after
     (quiet_one hears May None heard may wire before after was (ap (λ m. m.wire) same ∙ ap (λ m. m.wire) is)
     (ap (λ m. m.history) same ∙ ap (λ m. m.history) is) silent calm unwritten (λ d e. absurd (unhung d e)))
-        (λ trace so d e. none_not_some d e)
+    (λ trace so d e. none_not_some d e)
 
 pub closed_channel_is : (c d : ℕ) → WasClosed (Intr c) ≡ WasClosed (Intr d) → Some c ≡ Some d
 closed_channel_is c d e = cc

@@ -93,6 +93,8 @@ pub closes_rightly_event : (config : Config) (before after : List PlainEvent) (e
 closes_rightly_event config before after event heard newer older trace hung grown adds ends none old h =
     subst (λ (l : List PlainEvent). ClosesChannelsRightly config l ((newer ++ heard ∷ older) ++ trace)) (sym grown)
     (subst (λ (l : List Heard). ClosesChannelsRightly config (event ∷ before) l) (sym (append_assoc newer (heard ∷ older) trace))
-    (adds config (event ∷ before) (heard ∷ older ++ trace) (λ c e. inl (heard, older ++ trace, refl, ends c e))
-    ((λ c e. absurd (none c e)), closes_rightly_none config (event ∷ before) older trace old
-        (closes_rightly_more config before (event ∷ []) trace h))))
+    (adds config (event ∷ before) (heard ∷ older ++ trace) (λ c e. inl (heard, older ++ trace, refl, ends c e)) (
+      (λ c e. absurd (none c e)),
+      closes_rightly_none config (event ∷ before) older trace old
+          (closes_rightly_more config before (event ∷ []) trace h),
+    )))

@@ -100,7 +100,7 @@ closes_grows : {W : Type 0} (P : PlainEvent → Type 0) (hears : W → Heard →
 closes_grows P hears c config a b so (m, heard, (n, hangs, applies)) =
     grows_trans P a m b (hears_grows P hears (WasClosed (Conn c)) config a m heard)
     (grows_trans P m n b (closes_channel_on_grows P hears c (dialed_of c m) config m n hangs)
-        (happens_grows P (Close (Conn c)) config n b so applies))
+    (happens_grows P (Close (Conn c)) config n b so applies))
 
 pub comes_grows : {W : Type 0} (P : PlainEvent → Type 0) (hears : W → Heard → W
     → Type 0) (c : ℕ) (answer : Answer (List ℕ)) (config : Config)

@@ -187,7 +187,7 @@ pub keeps_dial_keeps : {W : Type 0} (hears : W → Heard → W → Type 0) (May 
 keeps_dial_keeps hears May config c may true before after shut same = keeps_none hears May config before after same
 keeps_dial_keeps hears May config c may false before after shut hangs =
     let at = shut refl in quiet_keeps hears May config (Some c) before after
-        (closes_channel_quiet hears May config may c before after hangs)
+    (closes_channel_quiet hears May config may c before after hangs)
     (λ trace so d e. shut_is_reason c d config before.history trace at.0 at.1 at.2 so e)
 
 pub cancels_unwanted_keeps : {W : Type 0} (hears : W → Heard → W → Type 0) (May : Subject

@@ -145,7 +145,7 @@ holds_silent c heard trace acts channel_log still none nothing h = (
 
 pub step_open : (c : ℕ) (role : Role) (all : ⊤) (trace : List Heard) (d : ℕ) (acts : List ConnAct) (channel_log : List ChannelAct)
     → PortBytes d acts channel_log trace → PortBytes d (brings d (Open c role) ++ acts) channel_log
-        (WasAccepted role (Some c) (Got all) ∷ trace)
+    (WasAccepted role (Some c) (Got all) ∷ trace)
 step_open c role all trace d acts channel_log h = (
   elim (cases_Bool (eqb c d)) [
     | inl e ↦ rw e (refl, (λ opened. (refl, omega arith)))
@@ -232,7 +232,7 @@ pub keeping_event : OnlyCalls → OnlyRequests
     → (config : Config) (history : List PlainEvent) (before : List Act) (channel_log : List ChannelAct)
     (event : PlainEvent) (trace later : List Heard) → IsLogOf config history before → HearsOf (device_acts before) channel_log
     → ((c : ℕ) → PortBytes c (of c before) channel_log trace → PortBytes c (brings c event ++ of c before)
-        (tells event before ++ channel_log) later)
+    (tells event before ++ channel_log) later)
     → BytesMatch config history trace → BytesMatch config (event ∷ history) later
 keeping_event only requests config history before channel_log event trace later was hears step keeping log then_told is then_hears c =
     let grown = only config event history before log c was is in

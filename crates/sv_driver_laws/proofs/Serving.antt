@@ -185,7 +185,7 @@ sent_conn : {W : Type 0} (hears : W → Heard → W → Type 0) (config : Config
     → Wrote (Conn c) (waiting (of c log)) piece
 sent_conn hears config c x m k piece untouched log now was is_now wrote =
     let grown = only_calls_over_events config k.events x.history log now c untouched was (subst (λ h. IsLogOf config h now) k.grown is_now)
-        in
+    in
     let waits = waiting_after_calls grown.0 (of c log) grown.1 (taken_within_sent config x.history log c was) in
     front_is_written (Conn c) (waiting (of c log)) (waiting (of c now)) waits.0 piece (ap waiting grown.2 ∙ waits.1) wrote
 
@@ -314,7 +314,7 @@ still_shut : (c : ℕ) (end : List Act) (channel_log : List ChannelAct) → Hear
     → is_channel_open c channel_log ≡ false → is_port_shut (Intr c) end ≡ true
 still_shut c end channel_log hears_of shut =
     let none : has_channel c (device_acts end) ≡ false = sym (channel_open_by_channel_log c (device_acts end) channel_log hears_of)
-        ∙ shut in
+    ∙ shut in
     rw none (either (nat_lt 15 c))
   where
     either : (b : Bool) → (b || true) ≡ true

@@ -135,7 +135,7 @@ play_one config s n k a b (entry, others, m, first, due, (result, (log, was, ans
     let now : entry.tick ≡ n = omega (arith, low, due, at) in
     let channel_log = channel_log_exists (device_acts log) in
     let done = allowed_event_is_applied config event a m channel_log.0 log was channel_log.1
-        (stimulus_suits entry.stimulus channel_log.0 log rising.1)
+    (stimulus_suits entry.stimulus channel_log.0 log rising.1)
     (result, (log, was, answers, to)) in
     let history : b.history ≡ event ∷ a.history = ap (λ m. m.history) is ∙ ap (λ m. m.history) done in
     let own : entry_events n (p.past ++ entry ∷ []) ≡ event ∷ entry_events n p.past = entry_events_append n p.past (entry ∷ []) ∙ rw
@@ -274,7 +274,7 @@ sweep_timed hears config s k ticks m0 m10
     (idles_each config (Dials hears) 16 (λ c. dials_idles hears c config) m5 m6 s6))))) in
     let r = rests_after_passes config s k ticks m6 m7 s7 (record { n = p.n; play = idle_play config s p.n k m0 m6 front p.play }) in
     let rest = idles_trans m7 m8 m10
-        (idles_each config (λ c. WritesTo hears (Conn c)) 16 (λ c. writes_idles hears (Conn c) config) m7 m8 s8)
+    (idles_each config (λ c. WritesTo hears (Conn c)) 16 (λ c. writes_idles hears (Conn c) config) m7 m8 s8)
     (idles_trans m8 m9 m10 (idles_each config (λ c. WritesTo hears (Intr c)) 16 (λ c. writes_idles hears (Intr c) config) m8 m9 s9)
     (idles_each config (Ends hears) 16 (λ c. ends_idles hears c config) m9 m10 s10)) in
     record {

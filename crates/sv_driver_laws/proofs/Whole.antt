@@ -444,6 +444,6 @@ intr_phase hears May config (suc n) may a x y front (m, first, (bytes, (now, tol
           ];
       untold = λ c le. grows_trans (OnlyAddsToChannel c) x m y (p.untold c (omega (arith, le)))
           (writes_grows (OnlyAddsToChannel c) hears (Intr n) config m y
-              (untold_port c (Intr n) (ports_apart n c (λ e. absurd (omega (arith, le, e)))))
+          (untold_port c (Intr n) (ports_apart n c (λ e. absurd (omega (arith, le, e)))))
           (bytes, (now, told, is_now, hears_now, waits), last));
     }

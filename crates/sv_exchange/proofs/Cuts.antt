@@ -61,7 +61,7 @@ more_text_continues_last (Byte b ∷ old) new k last first others h e = at (b ==
   where
     at : (t : Bool) → ContinuesLast (messages old) (messages (old ++ new)) (messages new)
         → ContinuesLast (cond t ([] ∷ messages old) (onto b (messages old)))
-            (cond t ([] ∷ messages (old ++ new)) (onto b (messages (old ++ new))))
+        (cond t ([] ∷ messages (old ++ new)) (onto b (messages (old ++ new))))
         (messages new)
     at true goes = continues_after_empty (messages old) (messages (old ++ new)) (messages new) (messages_some old) goes
     at false goes = continues_with_byte b (messages old) (messages (old ++ new)) (messages new) (messages_some old)

@@ -98,7 +98,7 @@ due_by_contents contents acts s =
     sym (ap (λ (b : Bool). due_by b told (next_unit acts) first (has_ended acts)) (is_long_by_contents contents acts s)
     ∙ ap (λ (b : Bool). due_by contents.overlong b (next_unit acts) first (has_ended acts)) s.overrun_reported
     ∙ ap (λ (u : Option (List ℕ)). due_by contents.overlong contents.overrun_reported u first (has_ended acts))
-        (next_unit_by_contents contents acts s)
+    (next_unit_by_contents contents acts s)
     ∙ ap (λ (b : Bool). due_by contents.overlong contents.overrun_reported (unit_of contents) b (has_ended acts)) interrupts
     ∙ ap (λ (b : Bool). due_by contents.overlong contents.overrun_reported (unit_of contents) (is_something (shown_by contents)) b)
     (has_ended_by_contents contents acts s))

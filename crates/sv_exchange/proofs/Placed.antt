@@ -26,7 +26,7 @@ pub place_is : (contents : Contents) (acts : List ExchangeAct) (unit : List ℕ)
     → StandsFor contents acts → next_unit acts ≡ Some unit → IsPlaceOf (contents.place + ahead.start) unit acts
 place_is contents acts unit ahead looked s next =
     let due = has_unit contents.ended contents.overlong contents.answers_dropped _ unit (sym (next_unit_by_contents contents acts s) ∙ next)
-        in
+    in
     let placed = s.placed due.0 in
     let h = looked.begun.seen in
     let same : h.unit ≡ unit = sym (unit_slice ahead contents.rest h) ∙ found_unit_is_first ahead contents.rest unit looked due.1 in
@@ -35,7 +35,7 @@ place_is contents acts unit ahead looked s next =
     unit_parts ahead contents.rest h ∙ ap (λ (l : List ℕ). h.before ++ (l ++ behind)) same in
     let none : units h.before ≡ [] = sym (ap units (append-nil h.before)) ∙ h.blank [] in
     let all : units (message acts) ≡ s.executed ++ units contents.rest =
-        ap units (message_by_contents contents acts s) ∙ placed.units_left in (
+    ap units (message_by_contents contents acts s) ∙ placed.units_left in (
       placed.consumed ++ h.before,
       behind,
       message_by_contents contents acts s ∙ placed.joined ∙ ap (λ (l : List ℕ). placed.consumed ++ l) rest

@@ -108,8 +108,11 @@ finish_stands contents new acts ended few is s =
       no_answers = λ unended. refl;
       overrun_reported = refl;
       answers_dropped = refl;
-      shows = (refl, response_finished acts ∙ response_from_answers contents.answering contents.output (answers acts) (response acts)
-          s.shows);
+      shows = (
+        refl,
+        response_finished acts ∙ response_from_answers contents.answering contents.output (answers acts) (response acts)
+            s.shows,
+      );
     })
 
 pub may_respond_parts : (ended lost something : Bool) → IsTrue (ended && (not lost && not something))

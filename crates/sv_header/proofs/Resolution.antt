@@ -36,7 +36,7 @@ names_from_leads (suc fuel) c q (branch ∷ behind) left command (inl (inl there
     let Below = λ (rest : List (List ℕ)) (final : CommandId). Leads fuel q children rest final in
     let on = names_below c q branch rows Below (names_from_leads fuel c q children) there.0 command there.2 in
     some_of_first_rows c q left command (map (below (part branch.node)) (ending_rows c branch ++ rows))
-        (rows_of fuel c (drop branch.below behind))
+    (rows_of fuel c (drop branch.below behind))
     (some_if_node_taken c q left there.0 (part branch.node) command (ending_rows c branch ++ rows) there.1 on)
 names_from_leads (suc fuel) c q (branch ∷ behind) left command (inl (inr absent)) =
     let children = take branch.below behind in
@@ -44,11 +44,11 @@ names_from_leads (suc fuel) c q (branch ∷ behind) left command (inl (inr absen
     let Below = λ (rest : List (List ℕ)) (final : CommandId). Leads fuel q children rest final in
     let on = names_below c q branch rows Below (names_from_leads fuel c q children) left command absent.1 in
     some_of_first_rows c q left command (map (below (part branch.node)) (ending_rows c branch ++ rows))
-        (rows_of fuel c (drop branch.below behind))
+    (rows_of fuel c (drop branch.below behind))
     (some_if_node_omitted c q left (part branch.node) command (ending_rows c branch ++ rows) absent.0 on)
 names_from_leads (suc fuel) c q (branch ∷ behind) left command (inr siblings) =
     some_of_second_rows c q left command
-        (map (below (part branch.node)) (ending_rows c branch ++ rows_of fuel c (take branch.below behind)))
+    (map (below (part branch.node)) (ending_rows c branch ++ rows_of fuel c (take branch.below behind)))
     (rows_of fuel c (drop branch.below behind))
     (names_from_leads fuel c q (drop branch.below behind) left command siblings)
 

@@ -38,8 +38,8 @@ macro_rules! maybe {
 }
 
 /// The nodes of a tree, as an array: after each node the nodes below it, which are in braces.
-/// `node` and `maybe` begin a node. What follows says which headers end there: that of an action, of
-/// a query, or of a setting with its query; `ends` names the commands of the header without a
+/// `node` and `maybe` begin a node. What follows says which headers end there: that of an action,
+/// of a query, or of a setting with its query; `ends` names the commands of the header without a
 /// question mark and of the one with it. `register` stands for the nodes of a status register.
 macro_rules! tree {
     ([$($done:expr,)*]) => {

@@ -87,4 +87,4 @@ times_out_unique config log x y (c, wait, oldest, for, is) (d, other, first, wha
 pub next_step_unique : (config : Config) (log a b : List Act) → IsNext config log a → IsNext config log b → a ≡ b
 next_step_unique config log = first_step_unique _ _ (instrument_step_unique IsFired fired_unique log)
     (first_step_unique _ _ (resumes_unique config log)
-        (first_step_unique _ _ (instrument_step_unique IsStep one_step log) (times_out_unique config log)))
+    (first_step_unique _ _ (instrument_step_unique IsStep one_step log) (times_out_unique config log)))

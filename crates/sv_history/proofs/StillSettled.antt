@@ -64,7 +64,7 @@ next_back config log other same = first_back _ _ _ _ (λ new. instrument_step_ba
     (λ new. instrument_step_back IsFired other log new (sym same))
     (first_back _ _ _ _ (λ new. resumes_back config log other new same) (λ new. resumes_back config other log new (sym same))
     (first_back _ _ _ _ (λ new. instrument_step_back IsStep log other new same)
-        (λ new. instrument_step_back IsStep other log new (sym same))
+    (λ new. instrument_step_back IsStep other log new (sym same))
     (λ new. times_out_back config log other new same)))
 
 pub still_settled : (c : ℕ) (act : ConnAct) (config : Config) (log : List Act) → IsSettled config log → IsSettled config (On c act ∷ log)

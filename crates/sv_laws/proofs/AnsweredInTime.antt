@@ -90,10 +90,10 @@ pending_or_answered bytes call (Piece piece ∷ front) own known stays all = pen
 pending_or_answered bytes call (BytesTaken count ∷ front) own known stays all = pending_or_answered bytes call front own known stays all.1
 pending_or_answered bytes call (CallTaken other ∷ front) own known stays all =
     elim (pending_or_answered bytes call front own known stays all.1) [
-  | inl was ↦ none_is_not_some (pending_call (front ++ CallTaken bytes ∷ own)) bytes
-      (next_call_means_none_pending (front ++ CallTaken bytes ∷ own) other all.0.1) was.1
-  | inr more ↦ inr more
-]
+      | inl was ↦ none_is_not_some (pending_call (front ++ CallTaken bytes ∷ own)) bytes
+          (next_call_means_none_pending (front ++ CallTaken bytes ∷ own) other all.0.1) was.1
+      | inr more ↦ inr more
+    ]
 pending_or_answered bytes call (Faulted ∷ front) own known stays all = elim (pending_or_answered bytes call front own known stays all.1) [
   | inl was ↦
       let same : all.0.0 ≡ bytes = some_injective all.0.0 bytes (sym all.0.1 ∙ was.1) in
@@ -102,9 +102,9 @@ pending_or_answered bytes call (Faulted ∷ front) own known stays all = elim (p
 ]
 pending_or_answered bytes call (Replied reply ∷ front) own known stays all =
     elim (pending_or_answered bytes call front own known stays all.1) [
-  | inl was ↦ inr (let same = was.0 in omega (arith, same))
-  | inr more ↦ inr (omega (arith, more))
-]
+      | inl was ↦ inr (let same = was.0 in omega (arith, same))
+      | inr more ↦ inr (omega (arith, more))
+    ]
 
 -- ---- the age of the call
 

@@ -148,7 +148,7 @@ admission_wants_no_memory config polled c arguments None acts small e =
 admission_wants_no_memory config polled c arguments (Some (Fails error)) acts small e = refl
 admission_wants_no_memory config polled c arguments (Some (Awaits wait until)) acts small e =
     entered_wants_no_memory c (lid_of (link arguments)) wait (deadline config until acts)
-        (wait_needs_no_memory c arguments acts wait until small e)
+    (wait_needs_no_memory c arguments acts wait until small e)
 
 -- A record that aborts no call adds only its own effect to the acts of the device.
 taken_adds : (c : ℕ) (bytes : List ℕ) (effect : Effect) (log : List Act) → device_acts (taken_acts c bytes effect None log) ≡ effect.adds

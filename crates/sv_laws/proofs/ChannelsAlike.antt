@@ -64,7 +64,7 @@ among_are_enabled : (a n : ℕ) (acts : List ChannelAct) → AllByRecursion (λ 
 among_are_enabled a zero acts = tt
 among_are_enabled a (suc n) acts =
     with_asked acts a (srq_enabled a acts) (enabled_among (a + 1) n acts) refl (enabled_has_number a acts)
-        (among_are_enabled (a + 1) n acts)
+    (among_are_enabled (a + 1) n acts)
 
 -- None of these links has the number `lid`.
 abbrev NoneHasNumber : ℕ → List Enabled → Type 0
@@ -126,7 +126,7 @@ own_with c link links =
 own_enabled : (c : ℕ) (link : Enabled) (acts : List ChannelAct)
     → own_links c (enabled_links (SrqEnabled link.lid link.conn link.handle ∷ acts))
     ≡ lower_links link.lid (own_links c (enabled_links acts)) ++
-        (own_links c (link ∷ []) ++ higher_links link.lid (own_links c (enabled_links acts)))
+    (own_links c (link ∷ []) ++ higher_links link.lid (own_links c (enabled_links acts)))
 own_enabled c link acts = ap (own_links c) (links_after_enable link acts) ∙ own_with c link (enabled_links acts)
 
 own_disabled : (c lid : ℕ) (acts : List ChannelAct)
@@ -142,7 +142,7 @@ foreign_act_keeps_channel c (SrqEnabled lid conn handle) acts other h same =
     let one : Enabled = record { lid = lid; conn = conn; handle = handle } in
     assumption (own_enabled c one acts ∙ rw (ne_eqb conn c h.0) (below_and_above_are_all lid (own_links c (enabled_links acts))
     (sorted_filter (λ link. eqb link.conn c) (enabled_links acts) (enabled_sorted acts)) (no_enabled_link_has_number c lid acts h.1))
-        ∙ same.links)
+    ∙ same.links)
 foreign_act_keeps_channel c (SrqDisabled lid) acts other h same = assumption (own_disabled c lid acts
     ∙ removing_absent_keeps_all lid (own_links c (enabled_links acts)) (no_enabled_link_has_number c lid acts h) ∙ same.links)
 foreign_act_keeps_channel c (ChannelOpened conn what) acts other h same = search (ne_eqb conn c h)
@@ -161,7 +161,7 @@ same_act_keeps_channel c (SrqEnabled lid conn handle) acts other same =
     let one : Enabled = record { lid = lid; conn = conn; handle = handle } in
     assumption (own_enabled c one acts
     ∙ ap (λ (l : List Enabled). lower_links lid l ++ (own_links c (one ∷ []) ++ higher_links lid l)) same.links
-        ∙ sym (own_enabled c one other))
+    ∙ sym (own_enabled c one other))
 same_act_keeps_channel c (SrqDisabled lid) acts other same =
     assumption (own_disabled c lid acts ∙ ap (other_links lid) same.links ∙ sym (own_disabled c lid other))
 same_act_keeps_channel c _ acts other same = search (same.opened, same.took, same.links, same.sent, same.all)

@@ -357,7 +357,7 @@ standard_read_once log new (text, says, is) =
         ((λ name. (refl, refl, refl)), refl, refl),
         (λ name k. iff_transitive (end.events name k)
             (events_same name k (StatusChanged ReadStandard) log (condition_same name (StatusChanged ReadStandard) log refl refl refl)
-                refl)),
+            refl)),
         iff_transitive end.waits (waits_same (StatusChanged ReadStandard) log refl (λ asked. asked) refl),
         refl,
         (refl, refl),

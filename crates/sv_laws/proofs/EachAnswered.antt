@@ -33,7 +33,7 @@ calls_taken_are_paid (Piece bytes ∷ acts) all = calls_taken_are_paid acts all.
 calls_taken_are_paid (BytesTaken count ∷ acts) all = calls_taken_are_paid acts all.1
 calls_taken_are_paid (CallTaken call ∷ acts) all =
     paid_begins (calls_taken acts) (records_ended acts) (is_busy acts) (ap is_some (next_call_means_none_pending acts call all.0.1))
-        (calls_taken_are_paid acts all.1)
+    (calls_taken_are_paid acts all.1)
 calls_taken_are_paid (Faulted ∷ acts) all = paid_ends (calls_taken acts) (records_ended acts) (is_busy acts) (ap is_some all.0.1)
     (calls_taken_are_paid acts all.1)
 calls_taken_are_paid (Replied reply ∷ acts) all = paid_ends (calls_taken acts) (records_ended acts) (is_busy acts) (ap is_some all.0.1)

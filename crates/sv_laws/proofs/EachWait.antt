@@ -134,7 +134,7 @@ dated_shared config adds log all same starts = λ d.
     let kept : SameWait d (adds ++ acts) acts =
     (subst (λ (l : List WaitAct). SameCall d l (wait_acts acts)) (sym same) (same_call_refl d (wait_acts acts)), starts d) in
     rw (device_acts_append adds log, of_device_acts d adds log)
-        (dated_same config d (of d log) (of d log) acts (adds ++ acts) refl kept (all d))
+    (dated_same config d (of d log) (of d log) acts (adds ++ acts) refl kept (all d))
 
 dated_happened : (config : Config) (adds : List InstrumentAct) (log : List Act) → AllDated config log
     → AllDated config (map OnDevice (map Applied adds) ++ log)
@@ -324,9 +324,11 @@ dated_close config c log all d =
     let after = Channel (ChannelClosed c) ∷ (map Linked links ++ Waited (Left c) ∷ acts) in
     let calls : wait_acts after ≡ Left c ∷ wait_acts acts = wait_acts_links links (Waited (Left c) ∷ acts) in
     let starts : wait_began d after ≡ wait_began d acts = began_links d links (Waited (Left c) ∷ acts) in
-    let other : d ≢ c → SameWait d after acts = λ ne.
-    (subst (λ (l : List WaitAct). SameCall d l (wait_acts acts)) (sym calls)
-        (same_call_other_conn c d (Left c) (wait_acts acts) refl ne), starts) in
+    let other : d ≢ c → SameWait d after acts = λ ne. (
+      subst (λ (l : List WaitAct). SameCall d l (wait_acts acts)) (sym calls)
+          (same_call_other_conn c d (Left c) (wait_acts acts) refl ne),
+      starts,
+    ) in
     let so : Dated config d (of d new) after = elim (cases_eq d c) [
       | inl e ↦ subst (λ (n : ℕ). Dated config n (of n new) after) (sym e)
           (dated_none config c (of c new) after (ap (waits c) calls ∙ left_is_not_suspended c (wait_acts acts)))

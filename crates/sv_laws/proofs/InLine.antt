@@ -65,7 +65,7 @@ suspended_later_taken_later [] c d v w all ne x y le = absurd cc
 suspended_later_taken_later (On e (CallTaken bytes) ∷ log) c d v w all ne x y le =
     let idle : (n : ℕ) (u : Wait) → waits n (wait_acts (device_acts log)) ≡ Some u → e ≢ n = λ n u is same.
     none_is_not_some (waits n (wait_acts (device_acts log))) u (ap (λ (m : ℕ). waits m (wait_acts (device_acts log))) (sym same) ∙ all.0) is
-        in
+    in
     third_call_keeps_later e c d bytes log (idle c v x) (idle d w y) (suspended_later_taken_later log c d v w all.1 ne x y le)
 suspended_later_taken_later (OnDevice (Waited (Entered e named wait last)) ∷ log) c d v w all ne x y le = elim (cases_eq e d) [
   | inl same ↦
@@ -95,6 +95,8 @@ suspended_later_taken_later (_ ∷ log) c d v w all ne x y le = suspended_later_
 
 -- Of the calls that wait for the lock, the one that was suspended first was taken first.
 pub earliest_is_first : (c : ℕ) (log : List Act) → AllPlaced log → IsEarliest c (device_acts log) → IsFirst c log
-earliest_is_first c log all first =
-    (first.0, λ d waits_too ne. suspended_later_taken_later log c d Lock Lock all (λ same. ne (sym same)) first.0 waits_too
-        (first.1 d waits_too))
+earliest_is_first c log all first = (
+  first.0,
+  λ d waits_too ne. suspended_later_taken_later log c d Lock Lock all (λ same. ne (sym same)) first.0 waits_too
+      (first.1 d waits_too),
+)

@@ -57,7 +57,7 @@ all_ordered (Piece bytes ∷ acts) all =
 all_ordered (CallTaken call ∷ acts) all =
     let was = all_ordered acts all.1 in
     let next = next_call_is_record (took_no_call acts) (is_some (pending_call acts))
-        (slice_get (records_of (stream acts)) (records_ended acts)) call
+    (slice_get (records_of (stream acts)) (records_ended acts)) call
     all.0.1 in
     record { done = was.done; count = was.count; waits = λ other e. (next.0, next.1 ∙ e) }
 all_ordered (Faulted ∷ acts) all =

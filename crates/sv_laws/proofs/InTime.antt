@@ -154,7 +154,7 @@ timely_shared : (config : Config) (adds : List DeviceAct) (log : List Act) → A
     → wait_acts (adds ++ device_acts log) ≡ wait_acts (device_acts log) → AllTimely config (map OnDevice adds ++ log)
 timely_shared config adds log all times same = λ d.
     rw (age_shared d adds log times, device_acts_append adds log, ticks_adds adds (device_acts log) times, same, of_device_acts d adds log)
-        (all d)
+    (all d)
 
 timely_happened : (config : Config) (adds : List InstrumentAct) (log : List Act) → AllTimely config log
     → AllTimely config (map OnDevice (map Applied adds) ++ log)
@@ -173,7 +173,7 @@ timely_left config c xid outcome log all times left =
     timely_effect config c (call_effect xid (leaving c outcome)) log all (replies_no_calls xid outcome.result)
     (no_ticks_join outcome.adds (Waited (Left c) ∷ []) times tt)
     (λ d ne. subst (λ (l : List WaitAct). SameCall d l (wait_acts acts)) (sym moved)
-        (same_call_other_conn c d (Left c) (wait_acts acts) refl ne))
+    (same_call_other_conn c d (Left c) (wait_acts acts) refl ne))
     (timely_none (age c log) (config.clock + ticks acts) c (replies xid outcome.result ++ of c log)
     (wait_acts ((outcome.adds ++ Waited (Left c) ∷ []) ++ acts)) (ap (waits c) moved ∙ left_is_not_suspended c (wait_acts acts)))
 
@@ -400,7 +400,7 @@ timely_tick config history log was all c wait call is busy =
     let sum : clock + 1 ≡ config.clock + (ticks acts + 1) = omega arith in
     subst (λ (n : ℕ). MeetsBound (age c log + 1) n wait until call.arguments) sum
     (tick_keeps_bound (age c log) clock wait until call.arguments
-        (λ last same le. (none_late config history log c was).0 (wait, last, is, same, le))
+    (λ last same le. (none_late config history log c was).0 (wait, last, is, same, le))
     (all c wait call is busy))
 
 pub timely_event : (config : Config) → EventsKeep config (AllTimely config)
@@ -484,7 +484,7 @@ in_time config history log c bytes was busy = by (waits c (wait_acts (device_act
           λ other.
               let less : age c log < bound wait call.arguments =
               age_below_bound (age c log) (config.clock + ticks (device_acts log)) wait (until_of c (wait_acts (device_acts log)))
-                  call.arguments
+              call.arguments
               (λ last same le. (none_late config history log c was).0 (wait, last, is, same, le)) other
               (timely_log config history log was c wait call is held.1.1) in (
                 omega (arith, less, bound_within_patience wait call.arguments),

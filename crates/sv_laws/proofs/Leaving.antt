@@ -128,7 +128,7 @@ all_end_after_outcome config c xid outcome log h ends so =
     let own = replies xid outcome.result in
     subst (AllEnd config []) (sym (acts_behind (map (On c) own) outcome.adds (Waited (Left c)) log))
     (all_end_after_leaving config c (acts_of c (call_effect xid outcome)) log (conn_acts_leave_none c own (map OnDevice outcome.adds) h)
-        ends so)
+    ends so)
 
 pub all_end_after_close : (config : Config) (c : ℕ) (adds : List DeviceAct) (log : List Act) → NoneLeaves (map OnDevice adds)
     → is_open (of c log) ≡ false → AllEnd config [] log → AllEnd config [] (map OnDevice (adds ++ Waited (Left c) ∷ []) ++ log)

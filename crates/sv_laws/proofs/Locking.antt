@@ -50,7 +50,7 @@ call_holds config polled c lid abort_port most (OnLink (pos n) (DeviceLock flags
     device_lock_holds (is_locked_out (holder (link_acts acts)) (Some n)) n lid abort_port most acts asks done
 call_holds config polled c lid abort_port most (CreateLink client_id true lock_timeout device) acts asks done =
     create_link_holds (lids_left (link_acts acts)) c (links_made (link_acts acts) + 1) config.abort max_message lid abort_port most acts
-        done
+    done
 call_holds config polled c lid abort_port most (CreateLink client_id false lock_timeout device) acts asks done = absurd cc
 call_holds config polled c lid abort_port most _ acts asks done = absurd asks
 

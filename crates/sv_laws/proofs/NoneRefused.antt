@@ -97,4 +97,4 @@ none_refused_by config log also channel_log later Tick v le e fits = rw v.device
 pub none_refused : NoneRefused
 none_refused config history other log also channel_log later event same x y le e fits =
     none_refused_by config log also channel_log later event
-        (logs_alike config (retook_if_same_without_took history other same) log also x y) le e fits
+    (logs_alike config (retook_if_same_without_took history other same) log also x y) le e fits

@@ -76,7 +76,7 @@ close_needs_no_memory c log =
     let links = closing c (link_acts (device_acts log)) in
     let adds = Channel (ChannelClosed c) ∷ map Linked links ++ Waited (Left c) ∷ [] in
     let is : device_acts (map OnDevice adds ++ On c PortClosed ∷ []) ≡ adds =
-        device_acts_append adds (On c PortClosed ∷ []) ∙ append-nil adds in
+    device_acts_append adds (On c PortClosed ∷ []) ∙ append-nil adds in
     rw is (leaving_needs_no_memory c adds
     (ap links_made (link_acts_links links (Waited (Left c) ∷ []) ∙ append-nil links)
     ∙ made_none links (link_acts (device_acts log)) (closing_makes_no_link c (link_acts (device_acts log))))
@@ -193,5 +193,5 @@ nothing_lost config history (Input channel microvolts) channel_log log result wa
     done_if_not_refused config also (Input channel microvolts) log result suits refl (λ polled. refl) h
 nothing_lost config history External channel_log log result was tells suits (also, hears, h) =
     done_if_not_refused config also External log result refl refl
-        (λ polled. instrument_needs_no_memory (external_acts (instrument_acts (device_acts log)))) h
+    (λ polled. instrument_needs_no_memory (external_acts (instrument_acts (device_acts log)))) h
 nothing_lost config history _ channel_log log result was tells suits answers = absurd suits

@@ -67,7 +67,7 @@ behind_shared : (base : ℕ → List ConnAct) (adds : List DeviceAct) (log : Lis
     → FollowedByCalls base (map OnDevice adds ++ log)
 behind_shared base adds log all d =
     subst (λ (l : List ConnAct). (calls : List ConnAct) × AreCallActs calls × (l ≡ calls ++ base d)) (sym (of_device_acts d adds log))
-        (all d)
+    (all d)
 
 -- ---- a suspended call ends or is suspended again
 
@@ -107,14 +107,14 @@ behind_event config (Open c role) polled log = λ d. ([], tt, own_act_on_conn c 
 behind_event config (Bytes c piece) polled log = λ d. ([], tt, own_act_on_conn c d (Piece piece) log _ (λ e. rw e refl) (λ e. rw e refl))
 behind_event config (Turn c) polled log =
     turn_keeps config (FollowedByCalls (λ d. of d log)) (steps_keep (λ d. of d log) config) polled c (next_call (of c log))
-        (next_request (of c log))
+    (next_request (of c log))
     log (behind_none log) (λ bytes request next asks.
     behind_effect (λ d. of d log) c (request_effect config polled c request (device_acts log)) (On c (CallTaken bytes) ∷ log)
     (request_calls config polled c request (device_acts log))
     (behind_call (λ d. of d log) c (CallTaken bytes) log tt (behind_none log)))
 behind_event config (Refuse c) polled log =
     refuse_keeps (FollowedByCalls (λ d. of d log)) c (next_call (of c log)) (refusable (of c log)) log (behind_none log)
-        (λ bytes call next can.
+    (λ bytes call next can.
     behind_call (λ d. of d log) c (Replied _) (On c (CallTaken bytes) ∷ log) tt
     (behind_call (λ d. of d log) c (CallTaken bytes) log tt (behind_none log)))
 behind_event config (Took (Conn c) count) polled log = λ d.

@@ -119,7 +119,7 @@ plain_acts_only_add c [] acts channel_log later h x y = subst (OnlyAdds c channe
     (only_adds_refl c channel_log)
 plain_acts_only_add c (Channel act ∷ adds) acts channel_log later h x (before, y, is) = subst (OnlyAdds c channel_log) (sym is)
     (only_adds_trans c channel_log before (act ∷ before) (plain_acts_only_add c adds acts channel_log before h.1 x y)
-        (adds_channel c act before h.0))
+    (adds_channel c act before h.0))
 plain_acts_only_add c (Linked act ∷ adds) acts channel_log later h x (before, y, is) =
     subst (OnlyAdds c channel_log) (sym is)
     (only_adds_trans c channel_log before (link_told act before) (plain_acts_only_add c adds acts channel_log before h.1 x y)
@@ -265,7 +265,7 @@ begins config (Bytes c piece) polled log = at_once log _ ([], tt, refl)
 begins config (Turn c) polled log =
     let base = device_acts log in
     at_once log _ (turn_keeps config (FollowedByPlain base) (steps_keep base config) polled c (next_call (of c log))
-        (next_request (of c log)) log
+    (next_request (of c log)) log
     (behind_none log) (λ bytes request next asks. behind_effect base c (request_effect config polled c request base)
     (On c (CallTaken bytes) ∷ log) (plain_request config polled c request base) ([], tt, refl)))
 begins config (Refuse c) polled log = at_once log _ (refuse_keeps (FollowedByPlain (device_acts log)) c (next_call (of c log))

@@ -236,7 +236,7 @@ timeout_is_refusal config c bytes call before last new e wait is long same for p
     let own : of c log ≡ CallTaken bytes ∷ of c before = of_own_act c (CallTaken bytes) before in
     let now = entered_waits c (lid_of (link_in call.arguments)) Lock last (wait_acts (device_acts before)) in
     let lock : Lock ≡ wait = some_injective Lock wait (sym now.0 ∙ ap (λ (n : ℕ). waits n (wait_acts (device_acts log))) (sym same) ∙ for)
-        in
+    in
     let found : core_call_in (pending_call (of c log)) ≡ Some call =
     ap (λ (l : List ConnAct). core_call_in (pending_call l)) own ∙ is.known in
     let moved : new ≡ acts_of c (failure_effect (late wait) c (core_call_in (pending_call (of c log)))) ++ log =

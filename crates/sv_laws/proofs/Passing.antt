@@ -94,7 +94,7 @@ ended_continued : (config : Config) (polled c : ℕ) (call : CoreCall) (next : O
     → IsEnded config (acts_of c (call_effect call.xid (resume_outcome config polled c call.arguments next (device_acts log))) ++ log)
 ended_continued config polled c call (Some next) log said known free so =
     all_end_after_effect config c (call_effect call.xid (resume_outcome config polled c call.arguments (Some next) (device_acts log))) log
-        tt so
+    tt so
 ended_continued config polled c call None log said known free so =
     let before = Waited (Left c) ∷ device_acts log in
     let outcome = own_call config polled c call.arguments before in
@@ -154,12 +154,12 @@ ended_admitted config polled c call None log so =
     let outcome = own_call config polled c call.arguments (device_acts log) in
     all_end_after_effect config c (call_effect call.xid outcome) log
     (executed_acts_leave_none c call.arguments outcome.adds (device_acts log)
-        (each_act_is_of_call config polled c call.arguments (device_acts log))) so
+    (each_act_is_of_call config polled c call.arguments (device_acts log))) so
 ended_admitted config polled c call (Some (Fails error)) log so =
     all_end_after_effect config c (call_effect call.xid (only (failure call.arguments error))) log tt so
 ended_admitted config polled c call (Some (Awaits wait until)) log so =
     all_end_after_effect config c
-        (call_effect call.xid (admission config polled c call.arguments (Some (Awaits wait until)) (device_acts log))) log
+    (call_effect call.xid (admission config polled c call.arguments (Some (Awaits wait until)) (device_acts log))) log
     tt so
 
 ended_request : (config : Config) (polled c : ℕ) (request : Request) (log : List Act) → IsEnded config log
@@ -248,7 +248,7 @@ ended_close : (config : Config) (c : ℕ) (log : List Act) → IsEnded config lo
 ended_close config c log so =
     let links = map Linked (closing c (link_acts (device_acts log))) in
     all_end_after_close config c (Channel (ChannelClosed c) ∷ links) (On c PortClosed ∷ log)
-        (link_acts_leave_none (closing c (link_acts (device_acts log))))
+    (link_acts_leave_none (closing c (link_acts (device_acts log))))
     (ap is_open (of_own_act c PortClosed log)) (ended_on config c PortClosed log so)
 
 passing_event : (config : Config) → EventsKeep config (Passing config)
@@ -263,7 +263,7 @@ passing_event config history event polled channel_log log was free fit so = reco
     by (Bytes c piece) free = ended_on config c (Piece piece) log so.ended
     by (Turn c) free =
         ended_turn config polled c (next_call (of c log)) (next_request (of c log)) log fit (unrefused_below_16 c log _ free) so.ended refl
-            refl
+        refl
     by (Refuse c) free = refuse_keeps (IsEnded config) c (next_call (of c log)) (refusable (of c log)) log so.ended
         (λ bytes call next can. ended_on config c (Replied (refused_reply call)) (On c (CallTaken bytes) ∷ log)
         (ended_on config c (CallTaken bytes) log so.ended))
@@ -276,13 +276,13 @@ passing_event config history event polled channel_log log was free fit so = reco
     by (Dialed c ok) free =
         let dial = dialed_means_dialing (nat_lt 15 c) (not (is_open (of c log))) _ free in
         called c ok (core_call_in (pending_call (of c log)))
-            (λ w. dialing_waits_not_for_lock (waits c (wait_acts (device_acts log))) dial w)
+        (λ w. dialing_waits_not_for_lock (waits c (wait_acts (device_acts log))) dial w)
       where
         called : (c : ℕ) (ok : Bool) (call : Option CoreCall) → (WaitsForLock (device_acts log) c → ⊥)
             → IsEnded config (acts_of c (effect_of c (λ arguments. leaving c (connect_outcome c ok arguments)) call) ++ log)
         called c ok (Some call) never =
             rw (connect_outcome_by_peer c ok call.arguments)
-                (ended_dialed config c ok call (peer_named_by call.arguments) log never so.ended)
+            (ended_dialed config c ok call (peer_named_by call.arguments) log never so.ended)
         called c ok None never = all_end_after_leaving config c [] log tt (λ w. absurd (never w)) so.ended
     by (Input channel microvolts) free =
         all_end_if_none_leaves config (map OnDevice (map Applied (Scanned (InputTo channel microvolts) ∷ []))) log tt so.ended
@@ -346,4 +346,4 @@ oldest_passes config history log newer older act c was is e w =
     (keeps_at_each_act config history log (device_acts newer) (device_acts older) (Waited act) was
     (ap device_acts is ∙ device_acts_of_append newer older (Waited act)))
     (all_end_in_suffix config newer [] (OnDevice (Waited act) ∷ older)
-        (subst (AllEnd config []) is (passing_log config history log was).ended)) e w
+    (subst (AllEnd config []) is (passing_log config history log was).ended)) e w

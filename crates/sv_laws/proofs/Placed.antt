@@ -321,7 +321,7 @@ placed_request : (config : Config) (polled c : ℕ) (bytes : List ℕ) (request 
     → AllPlaced (acts_of c (request_effect config polled c request (device_acts log)) ++ On c (CallTaken bytes) ∷ log)
 placed_request config polled c bytes (CoreRequest call) log fit all quiet next asks =
     placed_admitted config polled c bytes call (stop_of c call.arguments (device_acts log)) log
-        (next_call_means_none_suspended c log bytes fit next, all)
+    (next_call_means_none_suspended c log bytes fit next, all)
     fit.suits quiet (core_call_is_on_core_role (of c log) bytes call next asks).1 refl
 placed_request config polled c bytes _ log fit all quiet next asks = (tt, (next_call_means_none_suspended c log bytes fit next, all))
 

@@ -172,17 +172,17 @@ pub executed_acts_keep : (config : Config) (polled c : ℕ) (arguments : Argumen
     → Each Keeps (own_call config polled c arguments acts).adds acts
 executed_acts_keep config polled c (CreateLink client_id true lock_timeout device) acts may =
     elim (cases_Bool (lids_left (link_acts acts))) [
-  | inl e ↦
-      let lid = links_made (link_acts acts) + 1 in
-      let owns = made_link_owner c lid acts may.suits refl in
-      rw e (((c, owns, may.idle), made_gets c lid acts owns (may.asks refl) (may.turn refl (may.asks refl))), (tt, tt))
-  | inr e ↦ rw e tt
-]
+      | inl e ↦
+          let lid = links_made (link_acts acts) + 1 in
+          let owns = made_link_owner c lid acts may.suits refl in
+          rw e (((c, owns, may.idle), made_gets c lid acts owns (may.asks refl) (may.turn refl (may.asks refl))), (tt, tt))
+      | inr e ↦ rw e tt
+    ]
 executed_acts_keep config polled c (CreateLink client_id false lock_timeout device) acts may =
     elim (cases_Bool (lids_left (link_acts acts))) [
-  | inl e ↦ rw e (tt, tt)
-  | inr e ↦ rw e tt
-]
+      | inl e ↦ rw e (tt, tt)
+      | inr e ↦ rw e tt
+    ]
 executed_acts_keep config polled c (OnLink (pos n) (DeviceWrite io_timeout lock_timeout flags bytes)) acts may =
     elim (cases_Bool (nat_lt max_message (length bytes))) [
       | inl e ↦ rw e tt
@@ -245,9 +245,9 @@ sound_left c xid outcome log so keep done left =
     sound_effect c (call_effect xid (leaving c outcome)) log so
     (each_join Keeps outcome.adds (Waited (Left c) ∷ []) acts done (keep, tt))
     (λ d ne. subst (λ (l : List WaitAct). SameCall d l (wait_acts acts)) (sym moved)
-        (same_call_other_conn c d (Left c) (wait_acts acts) refl ne))
+    (same_call_other_conn c d (Left c) (wait_acts acts) refl ne))
     (fits_if_not_suspended c ((call_effect xid (leaving c outcome)).own ++ of c log)
-        (wait_acts ((outcome.adds ++ Waited (Left c) ∷ []) ++ acts))
+    (wait_acts ((outcome.adds ++ Waited (Left c) ∷ []) ++ acts))
     (ap (waits c) moved ∙ left_is_not_suspended c (wait_acts acts)))
 
 pub sound_ended : (c : ℕ) (does : Arguments → CallOutcome) (log : List Act) → Sound log → Keeps (device_acts log) (Waited (Left c))
@@ -331,9 +331,10 @@ sound_continued config polled c wait call (Some next) log fit so oldest for know
     let acts = device_acts log in
     let again = second_wait_is wait call.arguments acts next e in
     let lock : WaitsForLock acts c = for ∙ ap (λ (w : Wait). Some w) again.0 in
-    sound_effect c (call_effect call.xid (resume_outcome config polled c call.arguments (Some next) acts)) log so
-    ((again.1, lock_free_for_resumed acts fit.suits so.keeps c oldest.0 lock, resumed_is_earliest acts fit.suits so.keeps c oldest lock),
-        tt)
+    sound_effect c (call_effect call.xid (resume_outcome config polled c call.arguments (Some next) acts)) log so (
+      (again.1, lock_free_for_resumed acts fit.suits so.keeps c oldest.0 lock, resumed_is_earliest acts fit.suits so.keeps c oldest lock),
+      tt,
+    )
     (λ d ne. same_call_other_conn c d (Again c next.0 _) (wait_acts acts) refl ne)
     (λ other found is busy.
     let same : found ≡ call = some_injective found call (sym busy ∙ known) in (

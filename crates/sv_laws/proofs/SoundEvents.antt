@@ -228,9 +228,12 @@ sound_admitted config polled c bytes call (Some (Awaits wait until)) log suits s
     let same : call ≡ found = some_injective call found (sym known ∙ busy) in
     let waits_same : wait ≡ other = some_injective wait other (sym now.0 ∙ is) in
     subst (λ (k : CoreCall). (named_link c (Entered c named wait last ∷ wait_acts acts) ≡ lid_of (link k.arguments))
-    × (takes_lock k.arguments ≡ true → other ≡ Lock) × (can_free_lock k.arguments ≡ false)) same
-    (now.1, (λ takes. sym waits_same ∙ lock_taker_waits_for_lock c call.arguments acts wait until e takes), suspended_frees_no_lock c
-        call.arguments acts wait until e))
+    × (takes_lock k.arguments ≡ true → other ≡ Lock) × (can_free_lock k.arguments ≡ false)) same (
+      now.1,
+      (λ takes. sym waits_same ∙ lock_taker_waits_for_lock c call.arguments acts wait until e takes),
+      suspended_frees_no_lock c
+          call.arguments acts wait until e,
+    ))
 
 sound_request : (config : Config) (polled c : ℕ) (bytes : List ℕ) (request : Request) (log : List Act) → Fit log → Sound log
     → NoneWaitsForFreeLock (device_acts log) → next_call (of c log) ≡ Some bytes → next_request (of c log) ≡ Some request
@@ -348,7 +351,7 @@ sound_event config history (Open c role) polled channel_log log was free fit so 
 sound_event config history (Bytes c piece) polled channel_log log was free fit so = sound_on c (Piece piece) log so (so.told c)
 sound_event config history (Turn c) polled channel_log log was free fit so =
     sound_turn config polled c (next_call (of c log)) (next_request (of c log)) log fit so (no_wait_for_free_lock config history log was)
-        refl refl
+    refl refl
 sound_event config history (Refuse c) polled channel_log log was free fit so =
     refuse_keeps Sound c (next_call (of c log)) (refusable (of c log)) log so (λ bytes call next can.
     let none = next_call_means_none_suspended c log bytes fit next in

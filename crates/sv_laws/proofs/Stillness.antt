@@ -82,8 +82,7 @@ one_tick m config history log was (idle, still) before =
     not_scanning_reads_nothing (state (effective_acts (instrument_acts (device_acts log)))) idle in
     let other : config.clock + ticks (device_acts log) ≢ last_clock = λ e. absurd (omega (arith, before, e)) in
     let free : refusal config told.0 Tick log ≡ None = rw (ne_eqb _ _ other) refl in
-    let settled = tick_settled m config log (unhurried_after_tick config (device_acts log) m still) (log_settled config history log was) in
-        (
+    let done = tick_settled m config log (unhurried_after_tick config (device_acts log) m still) (log_settled config history log was) in (
       log,
       polled.0,
       told.0,
@@ -94,7 +93,7 @@ one_tick m config history log was (idle, still) before =
       polled.1,
       subst (λ (adds : List InstrumentAct).
           Settles config ((map OnDevice (map Applied adds) ++ OnDevice Ticked ∷ []) ++ log) (OnDevice Ticked ∷ log)) (sym none)
-          (zero, (settled, refl)),
+          (zero, (done, refl)),
     )
 
 -- ---- several milliseconds

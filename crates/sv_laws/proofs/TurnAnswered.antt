@@ -79,7 +79,7 @@ in_ended c call before d does log h =
 steps_keep : (c : ℕ) (call : List ℕ) (before : List ConnAct) (config : Config) → StepsKeep config (IsTakenIn c call before)
 steps_keep c call before config =
     steps_keep_by_effects config (IsTakenIn c call before) (λ adds log. in_shared c call before (map Applied adds) log)
-        (in_ended c call before)
+    (in_ended c call before)
 
 -- ---- the Turn
 

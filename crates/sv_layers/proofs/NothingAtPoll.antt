@@ -31,7 +31,7 @@ poll_passes_no_filter name k log passed =
     ap (λ (w : ℕ). changes k (condition name log) w (rise name log) (fall name log)) (sym (same_condition name log)) ∙ passed in
     absurd (
     let none = sym (unchanged_bit_passes_none (has_bit (condition name log) k) (has_bit (rise name log) k) (has_bit (fall name log) k))
-        ∙ told in
+    ∙ told in
     cc
     )
 

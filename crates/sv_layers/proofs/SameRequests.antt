@@ -52,9 +52,10 @@ update_requests_service log status_log is k =
     )
 
 update_has_master : (log : List Act) (status_log : List StatusAct) → IsStatus log status_log → status.Master status_log ↔ Master log
-update_has_master log status_log is =
-    ((λ m. (m.0, (update_requests_service log status_log is m.0).0 m.1)),
-        (λ m. (m.0, (update_requests_service log status_log is m.0).1 m.1)))
+update_has_master log status_log is = (
+  (λ m. (m.0, (update_requests_service log status_log is m.0).0 m.1)),
+  (λ m. (m.0, (update_requests_service log status_log is m.0).1 m.1)),
+)
 
 -- If the logs agree on whether a request is pending before the act, they agree after it.
 abbrev RequestStep : Act → Type 0

@@ -58,7 +58,7 @@ behind_run_over_header [] xs e = refl
 behind_run_over_header (b ∷ head) xs e =
     let parts = and_parts (is_not_white b) (list_all is_not_white head) e in
     ap (λ (t : Bool). cond t (b ∷ (head ++ xs)) (from_white_on (head ++ xs))) (not-true (is_white b) parts.0)
-        ∙ behind_run_over_header head xs parts.1
+    ∙ behind_run_over_header head xs parts.1
 
 -- Without leading white space, nothing is removed.
 start_dark : (head xs : List ℕ) → (is_empty head ≡ true → trim_start xs ≡ xs) → list_all is_not_white head ≡ true
@@ -162,7 +162,7 @@ pub header_run : (lead head xs : List ℕ) → list_all is_white lead ≡ true �
     → (is_empty head ≡ true → trim_start xs ≡ xs) → header (lead ++ (head ++ xs)) ≡ head ++ before_white xs
 header_run lead head xs white dark none =
     header_is (lead ++ (head ++ xs)) ∙ ap before_white (trim_start_over_white lead (head ++ xs) white ∙ start_dark head xs none dark)
-        ∙ run_over_header head xs dark
+    ∙ run_over_header head xs dark
 
 pub divided_unit_is_placed : (unit lead head body : List ℕ) → IsDivided unit lead head body → IsPlaced unit head (length lead) body
 divided_unit_is_placed unit lead head body h = subst (λ (l : List ℕ). IsPlaced l head (length lead) body) (sym h.whole) all
@@ -183,7 +183,7 @@ divided_unit_is_placed unit lead head body h = subst (λ (l : List ℕ). IsPlace
         let behind : drop (header_size unit) (trim unit) ≡ trim_end body =
         behind_is unit
         ∙ ap (λ (l : List ℕ). trim_end (from_white_on l)) (trim_start_over_white lead (head ++ body) h.white
-            ∙ start_dark head body start h.dark)
+        ∙ start_dark head body start h.dark)
         ∙ ap trim_end (behind_run_over_header head body h.dark ∙ gap_all body h.gap) in
         let sum : rest_place unit ≡ white_size unit + header_size unit + white_size (drop (header_size unit) (trim unit)) = refl in
         let last : white_size (drop (header_size unit) (trim unit)) ≡ white_size (trim_end body) = ap white_size behind in

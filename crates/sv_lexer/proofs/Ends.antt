@@ -55,7 +55,7 @@ pub trim_end_over_white : (xs tail : List ℕ) → list_all is_white tail ≡ tr
 trim_end_over_white [] tail e = trim_end_of_white tail e
 trim_end_over_white (b ∷ xs) tail e =
     trim_end_cons b (xs ++ tail) ∙ ap (λ (l : List ℕ). cond (is_white b && is_empty l) [] (b ∷ l)) (trim_end_over_white xs tail e)
-        ∙ sym (trim_end_cons b xs)
+    ∙ sym (trim_end_cons b xs)
 
 -- If the last byte isn't white space, nothing is removed.
 pub trim_end_of_non_white : (xs : List ℕ) (b : ℕ) → is_white b ≡ false → trim_end (xs ++ b ∷ []) ≡ xs ++ b ∷ []
@@ -136,7 +136,7 @@ behind_trimmed (b ∷ xs) = at (is_white b) refl (behind_trimmed xs)
         → from_white_on (trim_end (b ∷ xs)) ≡ trim_end (cond t (b ∷ xs) (from_white_on xs))
     at true w h =
         ap from_white_on (trim_end_cons b xs) ∙ begins_white (is_white b && is_empty (trim_end xs)) b (trim_end xs) w
-            ∙ sym (trim_end_cons b xs)
+        ∙ sym (trim_end_cons b xs)
     at false w h =
         ap from_white_on (trim_end_cons b xs) ∙ ap (λ (t : Bool). from_white_on (cond (t && is_empty (trim_end xs)) [] (b ∷ trim_end xs))) w
         ∙ ap (λ (t : Bool). cond t (b ∷ trim_end xs) (from_white_on (trim_end xs))) w ∙ h

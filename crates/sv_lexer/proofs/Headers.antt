@@ -99,7 +99,7 @@ counted_sign : (n m : ℕ) (head : List ℕ) (b : ℕ) → is_empty head ≡ fal
     → IsCounted n m head → IsCounted n m (head ++ b ∷ [])
 counted_sign n m head b s q e h =
     let same : words (head ++ b ∷ []) ≡ words head = ap (λ (x : ℕ). words (head ++ x ∷ [])) (eqb-true b 63 e)
-        ∙ words_with_question_mark head s q in
+    ∙ words_with_question_mark head s q in
     record {
       last_size = h.last_size ∙ ap (λ (ps : List (List ℕ)). in_u64 (length (last ps))) (sym same);
       front_size = h.front_size ∙ ap (λ (ps : List (List ℕ)). in_u64 (longest (others ps))) (sym same);
@@ -191,7 +191,7 @@ no_letter_fails : (head : List ℕ) (b : ℕ) (more : List ℕ) → Awaits head 
 no_letter_fails head b more h l =
     bad_words_fail head (b ∷ more) h.some h.unsigned
     (ap (λ (word : List ℕ). list_all is_mnemonic (prepend_to_first word (words_added (is_common head) (b ∷ more)))) h.empty
-        ∙ at (is_common head))
+    ∙ at (is_common head))
   where
     at : (c : Bool) → list_all is_mnemonic (prepend_to_first [] (words_added c (b ∷ more))) ≡ false
     at true = ap (λ (t : Bool). t && true) (common_none b more l)
@@ -221,8 +221,8 @@ bad_byte_fails head b more h w stays apart =
     at word m false none =
         ap (λ (l : List ℕ). list_all is_mnemonic (prepend_to_first word (cut_at 58 l))) stays
         ∙ ap (λ (t : Bool). list_all is_mnemonic
-            (prepend_to_first word
-            (cond t ([] ∷ cut_at 58 (without_question_mark more)) (onto b (cut_at 58 (without_question_mark more))))))
+        (prepend_to_first word
+        (cond t ([] ∷ cut_at 58 (without_question_mark more)) (onto b (cut_at 58 (without_question_mark more))))))
         (none refl)
         ∙ onto_bad word (cut_at 58 (without_question_mark more)) m
 
@@ -245,8 +245,11 @@ pushed_first b n m h = at (b == 42) refl (b == 58) refl (is_letter b) refl
         record {
           spelled = (
             a,
-            record { header = ap (list_all is_mnemonic) one ∙ ap (λ (t : Bool). (t && true) && true) l; unsigned =
-                is_query_append [] b ∙ sign },
+            record {
+              header = ap (list_all is_mnemonic) one ∙ ap (λ (t : Bool). (t && true) && true) l;
+              unsigned =
+                  is_query_append [] b ∙ sign;
+            },
           );
           counted = record {
             last_size = ap one_more h.last_size ∙ ap (λ (ps : List (List ℕ)). in_u64 (length (last ps))) (sym one);

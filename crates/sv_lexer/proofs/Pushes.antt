@@ -95,7 +95,7 @@ some_behind unit lead head body d ends =
 pub rest_none : (unit : List ℕ) → header_end unit ≡ length unit → rest unit ≡ []
 rest_none unit ends =
     let d = unit_is_divided unit in (divided_unit_is_placed unit _ _ _ d).rests
-        ∙ ap (λ (l : List ℕ). trim_start (trim_end l)) (none_behind unit _ _ _ d ends)
+    ∙ ap (λ (l : List ℕ). trim_start (trim_end l)) (none_behind unit _ _ _ d ends)
 
 -- Without program data, their position is the end of the header.
 pub rest_place_without_data : (unit : List ℕ) → rest unit ≡ [] → rest_place unit ≡ header_end unit

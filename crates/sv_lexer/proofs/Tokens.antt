@@ -84,7 +84,7 @@ parameter_holds unit text part base index place space token whole at stands lt p
     let there : StandsAt unit (base + place + space) (trim part) =
     stands_same unit (trim part) (base + place + white_size part) (base + place + space) (omega (arith, space_is))
     (stands_transitive unit part (trim part) (base + place) (white_size part) (stands_transitive unit text part base place stands inner)
-        (stands_trim part))
+    (stands_trim part))
     in (
       lt,
       record {

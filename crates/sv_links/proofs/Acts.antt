@@ -102,7 +102,7 @@ are_channels_kept kept i old new acts lt within value stage keeps is =
       enabled = is.enabled;
       each = λ k other le.
           after_slice_set (λ c. IsChannel c k acts) kept.channels i k new other within
-              (λ same. subst (λ k. IsChannel new k acts) (sym same) after)
+          (λ same. subst (λ k. IsChannel new k acts) (sym same) after)
           (λ apart. is.each k other le);
       beyond = is.beyond;
     }

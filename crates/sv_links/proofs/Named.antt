@@ -26,7 +26,7 @@ links_keep p (Some x ∷ slots) = elim (cases_Bool (p x)) [
 
 find_entries : {Y : Type 0} (test : Link → Bool) (f : Link → Y) (key : ℕ) (slots : List (Option Link))
     → option_map (λ entry. f entry.1) (find (λ entry. test entry.1) (entries_from key slots)) ≡ option_map f
-        (find test (links_in_slots slots))
+    (find test (links_in_slots slots))
 find_entries test f key [] = refl
 find_entries test f key (None ∷ slots) = find_entries test f (key + 1) slots
 find_entries test f key (Some x ∷ slots) = elim (cases_Bool (test x)) [

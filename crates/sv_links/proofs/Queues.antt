@@ -333,7 +333,7 @@ pub oldest_able : (holder : Option ℕ) (can_write can_read : Bool) (acts : List
 oldest_able holder can_write can_read acts xs is =
     is_oldest_find acts (IsAble holder can_write can_read acts) (λ x. is_there holder can_write can_read x.lid (Some x.wait)) xs
     (λ x each e. able_by_entry holder can_write can_read acts x each ∙ e)
-        (λ x each such. sym (able_by_entry holder can_write can_read acts x each) ∙ such)
+    (λ x each such. sym (able_by_entry holder can_write can_read acts x each) ∙ such)
     (λ c such none. false≢true (rw none at such)) is
 
 deadline_is_past : (clock : ℕ) (o : Option ℕ) → is_past clock o ≡ true → (last : ℕ) × (o ≡ Some last) × (last ≤ clock)

@@ -55,7 +55,7 @@ behind : (k a n : ℕ) (acts : List ChannelAct) → k < a → AllByRecursion (λ
 behind k a zero acts lt = tt
 behind k a (suc n) acts lt =
     all_behind k a (srq_enabled a acts) (enabled_among (a + 1) n acts) (enabled_has_number a acts) lt
-        (behind k (a + 1) n acts (omega (arith, lt)))
+    (behind k (a + 1) n acts (omega (arith, lt)))
 
 sorted_with : (a : ℕ) (first : Option Enabled) (xs : List Enabled) → IsAt a first → AllByRecursion (λ x. a < x.lid) xs → IsSorted xs
     → IsSorted (cons_option first xs)
@@ -66,7 +66,7 @@ sorted : (a n : ℕ) (acts : List ChannelAct) → IsSorted (enabled_among a n ac
 sorted a zero acts = tt
 sorted a (suc n) acts =
     sorted_with a (srq_enabled a acts) (enabled_among (a + 1) n acts) (enabled_has_number a acts) (behind a (a + 1) n acts (omega arith))
-        (sorted (a
+    (sorted (a
     + 1) n acts)
 
 pub enabled_sorted : (acts : List ChannelAct) → IsSorted (enabled_links acts)

@@ -78,7 +78,7 @@ is_queued_sent old new peer handle count calls size made sizes bytes total few l
     let size_is : size ≡ length call = omega (arith, total, ap length bytes, length-append old.bytes call) in
     let sizes = sizes ∙ ap (λ (n : ℕ). old.sizes ++ n ∷ []) size_is in
     subst (λ (can : Bool). IsQueued new count (calls_with_one_more peer handle calls can))
-        (sym (may_call_with_room old count calls is few left))
+    (sym (may_call_with_room old count calls is few left))
     (is_queued_called old new count calls call made sizes bytes (request_is_some (length calls + 1) peer handle) is)
 
 pub open≢closed : (stage : Stage) (peer : Peer) → stage ≡ Open peer → stage ≡ Closed → ⊥

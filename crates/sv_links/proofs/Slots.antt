@@ -94,13 +94,21 @@ pub kept_after_insert : (old new : List (Option Link)) (key : ℕ) (x : Link) (l
     → ((other : ℕ) → other ≢ key → at new other ≡ at old other) → IsKept old links → IsKept new (links ++ x ∷ [])
 kept_after_insert old [] key x links free put others h = absurd (some≢none x (sym put))
 kept_after_insert [] (slot ∷ new) zero x links free put others h =
-    subst (λ slot. IsKept (slot ∷ new) (links ++ x ∷ [])) (sym put)
-    (links, [], refl, rw (append-nil links)
-        (same_slots_same_links [] new links (λ key. others (suc key) (λ e. absurd (omega (arith, e)))) h))
+    subst (λ slot. IsKept (slot ∷ new) (links ++ x ∷ [])) (sym put) (
+      links,
+      [],
+      refl,
+      rw (append-nil links)
+          (same_slots_same_links [] new links (λ key. others (suc key) (λ e. absurd (omega (arith, e)))) h),
+    )
 kept_after_insert (None ∷ old) (slot ∷ new) zero x links free put others h =
-    subst (λ slot. IsKept (slot ∷ new) (links ++ x ∷ [])) (sym put)
-    (links, [], refl, rw (append-nil links)
-        (same_slots_same_links old new links (λ key. others (suc key) (λ e. absurd (omega (arith, e)))) h))
+    subst (λ slot. IsKept (slot ∷ new) (links ++ x ∷ [])) (sym put) (
+      links,
+      [],
+      refl,
+      rw (append-nil links)
+          (same_slots_same_links old new links (λ key. others (suc key) (λ e. absurd (omega (arith, e)))) h),
+    )
 kept_after_insert (Some y ∷ old) (slot ∷ new) zero x links free put others h = absurd (some≢none y free)
 kept_after_insert [] (slot ∷ new) (suc key) x links free put others h =
     subst (λ slot. IsKept (slot ∷ new) (links ++ x ∷ [])) (sym (others 0 (λ e. absurd (omega (arith, e)))))

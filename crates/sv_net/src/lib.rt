@@ -8,9 +8,9 @@
 mod buffer;
 mod client;
 mod control;
-mod listener;
 mod fault;
 pub mod laws;
+mod listener;
 mod machine;
 mod net;
 mod serving;

@@ -52,7 +52,7 @@ pub go_line : (config : Config) (mode : Mode) (old new : State) (left line rest 
     → StepLeads config mode old new left rest number next reader reader first last (Ok true)
 go_line config mode old new left line rest len number next reader first last found cut is up does read text stage =
     let whole : parts left ≡ line ∷ parts rest = parts_at_newline left len found
-        ∙ ap (λ (l : List ℕ). l ∷ parts (drop (len + 1) left)) (sym cut)
+    ∙ ap (λ (l : List ℕ). l ∷ parts (drop (len + 1) left)) (sym cut)
     ∙ ap (λ (l : List ℕ). line ∷ parts l) (sym is) in
     let (other, put, on) = stage_line config mode old new left rest line number next read text first last whole up stage does in
     ([], other, consumes_none reader, put, nothing_more_read (λ r. IsStage config mode new rest next r (text ++ other)) read [] refl on)
@@ -95,7 +95,7 @@ pub go_output : (config : Config) (mode : Mode) (old : State) (left : List ℕ) 
     (fault : RunFault)
     (result : Result Bool RunFault) → Keeps first last → fault ≡ Output
     → IsErr result → IsErrAnd result (λ e. e ≡ fault) → StepLeads config mode old old left left number number reader reader first last
-        result
+    result
 go_output config mode old left number reader first last fault result kept told failed is read text stage = (
   [],
   [],

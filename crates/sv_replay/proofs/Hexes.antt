@@ -19,8 +19,12 @@ digit_reads digit n is = elim is.1 [
   | inl decimal ↦ rw (within_range 48 57 digit (omega arith) (omega arith)) (ap Some (omega arith))
   | inr letter ↦ elim letter [
     | inl upper ↦ rw (above_range 48 57 digit (omega arith), within_range 65 70 digit (omega arith) (omega arith)) (ap Some (omega arith))
-    | inr lower ↦ rw (above_range 48 57 digit (omega arith), above_range 65 70 digit (omega arith), within_range 97 102 digit (omega arith)
-        (omega arith))
+    | inr lower ↦ rw (
+      above_range 48 57 digit (omega arith),
+      above_range 65 70 digit (omega arith),
+      within_range 97 102 digit (omega arith)
+          (omega arith),
+    )
         (ap Some (omega arith))
   ]
 ]

@@ -177,12 +177,12 @@ traffic_takes line word text event line_is e =
     from_word_match word (codes "bytes") _ _ (Some event) e
     (λ is e1. bytes_takes line text event (with_first_word line word (codes "bytes") text line_is is) e1) (λ e1.
     from_word_match word (codes "turn") _ _ (Some event) e1
-        (λ is e2. from_mapped_some Turn (plain_at 255 text) event e2 (λ c plain event_is.
+    (λ is e2. from_mapped_some Turn (plain_at 255 text) event e2 (λ c plain event_is.
     subst (SaysEvent line) event_is (text, plain_takes 255 c text plain, with_first_word line word (codes "turn") text line_is is))) (λ e2.
     from_word_match word (codes "refuse") _ _ (Some event) e2
-        (λ is e3. from_mapped_some Refuse (plain_at 255 text) event e3 (λ c plain event_is.
+    (λ is e3. from_mapped_some Refuse (plain_at 255 text) event e3 (λ c plain event_is.
     subst (SaysEvent line) event_is (text, plain_takes 255 c text plain, with_first_word line word (codes "refuse") text line_is is)))
-        (λ none.
+    (λ none.
     absurd (none-some event none))))
 
 -- A line that is read as an event of a connection or an interrupt channel describes it.
@@ -203,7 +203,7 @@ words_takes : (line word text : List ℕ) (what : Line) → IsWords line word te
 unfolding words_at
 words_takes line word text what line_is e =
     from_word_match word (codes "tick") _ _ (Some what) e
-        (λ is e1. ticks_takes line text what (with_first_word line word (codes "tick") text line_is is) e1)
+    (λ is e1. ticks_takes line text what (with_first_word line word (codes "tick") text line_is is) e1)
     (λ e1.
     from_word_match word (codes "input") _ _ (Some what) e1
     (λ is e2. from_mapped_some One (input_at text) what e2 (λ event read what_is.

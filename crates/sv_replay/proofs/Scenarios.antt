@@ -107,10 +107,9 @@ reading_stops_with_fault : (text left line : List ℕ) (behind : List (List ℕ)
     (fault : ScenarioFault)
     → IsRead text number old least left → parts left ≡ line ∷ behind → next ≡ number + 1 → Adds least line next old new (Err fault)
     → Reads text (Err fault)
-reading_stops_with_fault text left line behind number next least old new (BadLine n) (front, is, count, tells, least_is) cut up (at, bad) =
-    (
+reading_stops_with_fault text left line more number next least old new (BadLine n) (front, is, count, tells, least_is) cut up (at, bad) = (
   front,
-  behind,
+  more,
   line,
   old,
   is ∙ ap (λ (ps : List (List ℕ)). front ++ ps) cut,
@@ -118,9 +117,9 @@ reading_stops_with_fault text left line behind number next least old new (BadLin
   tells,
   subst (λ (m : ℕ). IsBadFrom m line) least_is bad,
 )
-reading_stops_with_fault text left line behind number next least old new Memory (front, is, count, tells, least_is) cut up (entry, says) = (
+reading_stops_with_fault text left line more number next least old new Memory (front, is, count, tells, least_is) cut up (entry, says) = (
   front,
-  behind,
+  more,
   line,
   old,
   entry,

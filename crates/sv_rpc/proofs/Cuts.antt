@@ -22,8 +22,12 @@ capacity_of_records (n ∷ ns) bytes h =
     let total = sum_cons n ns in
     let short : sum ns ≤ length (drop n bytes) = omega (arith, length-drop n bytes) in
     let size : length (take n bytes) ≡ n = length-take-le n bytes (omega arith) in
-    omega (arith, sum_by-cons (λ (r : List ℕ). 4 + length r) (take n bytes) (cut ns (drop n bytes)), capacity_of_records ns (drop n bytes)
-        short)
+    omega (
+      arith,
+      sum_by-cons (λ (r : List ℕ). 4 + length r) (take n bytes) (cut ns (drop n bytes)),
+      capacity_of_records ns (drop n bytes)
+          short,
+    )
 
 -- Bytes that follow the records change none of them.
 pub cut_append : (ns bytes piece : List ℕ) → sum ns ≤ length bytes → cut ns (bytes ++ piece) ≡ cut ns bytes

@@ -88,7 +88,7 @@ first_fragments_read [] payload rest reading fits next = rw append-nil at next
 first_fragments_read (text ∷ front) payload rest reading fits next =
     let size = length-append text (concat front) in
     let again = first_fragments_read front (payload ++ text) rest reading (omega (arith, length-append payload text)) (rw append_assoc next)
-        in
+    in
     reads_of_equal_bytes payload _ _ reading (append_assoc (fragment false text) (flat_map (fragment false) front) rest)
     (fragment_reads false payload text (flat_map (fragment false) front ++ rest) reading (omega arith) again)
 
@@ -104,7 +104,7 @@ records_read (first ∷ sent) rest tail taken next =
     (λ n more. rw (others n more) refl) in
     reads_of_equal_bytes [] _ _ (map record_of (first ∷ sent), tail) (simp append_assoc)
     (first_fragments_read first.front [] (fragment true first.final ++ bytes) (map record_of (first ∷ sent), tail) (omega (arith, taken.0))
-        final)
+    final)
 
 -- A tail is read as this tail.
 tail_reads : (rest : List ℕ) (tail : Tail) → IsTail rest tail → IsReadAs [] rest ([], tail)
@@ -118,7 +118,7 @@ tail_reads rest (Data payload missing last) is =
     (part_reads last missing (concat is.0) is.1 is.4 (omega (arith, size, is.5))))
 tail_reads rest TooLong is =
     rw is.4 (first_fragments_read is.0 [] (header_of is.2 is.1 ++ is.3) _ (omega (arith, is.5))
-        (long_reads is.2 is.1 (concat is.0) is.3 is.6 is.7))
+    (long_reads is.2 is.1 (concat is.0) is.3 is.6 is.7))
 
 -- A stream is read as the records and the tail into which it splits.
 splits_read : (stream : List ℕ) (all : List (List ℕ)) (tail : Tail) → Splits stream all tail → IsReadAs [] stream (all, tail)

@@ -3,8 +3,8 @@
 #![tactic(auto)]
 
 mod accepting;
-mod dialing;
 mod closing;
+mod dialing;
 mod driver;
 mod journal;
 mod passing;

@@ -2,7 +2,6 @@
 //! take.
 
 ghost use Rattle.std.specs.Prelude.{◌≡◌, ◌<◌};
-ghost use Rattle.sv_history.specs.Print.{is_no_memory};
 ghost use Rattle.sv_serve.specs.DriverView.{Steps, ForEach};
 ghost use Rattle.sv_serve.specs.Steps.{Turns, TurnsIf, EndsTurn, RefusesIf};
 ghost use Rattle.sv_serve.specs.Premises.{From, MayFindNone, FindsNoneIf};
@@ -11,14 +10,7 @@ use crate::driver::{CONNECTIONS, Driver};
 use crate::journal::Journal;
 use crate::wire::Wire;
 use std::alloc::Allocator;
-use sv_server::{Did, Event, Refused};
-
-/// Whether an event was refused for lack of memory.
-fn is_no_memory(refused: Refused) -> bool
-    ensures { result ≡ is_no_memory refused }
-{
-    matches!(refused, Refused::NoMemory)
-}
+use sv_server::{Did, Event, Refused, is_no_memory};
 
 impl<W: Wire + Drop, A: Allocator, J: Journal + Drop> Driver<W, A, J> {
     /// On each connection that has a call to take, takes one call.

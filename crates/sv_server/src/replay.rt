@@ -129,8 +129,9 @@ impl<A: Allocator> Server<A> {
     }
 }
 
-/// Whether an event was refused because there was no memory.
-fn is_no_memory(refused: Refused) -> bool
+/// Whether an event was refused because there was no memory. This is the only refusal that the
+/// history doesn't determine.
+pub fn is_no_memory(refused: Refused) -> bool
     ensures { result ≡ is_no_memory refused }
 {
     matches!(refused, Refused::NoMemory)

@@ -62,7 +62,7 @@ pub voltage_same : (old volts volts2 : List ℕ) (sign sign2 n n2 : ℕ) → sig
     → voltage_written_over old sign volts n ≡ voltage_written_over old sign2 volts2 n2
 voltage_same old volts volts2 sign sign2 n n2 s v e =
     ap (λ x. voltage_written_over old x volts n) s ∙ ap (λ x. voltage_written_over old sign2 x n) v
-        ∙ ap (λ x. voltage_written_over old sign2 volts2 x) e
+    ∙ ap (λ x. voltage_written_over old sign2 volts2 x) e
 
 pub voltage_size : (volts : List ℕ) (n : ℕ) → n < 1000000 → length (volts ++ 46 ∷ six_digits n) ≡ length volts + 1 + 6
 voltage_size volts n lt = let inner = length-append volts (46 ∷ six_digits n) in let six = length_six n lt in omega (arith, inner, six)

@@ -123,11 +123,11 @@ nearest_digits ds c kept h some size =
     let few : length behind ≡ c - 1 = length-drop (suc kept) ds ∙ omega (arith, some, size) in
     let value : digits_value 10 ds ≡ (digits_value 10 front * 10 + digit_value digit) * 10 ^ (c - 1) + digits_value 10 behind =
     ap (digits_value 10) split ∙ value_join front (digit ∷ behind) ∙ value_after_more_digits
-        (digits_value 10 front * 10 + digit_value digit) behind
+    (digits_value 10 front * 10 + digit_value digit) behind
     ∙ ap (λ n. (digits_value 10 front * 10 + digit_value digit) * 10 ^ n + digits_value 10 behind) few in
     let less : digits_value 10 behind < 10 ^ (c - 1) = rw (← few) (value_below_power_of_ten behind digits.1) in
     let tens : 10 ^ c ≡ 10 * 10 ^ (c - 1) = ap (λ n. 10 ^ n) (let e : c ≡ suc (c - 1) = omega (arith, some) in e) ∙ pow-succ' 10 (c - 1) in
     ap (λ n. nearest n (10 ^ c)) value ∙ ap (nearest
     ((digits_value 10 front * 10 + digit_value digit) * 10 ^ (c - 1) + digits_value 10 behind)) tens
     ∙ rounds_by_next_digit (digits_value 10 front) (digit_value digit) (digits_value 10 behind) (10 ^ (c - 1)) (digit_most digit digits.0)
-        less
+    less

@@ -53,13 +53,13 @@ encoded_arguments_are_read (OnLink lid DeviceAbort) bytes after (bounds, h) =
     encoded_link_call_is_read [] DeviceAbort lid tt bytes after tt h
 encoded_arguments_are_read (CreateLink client_id lock_device lock_timeout device) bytes after (bounds, h) =
     encoded_fields_are_read create_link CreateLink (client_id & lock_device & lock_timeout & device & tt) bytes after
-        (opaque_length_bound _ h.2.2.2.1, tt) h
+    (opaque_length_bound _ h.2.2.2.1, tt) h
 encoded_arguments_are_read (OnLink lid (DeviceWrite io_timeout lock_timeout flags text)) bytes after (bounds, h) =
     encoded_link_call_is_read device_write DeviceWrite lid (io_timeout & lock_timeout & flags & text & tt) bytes after
-        (opaque_length_bound _ h.2.2.2.2.1, tt) h
+    (opaque_length_bound _ h.2.2.2.2.1, tt) h
 encoded_arguments_are_read (OnLink lid (DeviceRead request_size io_timeout lock_timeout flags term_char)) bytes after (bounds, h) =
     encoded_link_call_is_read device_read DeviceRead lid (request_size & io_timeout & lock_timeout & flags & term_char & tt) bytes after tt
-        h
+    h
 encoded_arguments_are_read (OnLink lid (Generic Readstb flags lock io)) bytes after (bounds, h) =
     generic_begins Readstb lid flags lock io bytes after h
 encoded_arguments_are_read (OnLink lid (Generic Trigger flags lock io)) bytes after (bounds, h) =
@@ -79,13 +79,13 @@ encoded_arguments_are_read (OnLink lid (DeviceEnableSrq enable handle)) bytes af
 encoded_arguments_are_read (OnLink lid (DeviceDocmd flags io_timeout lock_timeout cmd network_order datasize text)) bytes after
     (bounds, h) =
     encoded_link_call_is_read device_docmd DeviceDocmd lid (flags & io_timeout & lock_timeout & cmd & network_order & datasize & text & tt)
-        bytes after
+    bytes after
     (opaque_length_bound _ h.2.2.2.2.2.2.2.1, tt) h
 encoded_arguments_are_read (OnLink lid DestroyLink) bytes after (bounds, h) =
     encoded_link_call_is_read [] DestroyLink lid tt bytes after tt h
 encoded_arguments_are_read (CreateIntrChan host_addr host_port prog_num prog_vers prog_family) bytes after (bounds, h) =
     encoded_fields_are_read create_intr_chan CreateIntrChan (host_addr & host_port & prog_num & prog_vers & prog_family & tt) bytes after tt
-        h
+    h
 encoded_arguments_are_read DestroyIntrChan bytes after h = refl
 
 -- What the bytes are as arguments is what is read from them.

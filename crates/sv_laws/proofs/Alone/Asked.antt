@@ -190,7 +190,7 @@ module _ (c lid : ℕ) (asked : Question) (sent answer : List ℕ) (most : ℕ) 
   resting_now =
       let none = unended_if_one_left [] (exchange_acts now) left_now in
       resting_if_answerable config (between ++ Turn c ∷ past) before second.polled asks.reads.went_on none
-          (idle_exchange_is_answerable now held none) second.said
+      (idle_exchange_is_answerable now held none) second.said
 
   read_settled : (n : ℕ) → SettlesIn n config read_now log → log ≡ read_now
   read_settled n settles =

@@ -186,7 +186,7 @@ module _ (config : Config) (lines : ℕ) (message unit : List ℕ) (links : List
       (ap (λ (l : List ExchangeAct). response (Finished ∷ l)) is ∙ done_none parts acts left none)))
   stepped log new p (Ended (suc k) left none) step =
       subst Phase (sym (step_finishes_message log new p.held (left_due k (exchange_acts (inside log)) left) step))
-          (finished_phase log p (Ended k
+      (finished_phase log p (Ended k
       (left_finished k (exchange_acts (inside log)) left)
       (finishing_shows_none ([] ∷ [] ∷ replicate k []) (exchange_acts (inside log)) left none)))
   stepped log new p (Ended zero left none) step =
@@ -298,7 +298,7 @@ module _ (c lid : ℕ) (command : Order) (sent : List ℕ) (config : Config) (pa
     linked = ap link_acts (device_acts_append (map Applied adds) wrote_now) ∙ link_acts_applied adds (device_acts wrote_now);
     nobody = subst (NobodyCanResume (link_acts (device_acts start)))
         (sym (ap wait_acts (device_acts_append (map Applied adds) wrote_now) ∙ wait_acts_applied adds (device_acts wrote_now)))
-            nobody_start;
+        nobody_start;
     codes = ap query_errors inside_is ∙ does.2.2;
   }
 

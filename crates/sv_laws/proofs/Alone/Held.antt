@@ -242,7 +242,7 @@ module _ (c lid : ℕ) (query : Order) (what : Awaited) (sent : List ℕ) (most 
   others_start : OthersCannotResume c links (wait_acts (device_acts start))
   others_start d ne writes reads able =
       (none_late config past start d asks.writes.was).1
-          (sym (is_there_same_unless_device (holder links) (link d (wait_acts (device_acts start)))
+      (sym (is_there_same_unless_device (holder links) (link d (wait_acts (device_acts start)))
       (waits d (wait_acts (device_acts start))) writes reads (not (has_ended (exchange_acts base))) (is_answerable base)
       (resting.none d).0 (resting.none d).1) ∙ able)
 
@@ -342,7 +342,7 @@ module _ (c lid : ℕ) (query : Order) (what : Awaited) (sent : List ℕ) (most 
       → IsPhase true (own_acts config second.polled (Turn c) before ++ before)
   suspended v left held none since mine =
       let no = unanswerable_without_response before none
-          (ended_if_two_left message [] (replicate lines []) (exchange_acts (inside before)) left) in
+      (ended_if_two_left message [] (replicate lines []) (exchange_acts (inside before)) left) in
       let own : own_acts config second.polled (Turn c) before ++ before ≡ waiting_now =
       turn_adds_outcome config second.polled c lid
       (DeviceRead most asks.reads.timeout asks.reads.lock_timeout asks.reads.flags asks.reads.term_char)
@@ -416,7 +416,7 @@ module _ (c lid : ℕ) (query : Order) (what : Awaited) (sent : List ℕ) (most 
   finally codes (StillShows e fits over held mine) =
       absurd ((none_late config (later ++ Turn c ∷ (between ++ Turn c ∷ past)) log c asks.is_log).1
       (able (response_makes_answerable (held_answer what e.done ++ 10 ∷ []) (device_acts log) over.shows
-          (line_is_nonempty (held_answer what e.done)))))
+      (line_is_nonempty (held_answer what e.done)))))
     where
       able : is_answerable (inside log) ≡ true → CanResume (device_acts log) c
       able can = rw mine.0 can

@@ -47,7 +47,7 @@ query_locked c lid asked sent answer most config past between events start befor
     let (other, alone, mine, instrument) = same_acts_as_alone c lid config past events log locked is_log in
     let there = subst (λ (l : List PlainEvent). IsLogOf config l other) is alone in
     told_by_same_acts c sent answer most (term_of asks.reads.flags asks.reads.term_char) asks.writes.call.xid asks.reads.call.xid start log
-        other
+    other
     mine instrument (record {
       told = both_told c lid asked sent answer most config past between start before other rest asks there;
       rest = (query_alone c lid asked sent answer most config past between start before other rest asks there).rest;

@@ -266,7 +266,7 @@ module _ (config : Config) (c lid xid most io_timeout lock_timeout flags term_ch
   stepped taken log new (Shows (suc k) e fits over held mine) linked others codes step =
       let bytes = held_answer what e.done ++ 10 ∷ [] in
       subst (Phase taken) (sym (step_finishes_message log new held (empty_due k bytes (exchange_acts (inside log)) over) step))
-          (inl (record {
+      (inl (record {
         state = Shows k (unit_end_with_more_acts what base (Exchanged Finished ∷ []) (inside log) (Exchanged Finished ∷ inside log) refl e)
             fits
             (finished_empty k bytes (exchange_acts (inside log)) over) held mine;
@@ -308,8 +308,6 @@ module _ (config : Config) (c lid xid most io_timeout lock_timeout flags term_ch
   state_late taken log (Shows k e fits over held mine) late = mine_late taken _ _ _ mine late
   state_late taken log (Gone was k e fits left none held mine) (wait, last, for, until, past) =
       absurd (let z : Some wait ≡ None = sym for ∙ mine.0 in cc)
-
-  -- ---- a call resumes
 
   others_cannot : (d : ℕ) (log : List Act) → d ≢ c → link_acts (device_acts log) ≡ links
       → OthersCannotResume c links (wait_acts (device_acts log))
@@ -398,8 +396,6 @@ module _ (config : Config) (c lid xid most io_timeout lock_timeout flags term_ch
   state_resumes taken polled wait log new (Gone was k e fits left none held mine) linked others codes able for is =
       absurd (let z : None ≡ Some wait = sym mine.0 ∙ for in cc)
 
-  -- ---- each step
-
   live_step : (taken : Bool) (log new : List Act) → Live taken log → IsNext config log new → Phase taken new
   live_step taken log new v (inl (adds, such, is)) =
       let there = happened_by_result adds (Scanned (Trigger Immediate) ∷ []) log new is such.1 in
@@ -428,8 +424,6 @@ module _ (config : Config) (c lid xid most io_timeout lock_timeout flags term_ch
   step_phase taken log new (inr escaped) next =
       let more = next_extends config log new next in
       subst (Phase taken) (sym more.1) (inr (escaped_more more.0 log escaped))
-
-  -- ---- quiet events
 
   ticked_live : (taken : Bool) (now : ScanState) (log : List Act) → Live taken log
       → Live taken ((map OnDevice (map Applied (where_scanning now)) ++ OnDevice Ticked ∷ []) ++ log)
@@ -474,8 +468,6 @@ module _ (config : Config) (c lid xid most io_timeout lock_timeout flags term_ch
       (before, polled, channel_log, is_event, is_before, hears, free, said, settles) =
       settling_keeps config (Phase taken) (step_phase taken) settles.0 (own_acts config polled event before ++ before) log
       (event_phase taken polled event before quiet.0 (quiet_phase taken past events was before is_was phase quiet.1 is_before)) settles.1
-
-  -- ---- when no step is due any more
 
   -- If no step is due any more, no message waits to be finished.
   pub unfinished : (log : List Act) → Rested config log → held_unit (inside log) ≡ None → due (exchange_acts (inside log)) ≡ FinishDue → ⊥

@@ -35,7 +35,7 @@ pub rounds_keep_rest : (c lid : ℕ) (config : Config) (past history : List Plai
     → RestsWithErrors (query_errors (instrument_acts (device_acts start))) log
 rounds_keep_rest c lid config past history start log is_start rest Start is_log =
     subst (RestsWithErrors (query_errors (instrument_acts (device_acts start)))) (one_log config past start log is_start is_log)
-        (rest, refl)
+    (rest, refl)
 rounds_keep_rest c lid config past history start log is_start rest (Quiet {history = before} event quiet more) is_log =
     quiet_event_keeps_rest c config event before _ is_log.0 log quiet is_log.4
     (rounds_keep_rest c lid config past before start is_log.0 is_start rest more is_log.4) is_log

@@ -70,7 +70,7 @@ turn_writes config polled c lid io_timeout lock_timeout flags sent log n f short
     turn_adds_outcome config polled c lid (DeviceWrite io_timeout lock_timeout flags sent) _ log n
     (write_is_accepted config polled c lid io_timeout lock_timeout flags sent (device_acts log) f short unended)
     ∙ ap (λ (b : Bool). log_with_write c n.bytes (result_reply n.xid (Size NoError (length sent))) sent b log)
-        (eq-eqb (bit_at flags 3) 1 ends)
+    (eq-eqb (bit_at flags 3) 1 ends)
 
 -- ---- the read
 
@@ -180,5 +180,5 @@ pub turn_reads : (config : Config) (polled c lid most io_timeout lock_timeout fl
     ≡ log_after_read c n.bytes (result_reply n.xid (whole most (term_of flags term_char) answer)) (length (answer ++ 10 ∷ [])) log
 turn_reads config polled c lid most io_timeout lock_timeout flags term_char answer log n f is fits =
     turn_adds_outcome config polled c lid (DeviceRead most io_timeout lock_timeout flags term_char)
-        (whole_read most (term_of flags term_char) answer)
+    (whole_read most (term_of flags term_char) answer)
     log n (read_admitted config polled c lid most io_timeout lock_timeout flags term_char answer (device_acts log) f is fits)

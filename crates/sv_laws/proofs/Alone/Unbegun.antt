@@ -164,7 +164,7 @@ turn_keeps_sound config polled c (Some bytes) (Some request) log s =
     let effect = request_effect config polled c request (device_acts log) in
     let taken = acts_of c effect ++ On c (CallTaken bytes) ∷ log in
     subst IsSoundLog (sym (turn_acts_in_order c bytes effect (aborts request (device_acts log)) log))
-        (aborted_so (aborts request (device_acts log)) taken
+    (aborted_so (aborts request (device_acts log)) taken
     (effect_keeps_sound c effect (On c (CallTaken bytes) ∷ log) (tame_request config polled c request (device_acts log)) s))
 turn_keeps_sound config polled c _ _ log s = s
 
@@ -186,7 +186,7 @@ step_keeps_sound config log new s (inr (none, inl (c, wait, polled, oldest, for,
     tame_resumed config polled c arguments (next_wait wait arguments (device_acts log)) (device_acts log))) s)
 step_keeps_sound config log new s (inr (none, inr (still, inl (adds, step, is)))) =
     subst IsSoundLog (sym is)
-        (happened_so adds log (step_sound (instrument_acts (device_acts log)) (adds ++ instrument_acts (device_acts log))
+    (happened_so adds log (step_sound (instrument_acts (device_acts log)) (adds ++ instrument_acts (device_acts log))
     step s))
 step_keeps_sound config log new s (inr (none, inr (still, inr (idle, (c, wait, oldest, for, is))))) =
     subst IsSoundLog (sym is) (failing_call_keeps_sound (late wait) c (core_call_in (pending_call (of c log))) log s)

@@ -169,7 +169,7 @@ responds c config asked sent answer base log acts rest r s =
     subst (λ (l : List ExchangeAct). Over r.query.lines (answer ++ 10 ∷ []) (Finished ∷ l)) (sym same)
     (finishing_shows_response r.query.lines r.query.message answer (exchange_acts now) left) in
     let more = finishes_all_messages c r.query.lines config base (happened over (happened adds log)) (over ++ (adds ++ now))
-        (answer ++ 10 ∷ []) rest
+    (answer ++ 10 ∷ []) rest
     second done_now refl in
     record {
       end = more.end;
@@ -194,5 +194,5 @@ responds c config asked sent answer base log acts rest r s =
           (iff_transitive (plain_act_keeps_standard k (Exchanged (Answered answer)) (Exchanged UnitDone ∷ taken_acts asked ++ now) tt)
           (iff_transitive (plain_act_keeps_standard k (Exchanged UnitDone) (taken_acts asked ++ now) tt)
           (iff_transitive (query_keeps_standard asked now other k)
-              (plain_act_keeps_standard k (Exchanged (Accepted sent true)) acts tt)))));
+          (plain_act_keeps_standard k (Exchanged (Accepted sent true)) acts tt)))));
     }

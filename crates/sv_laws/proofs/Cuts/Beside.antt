@@ -54,7 +54,7 @@ pub parts_shared : (x y : List ℕ) (ended : Bool) (acts : List DeviceAct)
     → SameShared (accepts (x ++ y) ended ∷ acts) (accepts y ended ∷ accepts x false ∷ acts)
 parts_shared x y ended acts =
     let parts = write_keeps_same_told y ended (accepts x false ∷ acts) acts (write_keeps_same_told x false acts acts (same_told_refl acts))
-        in
+    in
     let v = write_keeps_same_told (x ++ y) ended acts (accepts y ended ∷ accepts x false ∷ acts)
     (same_told_sym (accepts y ended ∷ accepts x false ∷ acts) acts parts) in
     assumption (sym (cut_write_has_same_text x y ended (exchanged (instrument_acts acts))))
@@ -74,7 +74,7 @@ long_shared x y ended acts =
     let whole = accepts (x ++ y) ended ∷ acts in
     let first = accepts x false ∷ acts in
     let both = write_keeps_same_told (x ++ y) ended acts first
-        (same_told_sym first acts (write_keeps_same_told x false acts acts (same_told_refl acts))) in
+    (same_told_sym first acts (write_keeps_same_told x false acts acts (same_told_refl acts))) in
     let behind = told_reports whole first both in
     let v = same_told_sym (accepts y ended ∷ reports first) (reports whole)
     (write_keeps_same_told y ended (reports first) (reports whole) (same_told_sym (reports whole) (reports first) behind)) in
@@ -144,7 +144,7 @@ pub beside_wrote : (c : ℕ) (log other : List Act) (call reply x : List ℕ) (f
     → Beside c log other
 beside_wrote c log other call reply x first one also answer y last two acts both here there others p q v =
     let apart : (d : ℕ) → d ≢ c → of d log ≡ of d other = λ d ne. here d ∙ write_leaves_other_connections c d call reply x first one ne
-        ∙ others d ne
+    ∙ others d ne
     ∙ sym (write_leaves_other_connections c d also answer y last two ne) ∙ sym (there d) in
     record {
       shared = relation_of_equals SameShared acts both (device_acts log) (device_acts other) p q v;

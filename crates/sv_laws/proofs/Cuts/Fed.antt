@@ -64,7 +64,7 @@ pub call_shows_in_acts : (c : ℕ) (config : Config) (call : List ℕ) (base log
     → FollowsCall c call base log
 call_shows_in_acts c config call base log taking = follows_call c call base log (adds_then (On c (CallTaken call) ∷ base) _ log
     (taken_acts_take_no_other config taking.polled c call taking.request _ base)
-        (steps_take_no_call taking.steps config _ log taking.settles))
+    (steps_take_no_call taking.steps config _ log taking.settles))
 
 pub shown_bare : (c : ℕ) (call : List ℕ) (base log : List Act) (shown : FollowsCall c call base log)
     → without_pieces (of c log) ≡ without_pieces shown.0 ++ CallTaken call ∷ without_pieces (of c base)
@@ -94,7 +94,7 @@ no_fewer c config past (event ∷ events) before log feeding was is_log =
           omega (arith, least, same)
       | inr taken ↦
           let more = call_adds_to_count c taken.0 is_log.0 log (call_shows_in_acts c config taken.0 is_log.0 log taken.1) in
-              omega (arith, least, more)
+          omega (arith, least, more)
     ]
 
 -- If the events added only pieces to the connection's acts, they added only these pieces to the
@@ -107,7 +107,7 @@ only_bytes c config past (event ∷ events) before log feeding was is_log same =
     elim (fed_event c config event (events ++ past) log feeding.0 is_log) [
       | inl came ↦ pieces_then_pieces c before is_log.0 log
           (only_bytes c config past events before is_log.0 feeding.1 was is_log.4
-              (sym (pieces_leave_other_acts c is_log.0 log came) ∙ same)) came
+          (sym (pieces_leave_other_acts c is_log.0 log came) ∙ same)) came
       | inr taken ↦
           let more = call_adds_to_count c taken.0 is_log.0 log (call_shows_in_acts c config taken.0 is_log.0 log taken.1) in
           let least = no_fewer c config past events before is_log.0 feeding.1 was is_log.4 in

@@ -197,10 +197,10 @@ reported_once config c call reply bytes base log zero rest line unended none set
 reported_once config c call reply bytes base log (suc steps) rest line unended none (mid, next, more) =
     let now = reported (log_with_write c call reply bytes false base) in
     let step = calm_step_is_of_instrument config now base mid rest (record { links = refl; calls = refl; clock = refl; scans = refl }) next
-        in
+    in
     let acts = instrument_acts (device_acts now) in
     let long = step_long acts (step.0 ++ acts) (no_line_ends_no_message bytes (exchange_acts (device_acts base)) line ∙ unended) none step.1
-        in
+    in
     absurd (and_false_is_never (is_long (exchanged acts)) long.0)
 
 -- The log after the first part of a write: nothing was due; or the part made the message too long,

@@ -26,7 +26,7 @@ pub kept_through_steps : (AreSo : List Act → List Act → Type 0) → IsKept A
 kept_through_steps AreSo kept zero zero config log other new also v x y = relation_of_equals AreSo log other new also x.1 y.1 v
 kept_through_steps AreSo kept zero (suc m) config log other new also v x y =
     let so = same_calls_same_step config other log (same_calls_sym log other (kept.calls log other v)) y.0 y.1 in
-        absurd (x.0 (so.0 ++ log) so.2)
+    absurd (x.0 (so.0 ++ log) so.2)
 kept_through_steps AreSo kept (suc n) zero config log other new also v x y =
     let so = same_calls_same_step config log other (kept.calls log other v) x.0 x.1 in absurd (y.0 (so.0 ++ other) so.2)
 kept_through_steps AreSo kept (suc n) (suc m) config log other new also v x y =

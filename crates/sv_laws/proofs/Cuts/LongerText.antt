@@ -39,7 +39,7 @@ none_longer (Byte b ∷ old) new k = at (b == 10) (none_longer old new) k
   where
     at : (t : Bool) → NoPartLonger (messages old) (messages (old ++ new))
         → NoPartLonger (cond t ([] ∷ messages old) (onto b (messages old)))
-            (cond t ([] ∷ messages (old ++ new)) (onto b (messages (old ++ new))))
+        (cond t ([] ∷ messages (old ++ new)) (onto b (messages (old ++ new))))
     at true within = within_line (messages old) (messages (old ++ new)) within
     at false within = within_byte b (messages old) (messages (old ++ new)) within
 

@@ -212,7 +212,7 @@ never_passes name k bytes ended log h =
     let told : changes k (condition name log) (condition name log) (rise name log) (fall name log) ≡ true =
     sym (ap (λ (w : ℕ). changes k (condition name log) w (rise name log) (fall name log)) same) ∙ h in
     let none = sym (unchanged_bit_passes_none (has_bit (condition name log) k) (has_bit (rise name log) k) (has_bit (fall name log) k))
-        ∙ told in
+    ∙ told in
     absurd cc
 
 pending_over : (bytes : List ℕ) (ended : Bool) (log : List Act) → standard.Waits log → standard.IsPending (accepted bytes ended ∷ log)

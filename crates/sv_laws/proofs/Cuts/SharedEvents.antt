@@ -59,7 +59,7 @@ turn_acts_same config polled c (Some bytes) (Some request) log other v =
       same_device_same_effect config polled c request (device_acts log) (device_acts other) v.now.device,
       aborts_alike request (device_acts log) (device_acts other) v.now.device,
     ) (ap (λ (l : List Act). l ++ acts)
-        (abort_acts_same found (acts ++ log) (acts ++ other) (acts_keep_same_calls acts log other v.now.calls)))
+    (abort_acts_same found (acts ++ log) (acts ++ other) (acts_keep_same_calls acts log other v.now.calls)))
 turn_acts_same config polled c _ _ log other v = refl
 
 abbrev shuts_by : ℕ → List LinkAct → List Act

@@ -79,7 +79,7 @@ events_keep_same_logs : (config : Config) (first second : ℕ → List ℕ) (one
 events_keep_same_logs config first second one two [] base log also = base log also
 events_keep_same_logs config first second one two (event ∷ events) base log also =
     kept_through_event (SameLogs first second) (logs_kept first second) (logs_next first second) config event (events ++ one)
-        (events ++ two) log also
+    (events ++ two) log also
     (events_keep_same_logs config first second one two events base)
 
 -- ---- the bytes added on a port
@@ -135,7 +135,7 @@ behind_same : (config : Config) (first second : ℕ → List ℕ) (one two event
 behind_same config first second one two events log also h x y =
     events_keep_same_logs config first second one two events
     (λ a b p q. relation_of_equals (SameLogs first second) h.a h.b a b (one_log config one a h.a p h.was)
-        (one_log config two b h.b q h.also) h.same)
+    (one_log config two b h.b q h.also) h.same)
     log also x y
 
 adds_to : (port : Port) (config : Config) (first second : ℕ → List ℕ) (one two events : List PlainEvent) (log also : List Act)

@@ -154,6 +154,6 @@ same_calls_same_step config log other v =
     (does_shared IsFired other log (fires_shared there here back.device.instrument))
     (first_shared log other _ _ _ steps (resumes_shared config log other v) (resumes_shared config other log back)
     (first_shared log other _ _ _ times
-        (does_shared IsStep log other (λ new step. same_instrument_same_step here there new v.device.instrument step))
+    (does_shared IsStep log other (λ new step. same_instrument_same_step here there new v.device.instrument step))
     (does_shared IsStep other log (λ new step. same_instrument_same_step there here new back.device.instrument step))
     (times_shared config log other v)))

@@ -59,11 +59,17 @@ core_in : (role : Role) (found : Result PlainCall CallFault) (call : CoreCall) �
     → IsCore (request_of role found) call
 core_in Core found call is = core_is (request_of Core found) call is
 core_in Abort (Ok found) call is =
-    inr (found.xid, request_by_header Abort found ∙ other_program_is_unavailable found call Abort refl
-        (ap core_call_of (sym (request_by_header Core found)) ∙ is))
+    inr (
+      found.xid,
+      request_by_header Abort found ∙ other_program_is_unavailable found call Abort refl
+          (ap core_call_of (sym (request_by_header Core found)) ∙ is),
+    )
 core_in Portmap (Ok found) call is =
-    inr (found.xid, request_by_header Portmap found ∙ other_program_is_unavailable found call Portmap refl
-        (ap core_call_of (sym (request_by_header Core found)) ∙ is))
+    inr (
+      found.xid,
+      request_by_header Portmap found ∙ other_program_is_unavailable found call Portmap refl
+          (ap core_call_of (sym (request_by_header Core found)) ∙ is),
+    )
 core_in _ (Err (Version xid)) call is = absurd cc
 core_in _ (Err BadHeader) call is = absurd cc
 

@@ -102,7 +102,7 @@ beside_settled c x y ended config before whole last h line =
         ∙ ap (λ (l : List DeviceAct). accepts y ended ∷ accepts x false ∷ l) first_at)
         (parts_shared x y ended (device_acts before)) in
         kept_through_steps (Beside c) (beside_kept c) h.both.steps h.other.steps config start also whole last v h.both.settles
-            h.other.settles
+        h.other.settles
 
     overlong : h.mid ≡ reported (log_with_write c h.one.call h.one.reply x false h.first) → BecomesLong x (device_acts h.first)
         → Beside c whole last

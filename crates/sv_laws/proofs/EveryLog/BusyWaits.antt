@@ -173,7 +173,7 @@ all_admitted config polled c call None log all =
     let outcome = own_call config polled c call.arguments acts in
     all_effect c (call_effect call.xid outcome) log all
     (λ d ne. ap (waits d)
-        (call_acts_suspend_none c call.arguments outcome.adds acts (each_act_is_of_call config polled c call.arguments acts)))
+    (call_acts_suspend_none c call.arguments outcome.adds acts (each_act_is_of_call config polled c call.arguments acts)))
     (λ none. reply_ends_pending call.xid outcome.result (of c log) (executed_call_has_result config polled c call.arguments acts))
 all_admitted config polled c call (Some (Fails error)) log all =
     all_effect c (call_effect call.xid (only (failure call.arguments error))) log all (λ d ne. refl) (λ none. refl)

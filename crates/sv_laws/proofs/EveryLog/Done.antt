@@ -45,14 +45,14 @@ own_call_acts_and_result : (config : Config) (polled c : ℕ) (arguments : Argum
     → AreDone config polled c arguments acts
 own_call_acts_and_result config polled c (CreateLink client_id true lock_timeout device) acts =
     elim (cases_Bool (lids_left (link_acts acts))) [
-  | inl e ↦ rw e ((tt, ((refl, refl, refl), tt)), refl)
-  | inr e ↦ rw e (tt, refl)
-]
+      | inl e ↦ rw e ((tt, ((refl, refl, refl), tt)), refl)
+      | inr e ↦ rw e (tt, refl)
+    ]
 own_call_acts_and_result config polled c (CreateLink client_id false lock_timeout device) acts =
     elim (cases_Bool (lids_left (link_acts acts))) [
-  | inl e ↦ rw e (((refl, refl, refl), tt), refl)
-  | inr e ↦ rw e (tt, refl)
-]
+      | inl e ↦ rw e (((refl, refl, refl), tt), refl)
+      | inr e ↦ rw e (tt, refl)
+    ]
 own_call_acts_and_result config polled c (OnLink (pos n) (DeviceWrite io_timeout lock_timeout flags bytes)) acts =
     elim (cases_Bool (nat_lt max_message (length bytes))) [
       | inl e ↦ rw e (tt, refl)
@@ -78,12 +78,12 @@ own_call_acts_and_result config polled c (OnLink (pos n) DeviceUnlock) acts =
     elim (cases_Bool (is_this n (holder (link_acts acts)))) [ inl e ↦ rw e ((tt, tt), refl) | inr e ↦ rw e (tt, refl) ]
 own_call_acts_and_result config polled c (OnLink (pos n) (DeviceEnableSrq true handle)) acts =
     elim (cases_Bool (is_of c (owner n (link_acts acts)))) [
-  | inl e ↦ elim (cases_Bool (nat_lt max_handle (length handle))) [
-    | inl k ↦ rw (e, k) (tt, refl)
-    | inr k ↦ rw (e, k) (((refl, owner_is_of c (owner n (link_acts acts)) e), tt), refl)
-  ]
-  | inr e ↦ rw e (tt, refl)
-]
+      | inl e ↦ elim (cases_Bool (nat_lt max_handle (length handle))) [
+        | inl k ↦ rw (e, k) (tt, refl)
+        | inr k ↦ rw (e, k) (((refl, owner_is_of c (owner n (link_acts acts)) e), tt), refl)
+      ]
+      | inr e ↦ rw e (tt, refl)
+    ]
 own_call_acts_and_result config polled c (OnLink (pos n) (DeviceEnableSrq false handle)) acts =
     elim (cases_Bool (is_of c (owner n (link_acts acts)))) [ inl e ↦ rw e ((tt, tt), refl) | inr e ↦ rw e (tt, refl) ]
 own_call_acts_and_result config polled c (OnLink (pos n) DestroyLink) acts = ((tt, tt), refl)

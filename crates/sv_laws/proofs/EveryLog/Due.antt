@@ -45,8 +45,14 @@ below_successor IsSo n now before d lt =
 least_more : (acts : List WaitAct) (test : ℕ → Bool) (n : ℕ) (found : Option ℕ) → Least acts test n found
     → (next : Option ℕ) × Least acts test (suc n) next
 least_more acts test n None h = elim (cases_Bool (test n)) [
-  | inl e ↦ (Some n, (e, below_successor (IsNoLater acts test n) n (λ is. omega arith)
-      (λ d less is. true_is_not_false (test d) is (h d less))))
+  | inl e ↦ (
+    Some n,
+    (
+      e,
+      below_successor (IsNoLater acts test n) n (λ is. omega arith)
+          (λ d less is. true_is_not_false (test d) is (h d less)),
+    ),
+  )
   | inr e ↦ (None, below_successor (λ d. test d ≡ false) n e h)
 ]
 least_more acts test n (Some c) h = elim (cases_Bool (test n)) [

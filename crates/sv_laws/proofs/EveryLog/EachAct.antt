@@ -161,7 +161,7 @@ all_turn config polled c log all opened =
     all_effect c (request_effect config polled c request (device_acts log)) (On c (CallTaken bytes) ∷ log)
     (all_on c (CallTaken bytes) log all (opened, next)) (rw (of_own_act c (CallTaken bytes) log)
     (request_acts_were_possible config polled c bytes request (device_acts log) (of c log)
-        (request_has_xid_of_call (of c log) bytes request next asks)
+    (request_has_xid_of_call (of c log) bytes request next asks)
     ((opened, next), all c))))
 
 -- A request that can be refused for lack of memory is a call of the core channel.

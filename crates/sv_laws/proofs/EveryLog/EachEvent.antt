@@ -171,11 +171,11 @@ fit_dialed : (c : ℕ) (ok : Bool) (call : CoreCall) (peer : Option Peer) (log :
     → Fit (acts_of c (call_effect call.xid (leaving c (connect_outcome_for c ok call.arguments peer))) ++ log)
 fit_dialed c true call (Some peer) log fit =
     fit_without_suspended c (call_effect call.xid (leaving c (connect_outcome_for c true call.arguments (Some peer)))) log fit
-        (tt, (refl, tt)) refl
+    (tt, (refl, tt)) refl
     (left_call_is_gone c (wait_acts (device_acts log)))
 fit_dialed c false call (Some peer) log fit =
     fit_without_suspended c (call_effect call.xid (leaving c (connect_outcome_for c false call.arguments (Some peer)))) log fit (refl, tt)
-        refl
+    refl
     (left_call_is_gone c (wait_acts (device_acts log)))
 fit_dialed c ok call None log fit =
     fit_without_suspended c (call_effect call.xid (leaving c (connect_outcome_for c ok call.arguments None))) log fit (refl, tt) refl
@@ -292,7 +292,7 @@ fit_admitted config polled c bytes call None log fit lt none core known e =
 fit_admitted config polled c bytes call (Some (Fails error)) log fit lt none core known e =
     let taken = On c (CallTaken bytes) ∷ log in
     fit_without_suspended c (call_effect call.xid (admission config polled c call.arguments (Some (Fails error)) (device_acts log))) taken
-        fit tt refl
+    fit tt refl
     none
 fit_admitted config polled c bytes call (Some (Awaits wait until)) log fit lt none core known e =
     let taken = On c (CallTaken bytes) ∷ log in

@@ -98,9 +98,9 @@ owner_after_acts_by : (c n d : ℕ) (May : Type 0) (adds acts : List DeviceAct) 
 owner_after_acts_by c n d May [] acts h is = inl is
 owner_after_acts_by c n d May (Linked (Made lid conn) ∷ adds) acts h is =
     elim (owner_before_made n d lid conn (link_acts (adds ++ acts)) is) [
-  | inl was ↦ owner_after_acts_by c n d May adds acts h.1 was
-  | inr same ↦ inr (same ∙ h.0.1, h.0.2)
-]
+      | inl was ↦ owner_after_acts_by c n d May adds acts h.1 was
+      | inr same ↦ inr (same ∙ h.0.1, h.0.2)
+    ]
 owner_after_acts_by c n d May (Linked (Destroyed lid) ∷ adds) acts h is =
     owner_after_acts_by c n d May adds acts h.1 (owner_before_destroy n d lid (link_acts (adds ++ acts)) is).1
 owner_after_acts_by c n d May (_ ∷ adds) acts h is = owner_after_acts_by c n d May adds acts h.1 is

@@ -154,7 +154,7 @@ pub asks_elsewhere : (c lid : ℕ) (acts : List DeviceAct) (channel_log : List C
     → is_of c (owner lid (link_acts acts)) ≡ false → EnabledElsewhere c lid channel_log
 asks_elsewhere c lid acts channel_log all hears none one h same =
     let owns : owner lid (link_acts acts) ≡ Some c = enabled_link_is_owned acts channel_log all hears lid one h
-        ∙ ap (λ (n : ℕ). Some n) same in
+    ∙ ap (λ (n : ℕ). Some n) same in
     let z : true ≡ false = sym (is_of_owner c lid (link_acts acts) owns) ∙ none in cc
 
 -- ---- while a link holds the lock, no call of another connection can resume

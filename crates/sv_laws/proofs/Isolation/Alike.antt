@@ -185,7 +185,7 @@ tells_back c (Channel act) acts other all h tells = λ channel_log hears.
       (so.0, so.1, refl),
       channel_sym c (act ∷ so.0) channel_log
           (foreign_act_keeps_channel c act so.0 channel_log (foreign_told c acts so.0 act all so.1 h)
-              (channel_sym c channel_log so.0 so.2)),
+          (channel_sym c channel_log so.0 so.2)),
     )
 tells_back c (Applied act) acts other all h tells = absurd h
 tells_back c Ticked acts other all h tells = absurd h

@@ -108,7 +108,7 @@ pub no_resume : (config : Config) (c lid : ℕ) (log other : List Act) → Fit l
     → ((new : List Act) → Resumes config log new → ⊥) → (new : List Act) → Resumes config other new → ⊥
 no_resume config c lid log other fit also pair none new resumes =
     let there = resumes_as config c other log new (others_cannot_resume_either c lid log other also pair)
-        (others_cannot_resume c lid log other fit pair)
+    (others_cannot_resume c lid log other fit pair)
     (able_back c lid (device_acts log) (device_acts other) pair.view) pair.view.call.wait (sym pair.view.instrument) resumes in
     none there.0 there.1
 

@@ -53,7 +53,7 @@ aborts_owner _ acts e h = absurd cc
 foreign_abort : (c : ℕ) (found : Option ℕ) (log : List Act) → found ≢ Some c → Each (IsForeignAct c) (abort_acts found log) log
 foreign_abort c (Some e) log ne =
     each_failed e (others_acts_are_foreign c e (λ same. ne (ap (λ (n : ℕ). Some n) same))) Abort (core_call_in (pending_call (of e log)))
-        log
+    log
 foreign_abort c None log ne = tt
 
 foreign_request : (config : Config) (polled c d lid : ℕ) (request : Request) (acts : List DeviceAct)
@@ -97,7 +97,7 @@ foreign_close c d log fit ne =
       ne,
       each_join (IsForeign c) (map Linked links) (Waited (Left d) ∷ []) acts
           (foreign_links c links (Waited (Left d) ∷ acts)
-              (closing_is_foreign_to_others c d _ (link_acts acts) ne (link_numbers_rise acts fit.suits))) (ne, tt),
+          (closing_is_foreign_to_others c d _ (link_acts acts) ne (link_numbers_rise acts fit.suits))) (ne, tt),
     ))
     (ne, tt)
 
@@ -113,7 +113,7 @@ foreign_event config polled c lid (Open d role) log fit held mine other left_alo
 foreign_event config polled c lid (Bytes d piece) log fit held mine other left_alone = (foreign_number_differs d c other, tt)
 foreign_event config polled c lid (Turn d) log fit held mine other left_alone =
     foreign_turn config polled c d lid (next_call (of d log)) (next_request (of d log)) log held mine (foreign_number_differs d c other)
-        left_alone.0
+    left_alone.0
 foreign_event config polled c lid (Refuse d) log fit held mine other left_alone =
     each_refused d (others_acts_are_foreign c d (foreign_number_differs d c other)) (next_call (of d log)) (refusable (of d log)) log
 foreign_event config polled c lid (Took (Conn d) count) log fit held mine other left_alone = (foreign_number_differs d c other, tt)

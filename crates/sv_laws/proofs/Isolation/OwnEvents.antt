@@ -101,7 +101,7 @@ module _ (d : ℕ) {IsSuch : List Act → Act → Type 0} {IsShared : List Devic
   each_connected ok None log = each_effect (connect_effect d ok None) log (is.left (device_acts log), tt)
   each_connected ok (Some call) log = rw (connect_outcome_by_peer d ok call.arguments) (each_effect
       (call_effect call.xid (leaving d (connect_outcome_for d ok call.arguments (peer_named_by call.arguments)))) log
-          (by ok (peer_named_by call.arguments)))
+      (by ok (peer_named_by call.arguments)))
     where
       by : (ok : Bool) (found : Option Peer) → Each IsShared (leaving d (connect_outcome_for d ok call.arguments found)).adds
           (device_acts log)

@@ -79,7 +79,7 @@ own_continued : (config : Config) (polled c : ℕ) (call : CoreCall) (next : Opt
     → Each (IsOwnAct c) (acts_of c (call_effect call.xid (resume_outcome config polled c call.arguments next (device_acts log)))) log
 own_continued config polled c call (Some wait) log makes =
     each_effect c (own_acts_are_own c) (call_effect call.xid (resume_outcome config polled c call.arguments (Some wait) (device_acts log)))
-        log
+    log
     (refl, tt)
 own_continued config polled c call None log makes =
     let before = Waited (Left c) ∷ device_acts log in
@@ -161,7 +161,7 @@ times_alike config c lid wait log middle other fit also pair locks none due for 
     let drained = drain config c lid log other none fit also pair in
     let last = drained.last in
     let first = own_call_expires_first config c last drained.found drained.due drained.is_own
-        (expired_in_other_log config c lid log last drained.pair due.0) in
+    (expired_in_other_log config c lid log last drained.pair due.0) in
     let nothing = nothing_else_in_other config c lid log last fit drained.fit drained.pair none in
     let acts = acts_of c (failure_effect (late wait) c (core_call_in (pending_call (of c log)))) in
     let same : acts ++ last ≡ acts_of c (failure_effect (late wait) c (core_call_in (pending_call (of c last)))) ++ last =
@@ -181,7 +181,7 @@ times_alike config c lid wait log middle other fit also pair locks none due for 
       reaches = reaches_then config other last (acts ++ last) drained.reaches (reaches_next config last (acts ++ last) next);
       pair = subst (λ (l : List Act). Pair c lid l (acts ++ last)) (sym is)
           (same_acts_keep_pair c lid acts log last
-              (each_failed c (own_acts_are_own c) (late wait) (core_call_in (pending_call (of c log))) log) (locks acts is)
+          (each_failed c (own_acts_are_own c) (late wait) (core_call_in (pending_call (of c log))) log) (locks acts is)
           drained.pair);
       fit = fit_step config last (acts ++ last) drained.fit next;
     }
@@ -206,7 +206,7 @@ step_has_counterpart config c lid log middle other fit also pair locks (inr (fir
     elim (cases_eq d c) [
       | inl e ↦ times_alike config c lid wait log middle other fit also pair locks (fire, resume, step)
           (subst (λ (n : ℕ). IsOldestExpired config log (Some n)) e due)
-              (subst (λ (n : ℕ). waits n (wait_acts (device_acts log)) ≡ Some wait) e for)
+          (subst (λ (n : ℕ). waits n (wait_acts (device_acts log)) ≡ Some wait) e for)
           (subst (λ (n : ℕ). middle ≡ acts_of n (failure_effect (late wait) n (core_call_in (pending_call (of n log)))) ++ log) e is)
       | inr ne ↦
           let acts = acts_of d (failure_effect (late wait) d (core_call_in (pending_call (of d log)))) in

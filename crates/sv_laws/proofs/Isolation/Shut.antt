@@ -48,15 +48,15 @@ locked_out_call_is_foreign : (config : Config) (polled c d lid : ℕ) (named : �
     → AreForeign config polled c d (OnLink named call) acts (stop_of d (OnLink named call) acts)
 locked_out_call_is_foreign config polled c d lid named call acts minds held mine ne =
     elim (cases_Bool (owns d (lid_of (Some named)) acts)) [
-  | inr e ↦ rw e tt
-  | inl e ↦ elim (cases_Bool (is_too_long call)) [
-    | inl k ↦ rw (e, k) tt
-    | inr k ↦
-        let wait = some_of (lock_wait call) minds in
-        rw (e, k, wait.1, others_link_is_locked_out c d lid (lid_of (Some named)) acts held mine ne e)
-        (waits_or_fails config polled c d (OnLink named call) acts wait.0 ne)
-  ]
-]
+      | inr e ↦ rw e tt
+      | inl e ↦ elim (cases_Bool (is_too_long call)) [
+        | inl k ↦ rw (e, k) tt
+        | inr k ↦
+            let wait = some_of (lock_wait call) minds in
+            rw (e, k, wait.1, others_link_is_locked_out c d lid (lid_of (Some named)) acts held mine ne e)
+            (waits_or_fails config polled c d (OnLink named call) acts wait.0 ne)
+      ]
+    ]
 
 own_other : (c d : ℕ) (found : Option ℕ) → d ≢ c → found ≡ Some d → is_of c found ≡ false
 own_other c d found ne is = rw is (ne_eqb d c ne)
@@ -119,11 +119,11 @@ others_call_is_foreign config polled c d lid (OnLink (pos n) (DeviceEnableSrq fa
     ]
 others_call_is_foreign config polled c d lid (OnLink (pos n) DestroyLink) acts held mine ne =
     elim (cases_Bool (is_of d (owner n (link_acts acts)))) [
-  | inl e ↦
-      let other = own_other c d (owner n (link_acts acts)) ne (owner_is_of d (owner n (link_acts acts)) e) in
-      rw e (other, tt)
-  | inr e ↦ rw e tt
-]
+      | inl e ↦
+          let other = own_other c d (owner n (link_acts acts)) ne (owner_is_of d (owner n (link_acts acts)) e) in
+          rw e (other, tt)
+      | inr e ↦ rw e tt
+    ]
 others_call_is_foreign config polled c d lid (OnLink (negsuc n) call) acts held mine ne = tt
 others_call_is_foreign config polled c d lid (CreateIntrChan host_addr host_port prog_num prog_vers prog_family) acts held mine ne =
     fault_or_waits config polled c d (CreateIntrChan host_addr host_port prog_num prog_vers prog_family) acts
@@ -132,8 +132,8 @@ others_call_is_foreign config polled c d lid DestroyIntrChan acts held mine ne =
     elim (cases_Bool (has_channel d acts)) [ inl e ↦ rw e (ne, tt) | inr e ↦ rw e tt ]
 others_call_is_foreign config polled c d lid (OnLink (pos n) DeviceAbort) acts held mine ne =
     elim (cases_Bool (is_of d (owner n (link_acts acts)))) [
-  | inl e ↦ rw e tt
-  | inr e ↦ rw e tt
-]
+      | inl e ↦ rw e tt
+      | inr e ↦ rw e tt
+    ]
 others_call_is_foreign config polled c d lid (OnLink named call) acts held mine ne =
     locked_out_call_is_foreign config polled c d lid named call acts refl held mine ne

@@ -34,7 +34,7 @@ left_bytes letter c bytes other plain = left_line ((letter ∷ decimal c) ++ 32 
     (byte_before_line letter (decimal c ++ 32 ∷ (encode_lower bytes ++ 10 ∷ [])) other
     (prepend_to_line (decimal c) (32 ∷ (encode_lower bytes ++ 10 ∷ [])) (decimal_has_no_newline c)
     (byte_before_line 32 (encode_lower bytes ++ 10 ∷ []) refl
-        (prepend_to_line (encode_lower bytes) (10 ∷ []) (hex_has_no_newline bytes) newline_is_line))))
+    (prepend_to_line (encode_lower bytes) (10 ∷ []) (hex_has_no_newline bytes) newline_is_line))))
     (plain (decimal c ++ 32 ∷ (encode_lower bytes ++ 10 ∷ [])))
 
 left_port : (port : Port) (bytes : List ℕ) → IsKeptByFilter (port_line port bytes)

@@ -44,7 +44,7 @@ hidden_head line clock =
     hidden_line (head_line line clock) (prepend_to_line (codes "@ ") (decimal line ++ 32 ∷ (decimal clock ++ 10 ∷ [])) refl
     (prepend_to_line (decimal line) (32 ∷ (decimal clock ++ 10 ∷ [])) (decimal_has_no_newline line)
     (byte_before_line 32 (decimal clock ++ 10 ∷ []) refl
-        (prepend_to_line (decimal clock) (10 ∷ []) (decimal_has_no_newline clock) newline_is_line)))) refl
+    (prepend_to_line (decimal clock) (10 ∷ []) (decimal_has_no_newline clock) newline_is_line)))) refl
 
 pub hidden_end : (clock : ℕ) → IsFilteredOut (end_line clock)
 hidden_end clock = hidden_line (end_line clock) (prepend_to_line (codes "@ end ") (decimal clock ++ 10 ∷ []) refl
@@ -55,7 +55,7 @@ hidden_call c bytes =
     hidden_line (call_line c bytes) (prepend_to_line (codes "- call c") (decimal c ++ 32 ∷ (encode_lower bytes ++ 10 ∷ [])) refl
     (prepend_to_line (decimal c) (32 ∷ (encode_lower bytes ++ 10 ∷ [])) (decimal_has_no_newline c)
     (byte_before_line 32 (encode_lower bytes ++ 10 ∷ []) refl
-        (prepend_to_line (encode_lower bytes) (10 ∷ []) (hex_has_no_newline bytes) newline_is_line)))) refl
+    (prepend_to_line (encode_lower bytes) (10 ∷ []) (hex_has_no_newline bytes) newline_is_line)))) refl
 
 -- A line that ends with a number.
 hidden_conn : (words : List ℕ) (c : ℕ) → HasNoNewline words → is_told (words ++ (decimal c ++ 10 ∷ [])) ≡ true
@@ -69,7 +69,7 @@ hidden_unit words place unit whole told = hidden_line (unit_line words place uni
     (prepend_to_line words (decimal place ++ 32 ∷ (encode_lower unit ++ 10 ∷ [])) whole
     (prepend_to_line (decimal place) (32 ∷ (encode_lower unit ++ 10 ∷ [])) (decimal_has_no_newline place)
     (byte_before_line 32 (encode_lower unit ++ 10 ∷ []) refl
-        (prepend_to_line (encode_lower unit) (10 ∷ []) (hex_has_no_newline unit) newline_is_line)))) told
+    (prepend_to_line (encode_lower unit) (10 ∷ []) (hex_has_no_newline unit) newline_is_line)))) told
 
 hidden_exchange : (s : Step) → IsFilteredOut (exchange_line s)
 hidden_exchange step.Release = hidden_line (codes "- release\n") (codes "- release", refl, refl) refl
@@ -90,7 +90,7 @@ hidden_step (due.TimeOut c) = hidden_conn (codes "- timeout c") c refl refl
 hidden_value : (name text : List ℕ) → HasNoNewline name → HasNoNewline text → IsFilteredOut (value_line name text)
 hidden_value name text h k = hidden_line (value_line name text) (prepend_to_line (codes "= ") (name ++ 32 ∷ (text ++ 10 ∷ [])) refl
     (prepend_to_line name (32 ∷ (text ++ 10 ∷ [])) h
-        (byte_before_line 32 (text ++ 10 ∷ []) refl (prepend_to_line text (10 ∷ []) k newline_is_line)))) refl
+    (byte_before_line 32 (text ++ 10 ∷ []) refl (prepend_to_line text (10 ∷ []) k newline_is_line)))) refl
 
 -- No name contains a new line.
 abbrev HaveNoNewline : List (List ℕ) → Type 0
@@ -120,7 +120,7 @@ hidden_numbers name old new h = hidden_if (pointwise int_eq old new) (codes "= "
     (hidden_line (codes "= " ++ (name ++ (numbers_text new ++ 10 ∷ []))) (prepend_to_line (codes "= ") (name ++
     (numbers_text new ++ 10 ∷ [])) refl
     (prepend_to_line name (numbers_text new ++ 10 ∷ []) h
-        (prepend_to_line (numbers_text new) (10 ∷ []) (unbroken_numbers new) newline_is_line))) refl)
+    (prepend_to_line (numbers_text new) (10 ∷ []) (unbroken_numbers new) newline_is_line))) refl)
 
 hidden_links : (name off : List ℕ) (on : Listed → List ℕ) (old new : List Listed) → HasNoNewline name → HasNoNewline off
     → ((link : Listed) → HasNoNewline (on link)) → IsFilteredOut (links_lines name off on old new)

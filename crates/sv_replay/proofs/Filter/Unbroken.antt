@@ -33,7 +33,7 @@ unbroken_onto (suc k) base n acc h =
     let more : HasNoNewline (digit_glyph false (n % base) ∷ acc) =
     no_newline_cons (digit_glyph false (n % base)) acc (glyph_is_no_newline (n % base)) h in
     no_newline_cond (n / base == 0) (digit_glyph false (n % base) ∷ acc)
-        (digits_onto k base false (n / base) (digit_glyph false (n % base) ∷ acc))
+    (digits_onto k base false (n / base) (digit_glyph false (n % base) ∷ acc))
     more (unbroken_onto k base (n / base) (digit_glyph false (n % base) ∷ acc) more)
 
 pub decimal_has_no_newline : (n : ℕ) → HasNoNewline (decimal n)
@@ -67,7 +67,7 @@ hex_has_no_newline (b ∷ bytes) =
     no_newline_cons (slice_index lower_digits (b / 16)) (slice_index lower_digits (b % 16) ∷ encode_lower bytes)
     (element_is_no_newline lower_digits (b / 16) refl)
     (no_newline_cons (slice_index lower_digits (b % 16)) (encode_lower bytes) (element_is_no_newline lower_digits (b % 16) refl)
-        (hex_has_no_newline bytes))
+    (hex_has_no_newline bytes))
 
 -- ---- words and values
 

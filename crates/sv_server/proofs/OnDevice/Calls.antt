@@ -17,7 +17,8 @@ use Rattle.sv_history.specs.CoreChannel.{device_write, device_read}
 use Rattle.sv_server.specs.Device.Representation.{IsDevice, Device}
 use Rattle.sv_server.specs.Device.Inside.Outcome.{IsResult}
 
--- A write that needn't wait finds no message that has ended; a read that needn't wait can be answered.
+-- A write that needn't wait finds no message that has ended; a read that needn't wait can be
+-- answered.
 pub unended_of : (wait : Wait × ℕ) (b : Bool) → cond b (Some wait) None ≡ None → b ≡ false
 unended_of wait true e = absurd cc
 unended_of wait false e = refl

@@ -101,7 +101,7 @@ pub room_there : (kept : Device) (config : Config) (acts : List DeviceAct) (lid 
 room_there kept config acts lid conn is owns =
     let (channel_log, tells, are, owned) = is.6 in
     room_to_enable_srq kept.intr.enabled (link_acts acts) lid conn (rw are.enabled (enabled_sorted channel_log)) owned owns
-        (omega (arith, is.5.0))
+    (omega (arith, is.5.0))
 
 pub device_enabled : (kept : Device) (intr : Channels) (config : Config) (acts : List DeviceAct) (lid conn : ℕ) (handle : List ℕ)
     → IsDevice kept config acts → owner lid (link_acts acts) ≡ Some conn

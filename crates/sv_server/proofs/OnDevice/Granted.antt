@@ -207,6 +207,7 @@ own_times_out config polled c n (DeviceRead request_size timeout lock_timeout fl
     unanswerable_of : (b : Bool) → is_some {T = Wait × ℕ} (cond b None (Some (Response, timeout))) ≡ true → b ≡ false
     unanswerable_of true e = absurd cc
     unanswerable_of false e = refl
+
     nothing_there : (bytes : List ℕ) (b : Bool) → (is_something bytes || b) ≡ false → is_something bytes ≡ false
     nothing_there [] b e = refl
     nothing_there (byte ∷ bytes) b e = absurd cc

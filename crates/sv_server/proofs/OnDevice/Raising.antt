@@ -30,8 +30,13 @@ device_raised kept intr config acts adds n (links, instrument, set_up, clock, wa
   rw (ticks_applied adds acts) clock,
   rw (wait_acts_applied adds acts) waiting,
   (rw (link_acts_applied adds acts) reserved.0, reserved.1),
-  (requests n was.0, channel_log_after_requests adds acts was.0 n raise was.1, tolls was.0 was.2, rw (link_acts_applied adds acts, same)
-      was.3),
+  (
+    requests n was.0,
+    channel_log_after_requests adds acts was.0 n raise was.1,
+    tolls was.0 was.2,
+    rw (link_acts_applied adds acts, same)
+        was.3,
+  ),
   rw (wait_acts_applied adds acts) (λ c dials. still c (ready c dials)),
 )
 

@@ -75,7 +75,7 @@ pub stands_after_time_out : (state : State) (config : Config) (log : List Act) (
 stands_after_time_out state config log c effect kept device rep sixteen lt done left call known =
     stands_after_call_continues state config log c effect kept device rep sixteen lt done
     (rw left (taken_after_leaving c log (acts_of c effect ++ log) state.device.waiting (λ d ne. of_others_effect c d effect log ne)
-        rep.taken))
+    rep.taken))
     (unanswered_used (of c log) call known)
 
 -- ---- a suspended call resumes
@@ -153,6 +153,9 @@ pub instrument_takes_step : (IsSuch : List InstrumentAct → List InstrumentAct 
     → TakesStep (λ k. InstrumentDoes IsSuch) done config log state (record state { device = device })
 instrument_takes_step IsSuch state device config log false rep (none, same) kept =
     (no_instrument_step IsSuch log none, ap (λ (b : KeptDevice). record state { device = b }) same)
-instrument_takes_step IsSuch state device config log true rep (adds, such, held) kept =
-    (map OnDevice (map Applied adds) ++ log, (adds, such, refl), stands_after_device_acts state config log device (map Applied adds) rep
-        held kept)
+instrument_takes_step IsSuch state device config log true rep (adds, such, held) kept = (
+  map OnDevice (map Applied adds) ++ log,
+  (adds, such, refl),
+  stands_after_device_acts state config log device (map Applied adds) rep
+      held kept,
+)

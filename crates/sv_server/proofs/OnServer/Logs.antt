@@ -172,13 +172,13 @@ pub taken_after_turn : (c : ℕ) (log : List Act) (call : List ℕ) (effect : Ef
 taken_after_turn c log call effect old new idle taken (inl same) =
     rw same (taken_after_act c log ((acts_of c effect ++ On c (CallTaken call) ∷ []) ++ log) old
     (λ d ne. other_acts_after_taken c d effect call log ne) (λ other known. absurd {0} (pending_call_is_busy (of c log) other known idle))
-        taken)
+    taken)
 taken_after_turn c log call effect old new idle taken (inr (none, (entry, mine, is, makes))) =
     let after : List Act = (acts_of c effect ++ On c (CallTaken call) ∷ []) ++ log in
     let here : of c after ≡ CallTaken call ∷ of c log =
     own_acts_after_taken c effect call log ∙ ap (λ (own : List ConnAct). own ++ CallTaken call ∷ of c log) none in
     rw is (taken_after_append after (without c old) entry
-        (taken_after_leaving c log after old (λ d ne. other_acts_after_taken c d effect call log ne) taken)
+    (taken_after_leaving c log after old (λ d ne. other_acts_after_taken c d effect call log ne) taken)
     (call, ap pending_call (ap (λ (d : ℕ). of d after) mine ∙ here), makes))
 
 -- A Turn takes the next call of an open connection.
@@ -191,7 +191,7 @@ pub turned : (state : State) (config : Config) (log : List Act) (c : ℕ) (call 
     ((acts_of c effect ++ On c (CallTaken call) ∷ []) ++ log)
 turned state config log c call effect kept device rep sixteen lt idle (mine, all) held there =
     acted state config log _ c kept device rep sixteen lt (rw (own_acts_after_taken c effect call log) mine)
-        (rw (device_taken c effect call log) all)
+    (rw (device_taken c effect call log) all)
     (λ d ne. other_acts_after_taken c d effect call log ne)
     (taken_after_turn c log call effect state.device.waiting device.waiting idle rep.taken held) state.connections_used
     (used_after_act state.connections_used c log ((acts_of c effect ++ On c (CallTaken call) ∷ []) ++ log) rep.connections_used there

@@ -69,7 +69,7 @@ refuse_done state config log c kept rep sixteen lt open_now (none, bytes, call, 
           (acted state config log (On c answered ∷ mid) c kept state.device rep sixteen lt (rw here mine) rep.device others
           (taken_after_act c log (On c answered ∷ mid) state.device.waiting others
           (λ other waits. absurd {0} (pending_call_is_busy (of c log) other waits (not_busy c log bytes next))) rep.taken)
-              state.connections_used
+          state.connections_used
           (used_after_act state.connections_used c log (On c answered ∷ mid) rep.connections_used (unshut_used c log open_now)
           (λ z. let e : answered ∷ CallTaken bytes ∷ of c log ≡ [] = sym here ∙ z in absurd cc) others)),
     )

@@ -95,7 +95,7 @@ refusal_is_known : (config : Config) (event : PlainEvent) (log : List Act) (what
     → (channel_log : List ChannelAct) × HearsOf (device_acts log) channel_log × (refusal config channel_log event log ≡ what)
 refusal_is_known config event log what old rep why =
     let (channel_log, tells) = channel_log_exists old.device config (device_acts log) rep.device in
-        (channel_log, tells, why channel_log tells)
+    (channel_log, tells, why channel_log tells)
 
 -- The result is the one that the log determines.
 pub answers_by_log : (config : Config) (event : PlainEvent) (log : List Act) (r : Result Did Refused) (old new : State)

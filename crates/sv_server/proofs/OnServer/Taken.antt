@@ -37,8 +37,11 @@ taken_after_leaving c log new [] others all = tt
 taken_after_leaving c log new (entry ∷ entries) others all = elim (cases_Bool (eqb entry.conn c)) [
   | inl e ↦ rw e (taken_after_leaving c log new entries others all.1)
   | inr e ↦
-      rw e (taken_after_other_act log new entry (others entry.conn (eqb-false entry.conn c e)) all.0, taken_after_leaving c log new entries
-          others all.1)
+      rw e (
+        taken_after_other_act log new entry (others entry.conn (eqb-false entry.conn c e)) all.0,
+        taken_after_leaving c log new entries
+            others all.1,
+      )
 ]
 
 -- A call is appended to the queue.

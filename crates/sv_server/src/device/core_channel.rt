@@ -265,7 +265,9 @@ impl<A: Allocator> Device<A> {
                 term_char,
                 ..
             } => self.device_read(request_size, term_of(flags, term_char)),
-            LinkCall::Generic { call, .. } => Outcome::Reply(Answer::Result(self.generic_call(call))),
+            LinkCall::Generic { call, .. } => Outcome::Reply(Answer::Result(self.generic_call(
+                call,
+            ))),
             LinkCall::DeviceLock { .. } => Outcome::Reply(Answer::Result(self.device_lock(lid))),
             LinkCall::DeviceUnlock => Outcome::Reply(Answer::Result(self.device_unlock(lid))),
             LinkCall::DeviceEnableSrq { enable, handle } => {
@@ -308,7 +310,10 @@ impl<A: Allocator> Device<A> {
         ensures waiting { self.new.waiting ≡ self.old.waiting }
     {
         match *call {
-            Admitted::CreateLink { lock_device } => Outcome::Reply(Answer::Result(self.make_link(conn, lock_device))),
+            Admitted::CreateLink { lock_device } => Outcome::Reply(Answer::Result(self.make_link(
+                conn,
+                lock_device,
+            ))),
             Admitted::OnLink { lid, call } => self.link_call(conn, lid, &call),
             Admitted::DestroyIntrChan => Outcome::Reply(Answer::Result(self.destroy_channel(conn))),
         }

@@ -69,7 +69,13 @@ impl<A: Allocator> Device<A> {
 
     /// Enables or disables service requests of a link that the connection owns. A handle above 40
     /// bytes gets the error for a wrong parameter, but `read_args` doesn't read a call with one.
-    fn enable_srq(&mut self, conn: Conn, enable: bool, lid: u32, handle: &[u8]) -> VxiResult<'static>
+    fn enable_srq(
+        &mut self,
+        conn: Conn,
+        enable: bool,
+        lid: u32,
+        handle: &[u8],
+    ) -> VxiResult<'static>
         ensures ends { (config : Configured) (acts : List DeviceAct) → IsDevice self.old config acts
             → owns conn.number (Some lid) acts ≡ true
             → GivesResult result self.new config acts

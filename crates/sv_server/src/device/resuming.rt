@@ -46,8 +46,8 @@ impl<A: Allocator> Device<A> {
             → IsDeviceAt self.old config polled acts
             → MayResume reason conn.number (MayMake (plain_arguments args.now) conn.number
             self.old acts) acts
-            → ContinuesAs reason result self.new config polled conn.number (plain_arguments args.now)
-            acts }
+            → ContinuesAs reason result self.new config polled conn.number
+            (plain_arguments args.now) acts }
         ensures short { IsBrief result }
         ensures waiting { MayWaitAnew (result ≡ outcomes.Suspended) conn.number
             (makes_link (plain_arguments args.now))
@@ -60,7 +60,9 @@ impl<A: Allocator> Device<A> {
         match reason {
             WakeReason::Able(wait) => self.resume(conn, wait, args),
             WakeReason::Dialed(ok) => Outcome::Reply(Answer::Result(self.end_dial(conn, ok, args))),
-            WakeReason::Failed(error) => Outcome::Reply(Answer::Result(self.give_up(conn, error, args))),
+            WakeReason::Failed(error) => Outcome::Reply(Answer::Result(self.give_up(
+                conn, error, args,
+            ))),
         }
     }
 

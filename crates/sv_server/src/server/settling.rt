@@ -81,7 +81,12 @@ impl<A: Allocator> Server<A> {
     {
         let conn = Conn { number: entry.conn };
         let connection = &mut self.connections[conn.index()];
-        continue_call(connection, &mut self.device, conn, WakeReason::Able(entry.wait));
+        continue_call(
+            connection,
+            &mut self.device,
+            conn,
+            WakeReason::Able(entry.wait),
+        );
     }
 
     /// Ends a suspended call with this error.
@@ -94,7 +99,12 @@ impl<A: Allocator> Server<A> {
         ensures waiting { self.new.device.waiting ≡ without conn.number self.old.device.waiting }
     {
         let connection = &mut self.connections[conn.index()];
-        continue_call(connection, &mut self.device, conn, WakeReason::Failed(error));
+        continue_call(
+            connection,
+            &mut self.device,
+            conn,
+            WakeReason::Failed(error),
+        );
     }
 
     /// Applies an immediate trigger, if a trigger is due. Returns whether a trigger was applied.

@@ -13,4 +13,4 @@ pub returns-else-not-respond-clause-counts : goal.returns-else-not-respond-claus
 returns-else-not-respond-clause-counts g c = λ start log h.
     let fits = sym c.if-not-respond.false ∙ c.respond.ensures.fits log h.stands in
     counts_after_answer true c.args.text.now log fits
-        (count_after_act (rw c.if-not-respond.false at (c.respond.ensures.applied log h.stands)) h)
+    (count_after_act (rw c.if-not-respond.false at (c.respond.ensures.applied log h.stands)) h)

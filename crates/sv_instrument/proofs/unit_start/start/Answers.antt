@@ -12,7 +12,7 @@ returns-in-Ok-clause-behaves g c = λ start log h.
     let unit = c.requires.due.0 in
     let due : next_of c.exchange.result.now ≡ UnitDue unit = ap next_of c.exchange.ensures.value ∙ c.requires.due.1 in
     let next = unit_is_next (exchange_acts log) unit
-        (sym due ∙ due_by_contents _ (exchange_acts log) (c.exchange.ensures.stands log h.stands)) in
+    (sym due ∙ due_by_contents _ (exchange_acts log) (c.exchange.ensures.stands log h.stands)) in
     let read = c.in-Ok.ensures unit (c.lexed.ensures unit due) in
     (unit, next, behaves_follows unit _ _ (Ok c.in-Ok.order) log read (c.perform.ensures.behaves start log h))
 
@@ -21,7 +21,7 @@ returns-in-Err-clause-behaves g c = λ start log h.
     let unit = c.requires.due.0 in
     let due : next_of c.exchange.result.now ≡ UnitDue unit = ap next_of c.exchange.ensures.value ∙ c.requires.due.1 in
     let next = unit_is_next (exchange_acts log) unit
-        (sym due ∙ due_by_contents _ (exchange_acts log) (c.exchange.ensures.stands log h.stands)) in
+    (sym due ∙ due_by_contents _ (exchange_acts log) (c.exchange.ensures.stands log h.stands)) in
     let read = c.in-Err.ensures unit (c.lexed.ensures unit due) in
     (unit, next, behaves_follows unit _ _ (Err c.in-Err.code) log read (c.carry_out.ensures.behaves start log h))
 

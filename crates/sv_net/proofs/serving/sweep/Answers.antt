@@ -39,9 +39,9 @@ report-requires-else-ticks-eq0 g c κs h = h
 pub returns-then-ticks-eq0 : goal.returns-then-ticks-eq0
 returns-then-ticks-eq0 g c =
     reports_before_sweep _ _ _ _ _ _ _ _ c.if-ticks-eq0.true (rw c.wire.ensures at c.report.ensures)
-        (rw c.if-ticks-eq0.true c.sweep.ensures)
+    (rw c.if-ticks-eq0.true c.sweep.ensures)
 
 pub returns-else-ticks-eq0 : goal.returns-else-ticks-eq0
 returns-else-ticks-eq0 g c =
     sweep_before_reports _ _ _ _ _ _ _ _ (rw c.wire-else-ticks-eq0.ensures at c.report-else-ticks-eq0.ensures)
-        c.sweep-else-ticks-eq0.ensures
+    c.sweep-else-ticks-eq0.ensures

@@ -11,7 +11,7 @@ pub loop-conn-preserved : goal.loop-conn-preserved
 loop-conn-preserved g c = λ config history stands.
     let here = rw c.if-ready.false at (c.ready.ensures config history (rw c.server-server.ensures stands)) in
     below_one_more (λ (d : ℕ). IsReady d config (driver_view c.args.driver.now history) false) c.loop-conn.conn (c.loop-conn.conn + 1)
-        (omega arith)
+    (omega arith)
     (c.loop-conn.invariant config history stands) here
 
 pub returns : goal.returns

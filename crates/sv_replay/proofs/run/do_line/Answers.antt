@@ -27,7 +27,7 @@ returns-in_ok-perform-in-Some-clause-runs g c = λ config history s.
 pub returns-in_err-perform-in-Some-clause-input : goal.returns-in_err-perform-in-Some-clause-input
 returns-in_err-perform-in-Some-clause-input g c =
     input_fault_passed_on c.from_residual.result _ _ c.from_residual.ensures.0 c.from_residual.ensures.1
-        (replay_fault_is_not_input ⊤ c.in_err-perform-in-Some.field-0.0)
+    (replay_fault_is_not_input ⊤ c.in_err-perform-in-Some.field-0.0)
 
 pub returns-in-None-clause-runs : goal.returns-in-None-clause-runs
 returns-in-None-clause-runs g c = λ config history s.

@@ -7,7 +7,7 @@ use Rattle.sv_replay.proofs.run.run_lines.Goals as goal
 pub returns-in_err-run-clause-runs : goal.returns-in_err-run-clause-runs
 returns-in_err-run-clause-runs g c =
     memory_refused_at_start (config_of c.args.ports) c.args.mode _ _ c.from_residual.result c.from_residual.ensures.0
-        c.from_residual.ensures.1
+    c.from_residual.ensures.1
 
 pub returns-in_err-run-clause-reads : goal.returns-in_err-run-clause-reads
 returns-in_err-run-clause-reads g c =

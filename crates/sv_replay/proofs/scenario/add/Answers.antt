@@ -15,8 +15,13 @@ returns-in_default g c = (
 
 pub returns-in-Ok : goal.returns-in-Ok
 returns-in-Ok g c =
-    inr (c.in-Some.entry, later_entry_takes c.args.least c.args.line.now c.in-Some.entry
-        (sym c.in-Some.ensures), c.in-Ok.ensures.items, refl)
+    inr (
+      c.in-Some.entry,
+      later_entry_takes c.args.least c.args.line.now c.in-Some.entry
+          (sym c.in-Some.ensures),
+      c.in-Ok.ensures.items,
+      refl,
+    )
 
 pub returns-in-Err : goal.returns-in-Err
 returns-in-Err g c = (c.in-Some.entry, later_entry_takes c.args.least c.args.line.now c.in-Some.entry (sym c.in-Some.ensures))

@@ -23,7 +23,7 @@ pub returns-in_err-add : goal.returns-in_err-add
 returns-in_err-add g c =
     let last : parts c.loop-line.rest.now ≡ c.loop-line.rest.now ∷ [] = search rules in
     reading_passes_fault_on _ c.args.text.now c.loop-line.rest.now c.loop-line.rest.now [] c.loop-line.number (c.loop-line.number + 1)
-        c.loop-line.least
+    c.loop-line.least
     c.loop-line.entries.items c.add-2.new.entries.items c.in_err-add.field-0.0 c.from_residual-in_err-add.result c.loop-line.invariant.0
     last refl c.in_err-add.ensures c.from_residual-in_err-add.ensures.0 c.from_residual-in_err-add.ensures.1
 

@@ -1,4 +1,5 @@
--- The outcome of a call that begins, or of a suspended call that continues, in terms of the code's types.
+-- The outcome of a call that begins, or of a suspended call that continues, in terms of the code's
+-- types.
 use Rattle.std.specs.Prelude.{◌≡◌, ◌⊎◌, ℕ, ℤ, pos, ◌+◌, ◌<◌, ◌≤◌, ◌||◌, List, [], ◌∷◌, ◌++◌, map, Bool, true, false, IsTrue, Option, Some, None, Result, Ok, Err, IfOk, OnErr, ⊤}
 use Rattle.sv_vxi.specs.declared.error_code.ErrorCode.{ErrorCode}
 use Rattle.sv_vxi.specs.declared.results.VxiResult.{VxiResult}
@@ -69,7 +70,8 @@ StopsAs (admissions.Refused given) arguments stop =
 StopsAs (admissions.Suspended wait timeout) arguments stop = stop ≡ Some (Awaits wait timeout)
 StopsAs (admissions.Admitted call) arguments stop = stop ≡ None
 
--- The result of a refused call has no data bytes. The device can execute an admitted call, which has these arguments.
+-- The result of a refused call has no data bytes. The device can execute an admitted call, which
+-- has these arguments.
 abbrev pub IsSound : Admission → Arguments → Device → Type 0
 IsSound (admissions.Refused given) arguments kept = data_of (plain_result given) ≡ []
 IsSound (admissions.Suspended wait timeout) arguments kept = ⊤
@@ -77,7 +79,8 @@ IsSound (admissions.Admitted call) arguments kept = IsCall call arguments × Can
 
 -- ---- the outcome of a call
 
--- The device has the state that its acts determine, and a serial poll (device_readstb) after these acts would return `polled`.
+-- The device has the state that its acts determine, and a serial poll (device_readstb) after these
+-- acts would return `polled`.
 abbrev pub IsDeviceAt : Device → Config → ℕ → List DeviceAct → Type 0
 IsDeviceAt kept config polled acts = IsDevice kept config acts × IsPolled polled acts
 
@@ -91,12 +94,14 @@ abbrev pub IsResult : Option VxiOutcome → VxiOutcome → Type 0
 IsResult (Some encoded) result = encoded ≡ result
 IsResult None result = ⊥
 
--- The call has the result `given`, as `what` says, and the acts that `what` adds have happened to the device.
+-- The call has the result `given`, as `what` says, and the acts that `what` adds have happened to
+-- the device.
 abbrev pub GivesResult : VxiResult → Device → Config → List DeviceAct → CallOutcome → Type 0
 GivesResult given device config acts what = IsResult what.result (plain_result given) × IsDevice device config (what.adds ++ acts)
 
--- The code's `Outcome` means the same as `what`. The acts that `what` adds have happened to the device, unless the call reads the response:
--- then these acts haven't happened yet, and the device still has the whole response.
+-- The code's `Outcome` means the same as `what`. The acts that `what` adds have happened to the
+-- device, unless the call reads the response: then these acts haven't happened yet, and the device
+-- still has the whole response.
 abbrev pub OutcomeIs : Outcome → Device → Config → List DeviceAct → CallOutcome → Type 0
 OutcomeIs (outcomes.Reply (Told given)) device config acts what = GivesResult given device config acts what
 OutcomeIs (outcomes.Response most term) device config acts what = (what ≡ reads (response (exchange_acts acts)) most term)
@@ -110,8 +115,8 @@ executed config polled c (admitted.CreateLink lock_device) acts = make_link conf
 executed config polled c (admitted.OnLink lid call) acts = link_call polled c lid (plain_call call) acts
 executed config polled c admitted.DestroyIntrChan acts = own_call config polled c DestroyIntrChan acts
 
--- If the call is create_link, the device has a place and memory for the new link. If this create_link also asks for the lock, no link
--- holds the lock.
+-- If the call is create_link, the device has a place and memory for the new link. If this
+-- create_link also asks for the lock, no link holds the lock.
 abbrev pub IsGranted : Arguments → Device → List DeviceAct → Type 0
 IsGranted (CreateLink client_id lock_device lock_timeout device) kept acts =
     HasPlace kept acts × (lock_device ≡ true → is_locked_out (holder (link_acts acts)) None ≡ false)
@@ -122,8 +127,8 @@ abbrev pub NeedsNoWait : Admitted → List DeviceAct → Type 0
 NeedsNoWait (admitted.OnLink lid call) acts = device_wait (plain_call call) acts ≡ None
 NeedsNoWait _ acts = ⊤
 
--- A call on a link needn't wait for the device. For a create_link, there is a place and memory for the new link, and if the call asks for
--- the lock, no link holds it.
+-- A call on a link needn't wait for the device. For a create_link, there is a place and memory for
+-- the new link, and if the call asks for the lock, no link holds it.
 abbrev pub IsFree : Admitted → Device → List DeviceAct → Type 0
 IsFree (admitted.CreateLink lock_device) kept acts = HasPlace kept acts
     × (lock_device ≡ true → is_locked_out (holder (link_acts acts)) None ≡ false)
@@ -132,18 +137,20 @@ IsFree admitted.DestroyIntrChan kept acts = ⊤
 
 -- ---- a call that begins
 
--- The call of connection `c` was suspended: the entry of this call was appended to the queue of suspended calls. `makes` says whether the
--- call is create_link. If it is, the entry says that the call waits for the lock.
+-- The call of connection `c` was suspended: the entry of this call was appended to the queue of
+-- suspended calls. `makes` says whether the call is create_link. If it is, the entry says that the
+-- call waits for the lock.
 abbrev pub IsBehind : ℕ → Bool → List Entry → List Entry → Type 0
 IsBehind c makes old new =
     (entry : Entry) × (entry.conn ≡ c) × (new ≡ without c old ++ entry ∷ []) × (makes ≡ true → creates entry ≡ true)
 
--- Either the queue of suspended calls is unchanged. Or `IsSuspended` holds, and the entry of connection `c`'s call was appended to the
--- queue.
+-- Either the queue of suspended calls is unchanged. Or `IsSuspended` holds, and the entry of
+-- connection `c`'s call was appended to the queue.
 abbrev pub MayWait : Type 0 → ℕ → Bool → List Entry → List Entry → Type 0
 MayWait IsSuspended c makes old new = (new ≡ old) ⊎ (IsSuspended × IsBehind c makes old new)
 
--- Either the result is an outcome for which `IsSo` and `IsShort` hold. Or memory was refused, nothing changed, and `Wants` holds.
+-- Either the result is an outcome for which `IsSo` and `IsShort` hold. Or memory was refused,
+-- nothing changed, and `Wants` holds.
 pub record Does {O : Type 0} (IsSo : Config → ℕ → List DeviceAct → O → Type 0) (Wants : Config → ℕ → List DeviceAct → Type 0)
     (IsShort : O → Type 0) {E : Type 0} (result : Result O E) (old new : Device) : Type 0 where
   pub does : (config : Config) (polled : ℕ) (acts : List DeviceAct) → IsDeviceAt old config polled acts
@@ -153,9 +160,9 @@ pub record Does {O : Type 0} (IsSo : Config → ℕ → List DeviceAct → O →
   pub brief : IfOk result (λ outcome. IsShort outcome)
   pub err : OnErr result (new ≡ old)
 
--- What a function that begins a call does to the device, if `IsAt` holds of the acts that the device did before the call. `Admits`
--- (below) lets `IsAt` hold of any acts. `AdmitsAt` lets it hold of the acts after which `stop` stops the call (nothing stops it if
--- `stop` is `None`).
+-- What a function that begins a call does to the device, if `IsAt` holds of the acts that the
+-- device did before the call. `Admits` (below) lets `IsAt` hold of any acts. `AdmitsAt` lets it
+-- hold of the acts after which `stop` stops the call (nothing stops it if `stop` is `None`).
 abbrev pub Begins : (List DeviceAct → Type 0) → {E : Type 0} → Result Outcome E → ℕ → Arguments → Device → Device → Type 0
 Begins IsAt result c arguments old new =
     Does (λ config polled acts outcome. IsAt acts
@@ -178,22 +185,23 @@ MayMake (CreateLink client_id lock_device lock_timeout device) c kept acts =
     (creations (without c kept.waiting) < creations kept.waiting) × (is_locked_out (holder (link_acts acts)) None ≡ false)
 MayMake _ c kept acts = ⊤
 
--- The suspended call is read again as a call that can be executed and needn't wait for the device; or, if it can't be executed, it fails
--- with this error.
+-- The suspended call is read again as a call that can be executed and needn't wait for the device;
+-- or, if it can't be executed, it fails with this error.
 abbrev pub IsReady : Result Admitted ErrorCode → Arguments → List DeviceAct → Type 0
 IsReady (Ok call) arguments acts = IsCall call arguments × NeedsNoWait call acts
 IsReady (Err error) arguments acts =
     (config : Config) (polled c : ℕ) → own_call config polled c arguments acts ≡ only (failure arguments error)
 
--- How a resumed call continues. If the first argument is `Some` wait, the call is suspended again, with this wait. If the first
--- argument is `None`, the call leaves the queue and is executed.
+-- How a resumed call continues. If the first argument is `Some` wait, the call is suspended again,
+-- with this wait. If the first argument is `None`, the call leaves the queue and is executed.
 abbrev pub ResumedAs : Option (Wait × ℕ) → Outcome → Device → Config → ℕ → ℕ → Arguments → List DeviceAct → Type 0
 ResumedAs (Some wait) outcome device config polled c arguments acts =
     OutcomeIs outcome device config acts (resume_outcome config polled c arguments (Some wait) acts)
 ResumedAs None outcome device config polled c arguments acts =
     OutcomeIs outcome device config (Waited (Left c) ∷ acts) (own_call config polled c arguments (Waited (Left c) ∷ acts))
 
--- The call leaves the queue; or `IsSuspended` holds, the call isn't a create_link, and it waits again at its old place in the queue.
+-- The call leaves the queue; or `IsSuspended` holds, the call isn't a create_link, and it waits
+-- again at its old place in the queue.
 abbrev pub MayWaitAnew : Type 0 → ℕ → Bool → List Entry → List Entry → Type 0
 MayWaitAnew IsSuspended c makes old new = (new ≡ without c old)
     ⊎ (IsSuspended × (wait : Wait) × (deadline : Option ℕ) × (new ≡ map (anew c wait deadline) old) × (makes ≡ false))
@@ -203,14 +211,16 @@ abbrev pub is_able : WakeReason → Bool
 is_able (reasons.Able wait) = true
 is_able _ = false
 
--- Steps are bounded as follows, if the suspended call got what it waits for: the bound on the steps that this call can still take, plus the
--- bound for all other suspended calls, is at most the bound for the whole queue.
+-- Steps are bounded as follows, if the suspended call got what it waits for: the bound on the steps
+-- that this call can still take, plus the bound for all other suspended calls, is at most the bound
+-- for the whole queue.
 abbrev pub IsNearer : WakeReason → ℕ → List Entry → Type 0
 IsNearer (reasons.Able wait) c old = queue_measure (without c old) + wait_measure wait ≤ queue_measure old
 IsNearer _ c old = ⊤
 
--- What has to hold before a suspended call continues for this reason. For `Able`: the call is suspended, and `HasPlaceOfLink` holds. For
--- `Dialed`: the call waits until its peer is connected. For `Failed`: nothing.
+-- What has to hold before a suspended call continues for this reason. For `Able`: the call is
+-- suspended, and `HasPlaceOfLink` holds. For `Dialed`: the call waits until its peer is connected.
+-- For `Failed`: nothing.
 abbrev pub MayResume : WakeReason → ℕ → Type 0 → List DeviceAct → Type 0
 MayResume (reasons.Able wait) c HasPlaceOfLink acts = (waits c (wait_acts acts) ≡ None → ⊥) × HasPlaceOfLink
 MayResume (reasons.Dialed ok) c HasPlaceOfLink acts = is_dialing c (wait_acts acts) ≡ true
@@ -226,8 +236,8 @@ ContinuesAs (reasons.Failed error) outcome device config polled c arguments acts
 
 -- ---- a step of the instrument
 
--- If the flag is true, the instrument took a step for which `IsSuch` holds. If the flag is false, no step for which `IsSuch` holds is
--- possible, and the device is unchanged.
+-- If the flag is true, the instrument took a step for which `IsSuch` holds. If the flag is false,
+-- no step for which `IsSuch` holds is possible, and the device is unchanged.
 abbrev pub InstrumentSteps : (List InstrumentAct → List InstrumentAct → Type 0) → Bool → Config → List DeviceAct → Device → Device → Type 0
 InstrumentSteps IsSuch true config acts old new = (adds : List InstrumentAct)
     × IsSuch (instrument_acts acts) (adds ++ instrument_acts acts) × IsDevice new config (map Applied adds ++ acts)

@@ -58,7 +58,8 @@ abbrev pub TakesCall : Config → ℕ → List Act → List ℕ → Request → 
 TakesCall config c log call request IsSo = (next_call (of c log) ≡ Some call) × (next_request (of c log) ≡ Some request)
     × ((polled : ℕ) → IsPolled polled (device_acts log) → IsSo (request_effect config polled c request (device_acts log)))
 
--- A Turn of an open connection finds no call; or it takes the next call, and says whose suspended call the taken call ends; or it is refused.
+-- A Turn of an open connection finds no call; or it takes the next call, and says whose suspended
+-- call the taken call ends; or it is refused.
 abbrev pub Turns : Config → ℕ → List Act → List Entry → Result (Did × Option ℕ) Refused → Connection → Device → Type 0
 Turns config c log old (Ok (Idle, aborted)) connection device = (turn_refusal (of c log) ≡ None) × (is_idle (of c log) ≡ true)
     × (aborted ≡ None) × IsConnection connection (of c log) × IsDevice device config (device_acts log) × (device.waiting ≡ old)

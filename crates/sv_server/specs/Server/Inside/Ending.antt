@@ -1,4 +1,5 @@
--- How a connection and the device change when a record that was taken is finished, or when a suspended call continues.
+-- How a connection and the device change when a record that was taken is finished, or when a
+-- suspended call continues.
 use Rattle.std.specs.Prelude.{◌≡◌, ℕ, ◌<◌, List, [], ◌∷◌, ◌++◌, Bool, true, false, Option, None, Result}
 use Rattle.sv_vxi.specs.Arguments.{is_create_link}
 use Rattle.sv_links.specs.declared.waiting.Entry.{Entry}
@@ -26,8 +27,8 @@ use Rattle.sv_server.specs.Device.Inside.Outcome.{IsBrief, MayWait, MayWaitAnew,
 
 -- ---- how a call or a record ends
 
--- A record or call for which the code returns this `Outcome` has this effect. If the call reads the response, the bytes aren't read yet: the
--- device still has the whole response.
+-- A record or call for which the code returns this `Outcome` has this effect. If the call reads the
+-- response, the bytes aren't read yet: the device still has the whole response.
 abbrev pub EndsAs : Outcome → ℕ → Device → Config → List DeviceAct → Effect → Type 0
 EndsAs outcomes.Fault xid device config acts effect = (effect.own ≡ Faulted ∷ []) × IsDevice device config (effect.adds ++ acts)
 EndsAs (outcomes.Reply answer) xid device config acts effect = (effect.own ≡ Replied (answer_bytes xid answer) ∷ [])
@@ -36,7 +37,8 @@ EndsAs (outcomes.Response most term) xid device config acts effect =
     (effect ≡ call_effect xid (reads (response (exchange_acts acts)) most term)) × IsDevice device config acts
 EndsAs outcomes.Suspended xid device config acts effect = (effect.own ≡ []) × IsDevice device config (effect.adds ++ acts)
 
--- The call that was taken had this effect: the effect's acts were added to the acts of the connection and of the device.
+-- The call that was taken had this effect: the effect's acts were added to the acts of the
+-- connection and of the device.
 abbrev pub Concludes : Effect → Config → List ConnAct → List DeviceAct → Connection → Device → Type 0
 Concludes effect config acts before connection device =
     IsConnection connection (effect.own ++ acts) × IsDevice device config (effect.adds ++ before)
@@ -74,8 +76,8 @@ continued (reasons.Able wait) config polled c call acts = resume_effect config p
 continued (reasons.Dialed ok) config polled c call acts = connect_effect c ok call
 continued (reasons.Failed error) config polled c call acts = failure_effect error c call
 
--- The suspended call of connection `c` was resumed, with this effect. Now this call either has left the queue of suspended calls, or
--- waits in the queue again.
+-- The suspended call of connection `c` was resumed, with this effect. Now this call either has left
+-- the queue of suspended calls, or waits in the queue again.
 abbrev pub ConcludesResumed : Effect → ℕ → Option CoreCall → Config → List ConnAct → List DeviceAct → List Entry → Connection → Device
     → Type 0
 ConcludesResumed effect c call config acts before old connection device =

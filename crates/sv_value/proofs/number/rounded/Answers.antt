@@ -27,5 +27,5 @@ returns c =
     (omega (arith, size, c.if-left_out-count.false)) in
     let up = c.carry.ensures ∙ ap (λ (d : ℕ). if nat_le 5 d then 1 else 0) c.front_of-front.ensures.next in
     rw round (capped_rounding 1000000000000000000 _ _ c.front_of-front.result.0 c.carry.result c.min.result c.front_of-front.ensures.front
-        up
+    up
     c.min.ensures)

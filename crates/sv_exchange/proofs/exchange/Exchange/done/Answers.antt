@@ -9,7 +9,7 @@ returns-in-Some-clause-stands g c =
     let first = rw c.deref.ensures.value at c.in-Some.ensures in
     let holds =
     contents_after_unit c.self.inside.text.items _ _ c.self.inside.next_start c.self.inside.ended c.self.inside.end_pending
-        c.self.inside.overlong
+    c.self.inside.overlong
     c.self.inside.overrun_reported c.self.inside.answers_dropped c.self.inside.answering c.self.inside.response.items c.self.inside.read
     c.self.inside.executed c.in-Some.count
     c.self.invariant.0.order.0 (omega (arith, c.self.invariant.0.order)) first.within.1 in

@@ -26,4 +26,4 @@ returns-clause-stands g c =
 pub returns-clause-next : goal.returns-clause-next
 returns-clause-next g c =
     subst (λ (contents : Contents). IsUnitDue (next_of contents)) (sym (returns-clause-value g c))
-        (unit_due_after_interrupt c.args.self.now c.requires)
+    (unit_due_after_interrupt c.args.self.now c.requires)

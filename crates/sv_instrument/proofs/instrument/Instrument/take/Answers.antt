@@ -4,9 +4,11 @@ use Rattle.sv_instrument.proofs.NextStep.{read_keeps_held_unit}
 use Rattle.sv_instrument.proofs.instrument.Instrument.take.Goals as goal
 
 pub invariant_of-self : goal.invariant_of-self
-invariant_of-self g c =
-    (c.self.invariant.0, read_keeps_held_unit c.self.inside.held _ _ _ c.self.invariant.1 (rw (← c.self.view_is) at c.requires)
-        c.take.ensures.value)
+invariant_of-self g c = (
+  c.self.invariant.0,
+  read_keeps_held_unit c.self.inside.held _ _ _ c.self.invariant.1 (rw (← c.self.view_is) at c.requires)
+      c.take.ensures.value,
+)
 
 pub returns : goal.returns
 returns g c = λ log h.

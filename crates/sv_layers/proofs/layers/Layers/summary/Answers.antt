@@ -14,7 +14,7 @@ returns g c = λ at status_log h.
     let errors : c.mask_if-5.result ≡ bit 2 (is_something (entries at.errors)) =
     c.mask_if-5.ensures ∙ cond_is_bit 2 (nat_lt 0 c.count.result)
     ∙ ap (λ (n : ℕ). bit 2 (nat_lt 0 n)) (c.count.ensures.answer at.errors j.errors)
-        ∙ ap (bit 2) (nonempty_by_length (entries at.errors)) in
+    ∙ ap (bit 2) (nonempty_by_length (entries at.errors)) in
     record {
       operates = c.summary.result;
       happened = c.summary-2.result;

@@ -38,4 +38,4 @@ pub returns-in_err-trigger-clause-applied : goal.returns-in_err-trigger-clause-a
 returns-in_err-trigger-clause-applied g c = λ log h.
     let told = err_from_is_err_and c.from_residual.result c.from_residual.ensures.1 in
     rw (told.1, told.2) (fault_of_refusal _ _
-        (c.in_err-trigger.ensures.answer (scan_acts log) (scanner_stands _ log (rw (← c.self.view_is) at h))))
+    (c.in_err-trigger.ensures.answer (scan_acts log) (scanner_stands _ log (rw (← c.self.view_is) at h))))

@@ -65,5 +65,5 @@ returns-clause-stands g c short room acts is =
     let place = items_are g c ∙ insert_between lid old.enabled link sorted
     ∙ ap (λ (lid : ℕ). lower_links lid old.enabled ++ link ∷ higher_links lid old.enabled) (sym c.new.ensures.link.0) in
     let now = are_channels_enabled (record old { channels = c.self.inside.channels.items }) c.insert.new.self.items link acts place before
-        in
+    in
     rw (← c.new.ensures.link.0, ← c.new.ensures.link.1, ← c.new.ensures.handle short) now

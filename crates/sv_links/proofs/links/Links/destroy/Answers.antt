@@ -35,5 +35,5 @@ returns-else-eq-clause-stands g c acts is =
     let slots = retained _ _ (other_than c.args.lid) (λ key shown b left next k. search (rules, tests)) 0
     c.self.inside.links.slots c.retain.new.self.slots c.retain.ensures.retained in
     is_table_destroyed _ c.args.lid acts _ _ slots
-        (freed_if_not_holder c.args.lid c.self.inside.holder c.eq.result c.eq.ensures c.if-eq.false)
+    (freed_if_not_holder c.args.lid c.self.inside.holder c.eq.result c.eq.ensures c.if-eq.false)
     (rw c.self.view_is is)

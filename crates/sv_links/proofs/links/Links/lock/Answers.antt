@@ -10,7 +10,7 @@ pub returns-in-Some-clause-answer : goal.returns-in-Some-clause-answer
 returns-in-Some-clause-answer g c acts is =
     let held = holder_is c.args.self.now acts is ∙ sym (ap (λ (table : Table). table.holder) c.self.view_is) ∙ c.in-Some.is in
     own_number_not_locked_out c.in-Some.holder c.args.lid ∙ ap (λ (holder : Option ℕ). not (is_locked_out holder (Some c.args.lid)))
-        (sym held)
+    (sym held)
 
 pub returns-in-Some-clause-stands : goal.returns-in-Some-clause-stands
 returns-in-Some-clause-stands g c e acts is =

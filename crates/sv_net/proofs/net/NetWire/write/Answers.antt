@@ -14,6 +14,6 @@ returns-clause-heard g c = elim c.match-get_mut.branch [
   | in-None w ↦ (
       let past = (rw (w.in-None.is, c.socket_number.ensures) at c.get_mut.ensures.item).3 in
       rw (← c.self.view_is, w.result-is, w.self-inside-is)
-          (at_no_index c.self.inside.sockets.items (socket_number c.args.port) _ _ past refl)
+      (at_no_index c.self.inside.sockets.items (socket_number c.args.port) _ _ past refl)
       )
 ]

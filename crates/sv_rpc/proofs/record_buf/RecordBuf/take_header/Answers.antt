@@ -37,9 +37,9 @@ pub returns-clause-value : goal.returns-clause-value
 returns-clause-value g c =
     let header = rw (← c.self.view_is) at c.requires.header in
     header_byte_opens_fragment _ _ c.self.inside.header c.self.inside.header_len c.args.byte c.word_of-word.result _ c.args.self.now _
-        c.self.view_is
+    c.self.view_is
     c.requires.header c.self.told (three_header_bytes_came _ _ _ _ _ c.self.invariant.at header c.if-self-lt3.false)
-        c.word_of-word.ensures.value
+    c.word_of-word.ensures.value
     c.open.ensures
 
 pub returns-clause-stands : goal.returns-clause-stands
@@ -48,4 +48,4 @@ returns-clause-stands g c =
     header_goes_on _ _ _ _ c.args.self.now _ c.args.byte c.self.view_is c.requires.header (returns-clause-value g c)
     (λ _. completed_header_word c.self.inside.header c.self.inside.header_len c.args.byte c.word_of-word.result c.self.told
     (three_header_bytes_came _ _ _ _ _ c.self.invariant.at header c.if-self-lt3.false) c.word_of-word.ensures.value
-        c.word_of-word.ensures.header)
+    c.word_of-word.ensures.header)

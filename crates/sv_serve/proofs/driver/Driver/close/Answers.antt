@@ -10,7 +10,7 @@ returns g c = λ first config history stands is_open.
     let (h0, s0, p0) = c.close_socket.ensures _ config history stands in
     let (h1, s1, p1) = c.close_channel.ensures _ config h0 s0 in
     let hung = closes_channel_same_history g.W.Wire.hears c.args.conn config (driver_view c.close_socket.new.self h0)
-        (driver_view c.close_channel.new.self h1) p1 in
+    (driver_view c.close_channel.new.self h1) p1 in
     let suits = close_suits (Conn c.args.conn) config (driver_view c.args.self.now history) is_open in
     let still = still_suited (Close (Conn c.args.conn)) config (driver_view c.args.self.now history)
     (driver_view c.close_channel.new.self h1)

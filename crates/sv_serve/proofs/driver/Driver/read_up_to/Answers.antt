@@ -49,7 +49,7 @@ returns-in-Got g c = rw (← c.self.view_is) (λ first config history stands has
     let bytes = take c.in-Got.count c.read_into.new.buffer in
     let same : take c.in-Got.count c.deref.result.now ≡ bytes = ap (take c.in-Got.count) (c.deref.ensures.value
     ∙ overwritten_whole c.self.inside.buffer.len c.self.inside.buffer.items c.deref_mut.result.now c.read_into.new.buffer
-        c.deref_mut.ensures.len
+    c.deref_mut.ensures.len
     c.read_into.auto.buffer) in
     let piece = within_piece c.read_into.result c.read_into.new.buffer (min c.args.room 16384)
     (subst (λ n. IsWithin c.read_into.result n) asked c.read_into.ensures.within) in
@@ -57,7 +57,7 @@ returns-in-Got g c = rw (← c.self.view_is) (λ first config history stands has
     let answers = subst (λ l. Answers config (Bytes c.args.conn l) log c.apply-answer.result) same says in
     let few : length bytes ≤ min c.args.room 16384 = rw c.in-Got.is at piece in
     let done = suited_is_applied config (Bytes c.args.conn bytes) (driver_view c.args.self.now history) log c.apply-answer.result is_log
-        answers
+    answers
     (bytes_suit c.args.conn c.args.room bytes config (driver_view c.args.self.now history) c.requires some few has) in (
       Bytes c.args.conn bytes ∷ history,
       (

@@ -9,7 +9,8 @@ pub returns-in_err-reserve : goal.returns-in_err-reserve
 returns-in_err-reserve g c = record {
   does = λ config polled acts known. search (rules, c.from_residual.ensures);
   lacks = λ config polled acts known. on_err c.from_residual.result _ (λ at. rw at (lock_wants c.args.conn.number
-      (plain_arguments c.args.args.now) acts c.args.wait c.args.timeout _ c.args.conn.within at (sym c.is_create_link.ensures ∙ c.in_err-reserve.ensures.err.1)));
+      (plain_arguments c.args.args.now) acts c.args.wait c.args.timeout _ c.args.conn.within at
+      (sym c.is_create_link.ensures ∙ c.in_err-reserve.ensures.err.1)));
   brief = search (rules, c.from_residual.ensures);
   err = search rules;
 }

@@ -38,13 +38,23 @@ returns-in-Some-device_wait-clause-stops g c = λ config acts is.
     let named : Some c.in-Some.lid ≡ lid_of (Some c.args.lid) = search (rules, c.in-Some.ensures) in
     let own : owns c.args.conn.number (Some c.in-Some.lid) acts ≡ true = sym (c.if-not-owns.ensures config acts is) in
     let short : is_too_long (plain_call c.args.call.now) ≡ false = sym c.if-is_too_long.ensures in
-    rw (← named, own, short, stops_unlocked _ _ _ _ (c.in_default-awaited_lock.ensures config acts is),
-    ← (c.in-Some-device_wait.ensures.answer config acts is)) refl
+    rw (
+      ← named,
+      own,
+      short,
+      stops_unlocked _ _ _ _ (c.in_default-awaited_lock.ensures config acts is),
+      ← (c.in-Some-device_wait.ensures.answer config acts is),
+    ) refl
 
 pub returns-clause-stops : goal.returns-clause-stops
 returns-clause-stops g c = λ config acts is.
     let named : Some c.in-Some.lid ≡ lid_of (Some c.args.lid) = search (rules, c.in-Some.ensures) in
     let own : owns c.args.conn.number (Some c.in-Some.lid) acts ≡ true = sym (c.if-not-owns.ensures config acts is) in
     let short : is_too_long (plain_call c.args.call.now) ≡ false = sym c.if-is_too_long.ensures in
-    rw (← named, own, short, stops_unlocked _ _ _ _ (c.in_default-awaited_lock.ensures config acts is),
-    ← (c.in_default-device_wait.ensures.answer config acts is)) refl
+    rw (
+      ← named,
+      own,
+      short,
+      stops_unlocked _ _ _ _ (c.in_default-awaited_lock.ensures config acts is),
+      ← (c.in_default-device_wait.ensures.answer config acts is),
+    ) refl

@@ -13,8 +13,7 @@ returns-then-is_some-clause-answer g c = λ config acts is kept polled conn.
 
 pub returns-clause-answer : goal.returns-clause-answer
 returns-clause-answer g c = λ config acts is.
-    let named : Some c.in-Some.lid ≡ lid_of (Some c.args.lid) = search (rules, c.in-Some.ensures) in
-    (
+    let named : Some c.in-Some.lid ≡ lid_of (Some c.args.lid) = search (rules, c.in-Some.ensures) in (
       rw (link_numbered c.in-Some.lid c.args.lid named) refl,
       rw (c.device_wait.ensures.answer config acts is) at (none_due c.device_wait.result c.if-is_some.ensures),
     )

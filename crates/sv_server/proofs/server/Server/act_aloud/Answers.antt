@@ -12,5 +12,5 @@ returns-in-Ok-clause-told g c = λ config log rep.
 pub returns-in-Err-clause-told : goal.returns-in-Err-clause-told
 returns-in-Err-clause-told g c = λ config log rep.
     rw c.in-Err.is (refused_event_is_explained c.args.line config (plain c.args.event) log c.in-Err.field-0 c.args.self.now
-        c.act-done.new.self
+    c.act-done.new.self
     _ _ _ _ _ _ rep (c.in-Err.ensures.acts config log rep) c.in-Err.ensures.err (c.tell_before.ensures config log rep) c.tell_tick.ensures)

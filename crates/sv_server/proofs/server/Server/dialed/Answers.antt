@@ -29,7 +29,7 @@ returns-clause-acts g c = λ config log rep.
     let unshut = rw (← c.in_ok-conn.ensures.same) at (c.in_ok-conn.ensures.answer config log rep) in
     let dialing = sym (c.if-not-is_dialing.ensures config (device_acts log) state.device) in
     let (call, known) = suspended_was_taken _ config log conn.number state
-        (dialing_call_is_suspended conn.number (wait_acts (device_acts log)) dialing) in
+    (dialing_call_is_suspended conn.number (wait_acts (device_acts log)) dialing) in
     rw (← c.in_ok-conn.ensures.same) (
       λ channel_log tells. rw (unshut, dialing) refl,
       refl,

@@ -15,7 +15,7 @@ returns-clause-stands g c = λ config log rep does.
     let (call, known) = suspended_was_taken _ config log conn.number state does in
     let (polled, said) = polled_now _ config (device_acts log) state.device in
     rw c.index.ensures (stands_after_time_out _ config log conn.number _ c.continue_call.new.connection c.continue_call.new.device state
-        c.self.invariant
+    c.self.invariant
     conn.within
     (c.continue_call.ensures.concludes config polled (of conn.number log) (device_acts log) is (ap is_some known) (state.device, said) tt).0
     (c.continue_call.ensures.left refl) call known)

@@ -24,6 +24,6 @@ returns-else-count-gt0 g c = λ config history channel_log log s.
 pub returns-in_err-put_line : goal.returns-in_err-put_line
 returns-in_err-put_line g c = λ config history channel_log log s.
     part_shown_if_writer_fails c.args.port c.outgoing-bytes.result.now config history channel_log log c.args.self.now _ _
-        c.in_err-put_line.field-0.0
+    c.in_err-put_line.field-0.0
     c.from_residual.result s (c.outgoing-bytes.ensures.exact config log channel_log s.1 s.3) c.from_residual.ensures.0
     c.in_err-put_line.ensures

@@ -6,7 +6,7 @@ use Rattle.sv_server.proofs.server.Server.tell_event.Goals as goal
 pub returns-in-Some-clause-told : goal.returns-in-Some-clause-told
 returns-in-Some-clause-told g c = λ config log rep.
     bytes_tell_of_equal c.args.line config (plain c.args.event) log c.bytes_aloud.result c.args.self.now c.bytes_aloud.new.self _ _ _ _ _ _
-        _
+    _
     (ap plain c.in-Bytes.is) c.in-Some.ensures (c.bytes_aloud.ensures.told config log rep)
 
 pub returns-in-None-clause-told : goal.returns-in-None-clause-told

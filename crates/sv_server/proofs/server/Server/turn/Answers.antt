@@ -34,6 +34,7 @@ returns-clause-acts g c = λ config log rep.
     let state = rw (← c.self.view_is) at rep in
     let is = connection_of _ config log conn.number c.index_mut-connection.result.now state conn.within at in
     let unshut = rw (← c.in_ok-conn.ensures.same) at (c.in_ok-conn.ensures.answer config log rep) in
-    rw (← c.in_ok-conn.ensures.same) (turn_ends _ c.abort.new.self config log conn.number c.in_ok-did.did c.in_ok-did.aborted c.turn.new.connection
+    rw (← c.in_ok-conn.ensures.same)
+    (turn_ends _ c.abort.new.self config log conn.number c.in_ok-did.did c.in_ok-did.aborted c.turn.new.connection
     c.turn.new.device state c.self.invariant conn.within unshut (c.in_ok-did.ensures.acts config log is state.device)
     (rw c.index.ensures at c.abort.ensures))
