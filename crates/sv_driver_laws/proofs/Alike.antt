@@ -170,16 +170,20 @@ same_question_alike f next config x y (inr differ) asked apart alike more a b c 
 
 -- ---- two answers are equal or not
 
+cases_answer : {A : Type 0} (same_or_not : (a b : A) → (a ≡ b) ⊎ (a ≢ b)) (x y : Answer A) → (x ≡ y) ⊎ (x ≢ y)
+cases_answer same_or_not (Got a) (Got b) = elim (same_or_not a b) [
+  | inl e ↦ inl (ap Got e)
+  | inr e ↦ inr (λ g. e (let z : a ≡ b = cc in z))
+]
+cases_answer same_or_not Pending Pending = inl refl
+cases_answer same_or_not Failed Failed = inl refl
+cases_answer same_or_not _ _ = inr (λ e. cc)
+
 cases_all : (x y : Answer ⊤) → (x ≡ y) ⊎ (x ≢ y)
-cases_all (Got all) (Got other) = inl refl
-cases_all Pending Pending = inl refl
-cases_all Failed Failed = inl refl
-cases_all (Got all) Pending = inr (λ e. cc)
-cases_all (Got all) Failed = inr (λ e. cc)
-cases_all Pending (Got all) = inr (λ e. cc)
-cases_all Pending Failed = inr (λ e. cc)
-cases_all Failed (Got all) = inr (λ e. cc)
-cases_all Failed Pending = inr (λ e. cc)
+cases_all x y = cases_answer one x y
+  where
+    one : (a b : ⊤) → (a ≡ b) ⊎ (a ≢ b)
+    one a b = inl refl
 
 cases_list : (xs ys : List ℕ) → (xs ≡ ys) ⊎ (xs ≢ ys)
 cases_list [] [] = inl refl
@@ -194,32 +198,10 @@ cases_list (x ∷ xs) (y ∷ ys) = elim (cases_eq x y) [
 ]
 
 cases_bytes : (x y : Answer (List ℕ)) → (x ≡ y) ⊎ (x ≢ y)
-cases_bytes (Got xs) (Got ys) = elim (cases_list xs ys) [
-  | inl e ↦ inl (ap Got e)
-  | inr e ↦ inr (λ g. e (let z : xs ≡ ys = cc in z))
-]
-cases_bytes Pending Pending = inl refl
-cases_bytes Failed Failed = inl refl
-cases_bytes (Got xs) Pending = inr (λ e. cc)
-cases_bytes (Got xs) Failed = inr (λ e. cc)
-cases_bytes Pending (Got ys) = inr (λ e. cc)
-cases_bytes Pending Failed = inr (λ e. cc)
-cases_bytes Failed (Got ys) = inr (λ e. cc)
-cases_bytes Failed Pending = inr (λ e. cc)
+cases_bytes x y = cases_answer cases_list x y
 
 cases_count : (x y : Answer ℕ) → (x ≡ y) ⊎ (x ≢ y)
-cases_count (Got n) (Got k) = elim (cases_eq n k) [
-  | inl e ↦ inl (ap Got e)
-  | inr e ↦ inr (λ g. e (let z : n ≡ k = cc in z))
-]
-cases_count Pending Pending = inl refl
-cases_count Failed Failed = inl refl
-cases_count (Got n) Pending = inr (λ e. cc)
-cases_count (Got n) Failed = inr (λ e. cc)
-cases_count Pending (Got n) = inr (λ e. cc)
-cases_count Pending Failed = inr (λ e. cc)
-cases_count Failed (Got n) = inr (λ e. cc)
-cases_count Failed Pending = inr (λ e. cc)
+cases_count x y = cases_answer cases_eq x y
 
 -- ---- the answers of the server's queries
 
@@ -256,9 +238,7 @@ same_applied event config a b c (log, was, answers, is) (other, also, answer, so
 same_opens : (role : Role) (number : Option ℕ) (answer : Answer ⊤) (config : Config) (a b c : View) → Opens role number answer config a b
     → Opens role number answer config a c → b ≡ c
 same_opens role (Some n) (Got all) config a b c x y = same_applied (Open n role) config a b c x y
-same_opens role (Some n) Pending config a b c x y = x ∙ sym y
-same_opens role (Some n) Failed config a b c x y = x ∙ sym y
-same_opens role None answer config a b c x y = x ∙ sym y
+same_opens role _ _ config a b c x y = x ∙ sym y
 
 same_closed : (heard : Heard) (config : Config) (a b c : View) → Hears Records heard config a b → Hears Records heard config a c → b ≡ c
 same_closed heard config a b c x y = heard_is heard config a b x ∙ sym (heard_is heard config a c y)

@@ -1,7 +1,7 @@
 -- Two runs whose wires give the same answers, and in which memory is never refused, are the same.
 use Rattle.std.proofs.Common.{◌≡◌, ℕ, List, [], ◌∷◌, ◌++◌, map, refl, sym, ap, subst, ◌∙◌, inl, inr}
 use Rattle.std.specs.Prelude.{⊤}
-use Rattle.std.proofs.lemmas.List.{append_cancel_right}
+use Rattle.std.proofs.lemmas.List.{append_cancel_right, same_from_push}
 use Rattle.sv_history.specs.Event.{PlainEvent, Refuse}
 use Rattle.sv_serve.specs.declared.wire.Answer.{Answer}
 use Rattle.sv_serve.specs.declared.wire.Answer.TheVariants.{Got, Pending, Failed}
@@ -13,12 +13,7 @@ same_listed : {A : Type 0} (list : A → List ℕ) → ((x y : A) → list x ≡
 same_listed list apart (Got x) (Got y) e = ap Got (apart x y (let z : list x ≡ list y = cc in z))
 same_listed list apart Pending Pending e = refl
 same_listed list apart Failed Failed e = refl
-same_listed list apart (Got x) Pending e = absurd cc
-same_listed list apart (Got x) Failed e = absurd cc
-same_listed list apart Pending (Got y) e = absurd cc
-same_listed list apart Pending Failed e = absurd cc
-same_listed list apart Failed (Got y) e = absurd cc
-same_listed list apart Failed Pending e = absurd cc
+same_listed list apart _ _ e = absurd cc
 
 same_all : (one two : Answer ⊤) → listed (λ all. []) one ≡ listed (λ all. []) two → one ≡ two
 same_all one two e = same_listed (λ all. []) (λ x y e. refl) one two e
@@ -35,16 +30,6 @@ same_heard (WasDialed conn dial x) (WasDialed other also y) e h = let z = same_a
 same_heard (PeerAnswered conn x) (PeerAnswered other y) e h = let z = same_all x y h in cc
 same_heard (WasClosed port) (WasClosed other) e h = cc
 same_heard _ _ e h = absurd cc
-
-empty_is_no_append_cons : {A B : Type 0} (ys : List A) (y : A) → [] ≡ ys ++ y ∷ [] → B
-empty_is_no_append_cons [] y e = absurd cc
-empty_is_no_append_cons (x ∷ ys) y e = absurd cc
-
-last_same : {A : Type 0} (xs ys : List A) (x y : A) → xs ++ x ∷ [] ≡ ys ++ y ∷ [] → x ≡ y
-last_same [] [] x y e = cc
-last_same [] (z ∷ ys) x y e = empty_is_no_append_cons ys y (let h : [] ≡ ys ++ y ∷ [] = cc in h)
-last_same (z ∷ xs) [] x y e = empty_is_no_append_cons xs x (let h : [] ≡ xs ++ x ∷ [] = cc in h)
-last_same (z ∷ xs) (w ∷ ys) x y e = last_same xs ys x y (let h : xs ++ x ∷ [] ≡ ys ++ y ∷ [] = cc in h)
 
 map_join : (xs : List Heard) (x : Heard) (ys : List Heard)
     → map answer_of (xs ++ (x ∷ ys)) ≡ (map answer_of xs ++ answer_of x ∷ []) ++ map answer_of ys
@@ -69,6 +54,6 @@ by_answers trace other history also
     let front = append_cancel_right (map answer_of newer ++ answer_of heard ∷ []) (map answer_of later ++ answer_of answer ∷ [])
     (map answer_of older) both in
     absurd (apart (same_heard heard answer asked
-    (last_same (map answer_of newer) (map answer_of later) (answer_of heard) (answer_of answer) front)))
+    (same_from_push (map answer_of newer) (map answer_of later) (answer_of heard) (answer_of answer) front).1))
 by_answers trace other history also (inr (inr (inl m))) answers h k = absurd (no_memory trace other history also m k)
 by_answers trace other history also (inr (inr (inr m))) answers h k = absurd (no_memory other trace also history m h)

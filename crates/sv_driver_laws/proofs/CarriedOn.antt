@@ -1,6 +1,6 @@
 -- Any number of sweeps satisfies `Carried`, and two runs of sweeps satisfy `Determined`.
-use Rattle.std.proofs.Common.{◌≡◌, ℕ, ◌≤◌, ◌-◌, Bool, true, false, List, [], ◌∷◌, ◌++◌, filter, flat_map, nat_lt, ◌⊎◌, inl, inr, Option, None, refl, sym, ap, subst, ◌∙◌}
-use Rattle.std.specs.Prelude.{not, ◌||◌}
+use Rattle.std.proofs.Common.{◌≡◌, ℕ, ◌≤◌, ◌-◌, true, false, List, [], ◌∷◌, ◌++◌, filter, flat_map, nat_lt, ◌⊎◌, inl, inr, Option, None, refl, sym, ap, subst, ◌∙◌}
+use Rattle.std.specs.Prelude.{not}
 use Rattle.std.proofs.lemmas.List.{append_cancel_right}
 use Rattle.sv_links.specs.Channels.{ChannelAct, is_channel_open, bytes_taken as channel_taken, calls}
 use Rattle.sv_history.specs.declared.event.Config.{Config}
@@ -37,6 +37,7 @@ use Rattle.sv_driver_laws.proofs.Serving.{SweptOnce, sweep_once, serves}
 use Rattle.sv_driver_laws.proofs.Recorded.{Records, over_trace, lift_stimulates, lift_sweep}
 use Rattle.sv_driver_laws.proofs.Alike.{View, Forks, through_records}
 use Rattle.sv_driver_laws.proofs.AlikeSweeps.{Runs, runs_alike}
+use Rattle.std.proofs.lemmas.Bool.{not-false, or_parts}
 
 keeping_none : (c : ℕ) (log : List Act) (channel_log : List ChannelAct) → log ≡ [] → HearsOf (device_acts log) channel_log
     → PortBytes c (of c log) channel_log []
@@ -61,11 +62,6 @@ record Over {W J : Type 0} (hears : W → Heard → W → Type 0) (notes : J →
       → Played config (with_handed (last_clock - config.clock) passed start.ahead) (handed_ticks passed) (driver_view now history)
   pub runs : Runs config passed (over_trace (driver_view start []) []) (over_trace (driver_view now history) trace)
 
-not_shut_is_open : (far opened : Bool) → (far || not opened) ≡ false → opened ≡ true
-not_shut_is_open true opened e = absurd cc
-not_shut_is_open false true e = refl
-not_shut_is_open false false e = absurd cc
-
 sends_by : (acts : List ConnAct) (came gone : List ℕ) → ConnBytes acts came gone → is_open acts ≡ true
     → gone ++ waiting acts ≡ bytes_sent acts
 sends_by acts came gone h opened = rw opened (h.1 opened).0
@@ -74,10 +70,11 @@ sends_all : (port : Port) (log : List Act) (channel_log : List ChannelAct) (trac
     → ((c : ℕ) → PortBytes c (of c log) channel_log trace) → is_port_shut port log ≡ false
     → went port trace ++ waiting_on channel_log port log ≡ sent_on channel_log port log
 sends_all (Conn c) log channel_log trace tells all free =
-    sends_by (of c log) (came c trace) (went (Conn c) trace) (all c).0 (not_shut_is_open (nat_lt 15 c) (is_open (of c log)) free)
+    sends_by (of c log) (came c trace) (went (Conn c) trace) (all c).0
+    (not-false (is_open (of c log)) (or_parts (nat_lt 15 c) (not (is_open (of c log))) free).1)
 sends_all (Intr c) log channel_log trace tells all free =
     let opened : is_channel_open c channel_log ≡ true = channel_open_by_channel_log c (device_acts log) channel_log tells
-    ∙ not_shut_is_open (nat_lt 15 c) (has_channel c (device_acts log)) free in
+    ∙ not-false (has_channel c (device_acts log)) (or_parts (nat_lt 15 c) (not (has_channel c (device_acts log))) free).1 in
     rw (opened, untaken_calls_bytes (channel_taken c channel_log) (calls c channel_log)) ((all c).1 opened).0
 
 is_carried : {W J : Type 0} (hears : W → Heard → W → Type 0) (notes : J → List PlainEvent → J → Type 0) (config : Config)

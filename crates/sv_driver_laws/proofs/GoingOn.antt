@@ -10,15 +10,15 @@ use Rattle.std.specs.List.{AllByRecursion}
 use Rattle.sv_history.specs.declared.event.Config.{Config}
 use Rattle.sv_history.specs.declared.event.Refused.TheVariants.{NoConn, NotSent}
 use Rattle.sv_history.specs.declared.event.Port.TheVariants.{Conn, Intr}
-use Rattle.sv_history.specs.Event.{PlainEvent, Open, Bytes, Turn, Refuse, Took, Close, Dialed, Input, External, Tick}
-use Rattle.sv_history.specs.Act.{Act, ConnAct, Opened, Piece, CallTaken, Faulted, Replied, BytesTaken, PortClosed, of}
+use Rattle.sv_history.specs.Event.{PlainEvent, Open, Bytes, Took, Close}
+use Rattle.sv_history.specs.Act.{Act, ConnAct, CallTaken, Faulted, Replied, of}
 use Rattle.sv_history.specs.Connection.{is_open, bytes_left, waiting, free, bytes_sent, bytes_taken}
 use Rattle.sv_history.specs.History.{refusal, is_shut, IsLogOf}
 use Rattle.sv_laws.proofs.Brought.{brings, AreCallActs}
 use Rattle.sv_laws.proofs.OneLog.{one_log}
-use Rattle.sv_laws.proofs.OnlyCalls.{only_calls}
-use Rattle.sv_serve.specs.declared.wire.Answer.TheVariants.{Got, Pending, Failed}
-use Rattle.sv_serve.specs.Heard.{Heard, WasAccepted, WasRead, WasProbed, WasWritten, WasDialed, PeerAnswered, WasClosed}
+use Rattle.sv_laws.proofs.OnlyCalls.{only_calls, append_of_calls}
+use Rattle.sv_serve.specs.declared.wire.Answer.TheVariants.{Got}
+use Rattle.sv_serve.specs.Heard.{Heard, WasAccepted, WasRead, WasWritten, WasDialed, PeerAnswered, WasClosed}
 use Rattle.sv_driver_laws.specs.Served.{event_of, is_outer}
 use Rattle.sv_driver_laws.proofs.Keeps.{Subject, OfRead, OfConn, OfNone, about, AllMay}
 
@@ -32,40 +32,16 @@ IsNoRead event = (c : ℕ) (bytes : List ℕ) → event ≡ Bytes c bytes → �
 pub none_is_read : (events : List PlainEvent) → filter is_bytes events ≡ [] → AllByRecursion IsNoRead events
 none_is_read [] none = tt
 none_is_read (Bytes d piece ∷ events) none = absurd cc
-none_is_read (Open d role ∷ events) none = ((λ c bytes e. absurd cc), none_is_read events none)
-none_is_read (Took port n ∷ events) none = ((λ c bytes e. absurd cc), none_is_read events none)
-none_is_read (Close port ∷ events) none = ((λ c bytes e. absurd cc), none_is_read events none)
-none_is_read (Dialed d ok ∷ events) none = ((λ c bytes e. absurd cc), none_is_read events none)
-none_is_read (Turn d ∷ events) none = ((λ c bytes e. absurd cc), none_is_read events none)
-none_is_read (Refuse d ∷ events) none = ((λ c bytes e. absurd cc), none_is_read events none)
-none_is_read (Input channel microvolts ∷ events) none = ((λ c bytes e. absurd cc), none_is_read events none)
-none_is_read (External ∷ events) none = ((λ c bytes e. absurd cc), none_is_read events none)
-none_is_read (Tick ∷ events) none = ((λ c bytes e. absurd cc), none_is_read events none)
+none_is_read (_ ∷ events) none = ((λ c bytes e. absurd cc), none_is_read events none)
 
 -- ---- the logs of a history and of its continuation
 
 abbrev pub acts_brought : ℕ → List PlainEvent → List ConnAct
 acts_brought c events = flat_map (brings c) events
 
--- The history before some events has a log of its own.
-pub log_before_events : (config : Config) (events history : List PlainEvent) (log : List Act) → IsLogOf config (events ++ history) log
-    → (front : List Act) × IsLogOf config history front
-log_before_events config [] history log is = (log, is)
-log_before_events config (event ∷ events) history log is = log_before_events config events history is.0 is.4
-
-pub empty_append_both : (xs ys : List ConnAct) → xs ++ ys ≡ [] → (xs ≡ []) × (ys ≡ [])
+pub empty_append_both : {A : Type 0} (xs ys : List A) → xs ++ ys ≡ [] → (xs ≡ []) × (ys ≡ [])
 empty_append_both [] ys e = (refl, e)
 empty_append_both (x ∷ xs) ys e = absurd cc
-
-pub append_of_calls : (one other : List ConnAct) → AreCallActs one → AreCallActs other → AreCallActs (one ++ other)
-append_of_calls [] other h k = k
-append_of_calls (CallTaken call ∷ one) other h k = append_of_calls one other h k
-append_of_calls (Faulted ∷ one) other h k = append_of_calls one other h k
-append_of_calls (Replied bytes ∷ one) other h k = append_of_calls one other h k
-append_of_calls (Opened role ∷ one) other h k = absurd h
-append_of_calls (Piece bytes ∷ one) other h k = absurd h
-append_of_calls (BytesTaken count ∷ one) other h k = absurd h
-append_of_calls (PortClosed ∷ one) other h k = absurd h
 
 -- Events that don't open, read, write or close a connection add only acts of calls to it.
 pub only_calls_over_events : (config : Config) (events history : List PlainEvent) (front log : List Act) (c : ℕ)
@@ -94,10 +70,7 @@ within_after_calls (Faulted ∷ adds) acts h k = within_after_calls adds acts h 
 within_after_calls (Replied bytes ∷ adds) acts h k = λ opened.
     let le = within_after_calls adds acts h k opened in
     let sum = length-append (bytes_sent (adds ++ acts)) bytes in omega (arith, le, sum)
-within_after_calls (Opened role ∷ adds) acts h k = absurd h
-within_after_calls (Piece bytes ∷ adds) acts h k = absurd h
-within_after_calls (BytesTaken count ∷ adds) acts h k = absurd h
-within_after_calls (PortClosed ∷ adds) acts h k = absurd h
+within_after_calls (_ ∷ adds) acts h k = absurd h
 
 pub took_not_too_many : (shut few : Bool) → cond shut (Some NoConn) (cond few (Some NotSent) None) ≡ None → few ≡ false
 took_not_too_many true few e = absurd cc
@@ -126,14 +99,7 @@ within_after_event config channel_log (Close (Conn d)) log c free h = elim (case
   | inl e ↦ rw e (λ opened. absurd cc)
   | inr e ↦ rw e h
 ]
-within_after_event config channel_log (Took (Intr d) n) log c free h = h
-within_after_event config channel_log (Close (Intr d)) log c free h = h
-within_after_event config channel_log (Turn d) log c free h = h
-within_after_event config channel_log (Refuse d) log c free h = h
-within_after_event config channel_log (Dialed d ok) log c free h = h
-within_after_event config channel_log (Input channel microvolts) log c free h = h
-within_after_event config channel_log External log c free h = h
-within_after_event config channel_log Tick log c free h = h
+within_after_event config channel_log _ log c free h = h
 
 pub taken_within_sent : (config : Config) (history : List PlainEvent) (log : List Act) (c : ℕ) → IsLogOf config history log
     → IsWithin (of c log)
@@ -149,10 +115,7 @@ is_open_after_calls [] acts h = refl
 is_open_after_calls (CallTaken call ∷ adds) acts h = is_open_after_calls adds acts h
 is_open_after_calls (Faulted ∷ adds) acts h = is_open_after_calls adds acts h
 is_open_after_calls (Replied bytes ∷ adds) acts h = is_open_after_calls adds acts h
-is_open_after_calls (Opened role ∷ adds) acts h = absurd h
-is_open_after_calls (Piece bytes ∷ adds) acts h = absurd h
-is_open_after_calls (BytesTaken count ∷ adds) acts h = absurd h
-is_open_after_calls (PortClosed ∷ adds) acts h = absurd h
+is_open_after_calls (_ ∷ adds) acts h = absurd h
 
 pub sent_after_calls : (adds acts : List ConnAct) → AreCallActs adds
     → (bytes_taken (adds ++ acts) ≡ bytes_taken acts) × (more : List ℕ) × (bytes_sent (adds ++ acts) ≡ bytes_sent acts ++ more)
@@ -162,10 +125,7 @@ sent_after_calls (Faulted ∷ adds) acts h = sent_after_calls adds acts h
 sent_after_calls (Replied bytes ∷ adds) acts h =
     let rest = sent_after_calls adds acts h in
     (rest.0, rest.1 ++ bytes, ap (λ (l : List ℕ). l ++ bytes) rest.2 ∙ append_assoc (bytes_sent acts) rest.1 bytes)
-sent_after_calls (Opened role ∷ adds) acts h = absurd h
-sent_after_calls (Piece bytes ∷ adds) acts h = absurd h
-sent_after_calls (BytesTaken count ∷ adds) acts h = absurd h
-sent_after_calls (PortClosed ∷ adds) acts h = absurd h
+sent_after_calls (_ ∷ adds) acts h = absurd h
 
 pub waiting_after_calls : (adds acts : List ConnAct) → AreCallActs adds → IsWithin acts
     → (more : List ℕ) × (waiting (adds ++ acts) ≡ waiting acts ++ more)
@@ -197,34 +157,17 @@ brought_outer c (Open d role ∷ events) = ap (λ (l : List ConnAct). brings c (
 brought_outer c (Bytes d piece ∷ events) = ap (λ (l : List ConnAct). brings c (Bytes d piece) ++ l) (brought_outer c events)
 brought_outer c (Took port n ∷ events) = ap (λ (l : List ConnAct). brings c (Took port n) ++ l) (brought_outer c events)
 brought_outer c (Close port ∷ events) = ap (λ (l : List ConnAct). brings c (Close port) ++ l) (brought_outer c events)
-brought_outer c (Dialed d ok ∷ events) = brought_outer c events
-brought_outer c (Turn d ∷ events) = brought_outer c events
-brought_outer c (Refuse d ∷ events) = brought_outer c events
-brought_outer c (Input channel microvolts ∷ events) = brought_outer c events
-brought_outer c (External ∷ events) = brought_outer c events
-brought_outer c (Tick ∷ events) = brought_outer c events
+brought_outer c (_ ∷ events) = brought_outer c events
 
 pub brought_heard : (c : ℕ) (heard : Heard) → Elsewhere c (about heard) → acts_brought c (event_of heard) ≡ []
 brought_heard c (WasAccepted role (Some d) (Got all)) ne = rw (ne_eqb d c ne) refl
-brought_heard c (WasAccepted role (Some d) Pending) ne = refl
-brought_heard c (WasAccepted role (Some d) Failed) ne = refl
-brought_heard c (WasAccepted role None answer) ne = refl
 brought_heard c (WasRead d most answer) ne = absurd ne
-brought_heard c (WasProbed d drops answer) ne = refl
 brought_heard c (WasWritten (Conn d) bytes (Got n)) ne = rw (ne_eqb d c ne) refl
-brought_heard c (WasWritten (Conn d) bytes Pending) ne = refl
-brought_heard c (WasWritten (Conn d) bytes Failed) ne = refl
 brought_heard c (WasWritten (Intr d) bytes (Got n)) ne = refl
-brought_heard c (WasWritten (Intr d) bytes Pending) ne = refl
-brought_heard c (WasWritten (Intr d) bytes Failed) ne = refl
 brought_heard c (WasDialed d dial (Got all)) ne = refl
-brought_heard c (WasDialed d dial Pending) ne = refl
-brought_heard c (WasDialed d dial Failed) ne = refl
 brought_heard c (PeerAnswered d (Got all)) ne = refl
-brought_heard c (PeerAnswered d Pending) ne = refl
-brought_heard c (PeerAnswered d Failed) ne = refl
 brought_heard c (WasClosed (Conn d)) ne = rw (ne_eqb d c ne) refl
-brought_heard c (WasClosed (Intr d)) ne = refl
+brought_heard c _ ne = refl
 
 pub brought_piece : (c : ℕ) (piece : List Heard) → AllMay (Elsewhere c) piece → acts_brought c (flat_map event_of piece) ≡ []
 brought_piece c [] all = refl
@@ -233,38 +176,18 @@ brought_piece c (heard ∷ piece) all = flat_map-append (brings c) (event_of hea
 
 pub bytes_outer : (events : List PlainEvent) → filter is_bytes events ≡ filter is_bytes (filter is_outer events)
 bytes_outer [] = refl
-bytes_outer (Open d role ∷ events) = bytes_outer events
 bytes_outer (Bytes d piece ∷ events) = ap (λ (l : List PlainEvent). Bytes d piece ∷ l) (bytes_outer events)
-bytes_outer (Took port n ∷ events) = bytes_outer events
-bytes_outer (Close port ∷ events) = bytes_outer events
-bytes_outer (Dialed d ok ∷ events) = bytes_outer events
-bytes_outer (Turn d ∷ events) = bytes_outer events
-bytes_outer (Refuse d ∷ events) = bytes_outer events
-bytes_outer (Input channel microvolts ∷ events) = bytes_outer events
-bytes_outer (External ∷ events) = bytes_outer events
-bytes_outer (Tick ∷ events) = bytes_outer events
+bytes_outer (_ ∷ events) = bytes_outer events
 
 pub bytes_heard : (heard : Heard) → Unread (about heard) → filter is_bytes (event_of heard) ≡ []
 bytes_heard (WasAccepted role (Some d) (Got all)) un = refl
-bytes_heard (WasAccepted role (Some d) Pending) un = refl
-bytes_heard (WasAccepted role (Some d) Failed) un = refl
-bytes_heard (WasAccepted role None answer) un = refl
 bytes_heard (WasRead d most answer) un = absurd un
-bytes_heard (WasProbed d drops answer) un = refl
 bytes_heard (WasWritten (Conn d) bytes (Got n)) un = refl
-bytes_heard (WasWritten (Conn d) bytes Pending) un = refl
-bytes_heard (WasWritten (Conn d) bytes Failed) un = refl
 bytes_heard (WasWritten (Intr d) bytes (Got n)) un = refl
-bytes_heard (WasWritten (Intr d) bytes Pending) un = refl
-bytes_heard (WasWritten (Intr d) bytes Failed) un = refl
 bytes_heard (WasDialed d dial (Got all)) un = refl
-bytes_heard (WasDialed d dial Pending) un = refl
-bytes_heard (WasDialed d dial Failed) un = refl
 bytes_heard (PeerAnswered d (Got all)) un = refl
-bytes_heard (PeerAnswered d Pending) un = refl
-bytes_heard (PeerAnswered d Failed) un = refl
 bytes_heard (WasClosed (Conn d)) un = refl
-bytes_heard (WasClosed (Intr d)) un = refl
+bytes_heard _ un = refl
 
 pub bytes_piece : (piece : List Heard) → AllMay Unread piece → filter is_bytes (flat_map event_of piece) ≡ []
 bytes_piece [] all = refl

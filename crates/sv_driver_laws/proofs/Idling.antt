@@ -64,9 +64,7 @@ applied_idles event config a b e k given = given_idles event (Ok Done) config a 
 opens_idles : {W : Type 0} (role : Role) (number : Option ℕ) (answer : Answer ⊤) (config : Config) (a b : DriverView W)
     → Opens role number answer config a b → Idles a b
 opens_idles role (Some c) (Got all) config a b h = applied_idles (Open c role) config a b refl refl h
-opens_idles role (Some c) Pending config a b is = idles_refl a b is
-opens_idles role (Some c) Failed config a b is = idles_refl a b is
-opens_idles role None answer config a b is = idles_refl a b is
+opens_idles role _ _ config a b is = idles_refl a b is
 
 pub accepts_idles : {W : Type 0} (hears : W → Heard → W → Type 0) (role : Role) (config : Config) (a b : DriverView W)
     → Accepts hears role config a b → Idles a b

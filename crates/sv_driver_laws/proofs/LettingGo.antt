@@ -11,6 +11,7 @@ use Rattle.sv_serve.specs.Heard.{Heard, WasClosed}
 use Rattle.sv_driver_laws.specs.Served.{event_of, is_outer}
 use Rattle.sv_driver_laws.specs.Carried.{ends_port, EachHeard, Follows, Once}
 use Rattle.sv_driver_laws.proofs.Reasons.{once_in_longer_history}
+use Rattle.std.proofs.lemmas.Bool.{not-false}
 
 abbrev pub IsShut : ℕ → Config → List PlainEvent → Type 0
 IsShut c config earlier = (log : List Act) × IsLogOf config earlier log × (is_port_shut (Intr c) log ≡ true)
@@ -77,13 +78,9 @@ pub shut_is_reason : (c d : ℕ) (config : Config) (history : List PlainEvent) (
 shut_is_reason c d config history trace log was shut so e =
     inr ([], history, refl, so, (log, was, subst (λ (n : ℕ). is_port_shut (Intr n) log ≡ true) (some_is_injective c d e) shut))
 
-shut_by : (shut : Bool) → false ≡ not shut → shut ≡ true
-shut_by true e = refl
-shut_by false e = absurd cc
-
 pub unwanted_is_shut : (channel wanted shut : Bool) → (channel || wanted) ≡ false → channel ≡ not shut → shut ≡ true
 unwanted_is_shut true wanted shut e is = absurd cc
-unwanted_is_shut false wanted shut e is = shut_by shut is
+unwanted_is_shut false wanted shut e is = not-false shut (sym is)
 
 pub closes_rightly_event : (config : Config) (before after : List PlainEvent) (event : PlainEvent) (heard : Heard)
     (newer older trace : List Heard) (hung : Option ℕ)

@@ -79,9 +79,7 @@ happens_grows P event config a b so given = given_grows P event (Ok Done) config
 pub opens_grows : {W : Type 0} (P : PlainEvent → Type 0) (role : Role) (number : Option ℕ) (answer : Answer ⊤) (config : Config)
     (a b : DriverView W) → ((c : ℕ) → P (Open c role)) → Opens role number answer config a b → Grows P a b
 opens_grows P role (Some c) (Got all) config a b so h = happens_grows P (Open c role) config a b (so c) h
-opens_grows P role (Some c) Pending config a b so is = grows_refl P a b is
-opens_grows P role (Some c) Failed config a b so is = grows_refl P a b is
-opens_grows P role None answer config a b so is = grows_refl P a b is
+opens_grows P role _ _ config a b so is = grows_refl P a b is
 
 pub accepts_grows : {W : Type 0} (P : PlainEvent → Type 0) (hears : W → Heard → W → Type 0) (role : Role) (config : Config)
     (a b : DriverView W) → ((c : ℕ) → P (Open c role)) → Accepts hears role config a b → Grows P a b

@@ -1,8 +1,7 @@
 -- What reads and writes of the wire do to the bytes of a connection, and of its interrupt channel.
-use Rattle.std.proofs.Common.{◌≡◌, ℕ, zero, suc, ◌+◌, ◌-◌, ◌≤◌, eqb, ltb, flat_map, drop_at, true, false, List, [], ◌∷◌, ◌++◌, length, take, drop, Some, refl, sym, ap, subst, ◌∙◌, inl, inr, append_assoc, append-nil, arith}
+use Rattle.std.proofs.Common.{◌≡◌, ℕ, zero, suc, ◌+◌, ◌-◌, ◌≤◌, eqb, ltb, true, false, List, [], ◌∷◌, ◌++◌, length, take, drop, Some, refl, sym, ap, subst, ◌∙◌, inl, inr, append_assoc, append-nil, arith}
 use Rattle.std.specs.Prelude.{⊤}
 use Rattle.std.specs.List.{concat}
-use Rattle.std.proofs.lemmas.List.Concat.{flat_map-append, concat_is}
 use Rattle.std.proofs.lemmas.Bool.{ltb-true, ltb-false}
 use Rattle.sv_links.specs.declared.request.Peer.{Peer}
 use Rattle.sv_links.specs.Channels.{ChannelAct, ChannelOpened, ChannelTaken, is_channel_open, bytes_taken as channel_taken, calls, calls_left as untaken_calls, waiting as channel_waiting}
@@ -13,7 +12,7 @@ use Rattle.sv_history.specs.declared.event.Role.{Role}
 use Rattle.sv_history.specs.declared.event.Port.{Port}
 use Rattle.sv_history.specs.declared.event.Port.TheVariants.{Conn, Intr}
 use Rattle.sv_history.specs.Event.{PlainEvent, Open, Bytes, Took, Close}
-use Rattle.sv_history.specs.Act.{Act, ConnAct, Opened, Piece, CallTaken, Faulted, Replied, BytesTaken, PortClosed, of, device_acts}
+use Rattle.sv_history.specs.Act.{Act, ConnAct, CallTaken, Faulted, Replied, of, device_acts}
 use Rattle.sv_history.specs.Requests.{HearsOf}
 use Rattle.sv_history.specs.Connection.{is_open, bytes_left, waiting, stream, bytes_sent, bytes_taken}
 use Rattle.sv_history.specs.History.{IsLogOf}
@@ -22,6 +21,8 @@ use Rattle.sv_serve.specs.declared.wire.Answer.TheVariants.{Got}
 use Rattle.sv_serve.specs.Heard.{Heard, WasAccepted, WasRead, WasWritten, WasClosed}
 use Rattle.sv_driver_laws.specs.Served.{event_of}
 use Rattle.sv_driver_laws.specs.Carried.{begins, read, taken_bytes, since}
+use Rattle.sv_links.proofs.Left.{drop_past}
+use Rattle.std.proofs.lemmas.List.Folds.{concat-append}
 
 -- ---- one connection
 
@@ -59,10 +60,7 @@ holds_calls (Replied bytes ∷ adds) acts came went h k =
           let both = was.1 opened in
           sent_more went (bytes_sent (adds ++ acts)) bytes (bytes_taken (adds ++ acts)) both.0 both.1),
     )
-holds_calls (Opened role ∷ adds) acts came went h k = absurd h
-holds_calls (Piece bytes ∷ adds) acts came went h k = absurd h
-holds_calls (BytesTaken count ∷ adds) acts came went h k = absurd h
-holds_calls (PortClosed ∷ adds) acts came went h k = absurd h
+holds_calls (_ ∷ adds) acts came went h k = absurd h
 
 -- ---- one interrupt channel
 
@@ -71,26 +69,15 @@ ChannelBytes c channel_log gone = is_channel_open c channel_log ≡ true
     → (gone ++ drop (channel_taken c channel_log) (concat (calls c channel_log)) ≡ concat (calls c channel_log))
     × (channel_taken c channel_log ≤ length (concat (calls c channel_log)))
 
-pub concat_of_append : (xs ys : List (List ℕ)) → concat (xs ++ ys) ≡ concat xs ++ concat ys
-concat_of_append xs ys = concat_is (xs ++ ys) ∙ flat_map-append (λ (x : List ℕ). x) xs ys
-    ∙ ap (λ (l : List ℕ). l ++ flat_map (λ (x : List ℕ). x) ys) (sym (concat_is xs)) ∙ ap (λ (l : List ℕ). concat xs ++ l) (sym
-    (concat_is ys))
-
 holds_adds : (c : ℕ) (before after : List ChannelAct) (gone : List ℕ) → OnlyAdds c before after → ChannelBytes c before gone
     → ChannelBytes c after gone
 holds_adds c before after gone adds h opened =
     let a = adds opened in
     let both = h a.0 in
-    let all : concat (calls c after) ≡ concat (calls c before) ++ concat a.2 = ap concat a.3 ∙ concat_of_append (calls c before) a.2 in
+    let all : concat (calls c after) ≡ concat (calls c before) ++ concat a.2 = ap concat a.3 ∙ concat-append (calls c before) a.2 in
     rw (a.1, all) (sent_more gone (concat (calls c before)) (concat a.2) (channel_taken c before) both.0 both.1)
 
 -- The calls that remain after some bytes were taken have exactly the bytes that remain.
-drop_past : (count : ℕ) (xs ys : List ℕ) → length xs ≤ count → drop count (xs ++ ys) ≡ drop (count - length xs) ys
-drop_past count xs ys h =
-    let both : length xs + (count - length xs) ≡ count = omega arith in
-    ap (λ (n : ℕ). drop n (xs ++ ys)) (sym both) ∙ sym (drop-drop (count - length xs) (length xs) (xs ++ ys))
-    ∙ ap (drop (count - length xs)) (drop_at xs ys (length xs) refl)
-
 pub untaken_calls_bytes : (count : ℕ) (calls : List (List ℕ)) → concat (untaken_calls count calls) ≡ drop count (concat calls)
 untaken_calls_bytes zero [] = refl
 untaken_calls_bytes (suc count) [] = refl

@@ -98,9 +98,7 @@ pub lift_opens : {W : Type 0} (hears : W → Heard → W → Type 0) (role : Rol
     (a b : DriverView W) (trace : List Heard) → Opens role number answer config a b
     → Lifts hears (Opens role number answer) config a b trace
 lift_opens hears role (Some c) (Got all) config a b trace h = lift_given hears _ (Ok Done) config a b trace h
-lift_opens hears role (Some c) Pending config a b trace h = lift_same hears config a b trace h
-lift_opens hears role (Some c) Failed config a b trace h = lift_same hears config a b trace h
-lift_opens hears role None answer config a b trace h = lift_same hears config a b trace h
+lift_opens hears role _ _ config a b trace h = lift_same hears config a b trace h
 
 pub lift_accepts : {W : Type 0} (hears : W → Heard → W → Type 0) (role : Role) (config : Config) (a b : DriverView W) (trace : List Heard)
     → Accepts hears role config a b → Lifts hears (Accepts Records role) config a b trace

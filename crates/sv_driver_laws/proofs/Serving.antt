@@ -1,6 +1,6 @@
 -- A sweep serves each connection (`IsServed`).
-use Rattle.std.proofs.Common.{◌≡◌, ◌⊎◌, ℕ, zero, suc, ◌<◌, ◌≤◌, Bool, true, false, List, [], ◌∷◌, ◌++◌, length, filter, nat_lt, Some, None, refl, sym, ap, subst, subst₂, ◌∙◌, inl, inr, append_assoc, arith}
-use Rattle.std.specs.Prelude.{⊤, ◌||◌}
+use Rattle.std.proofs.Common.{◌≡◌, ◌⊎◌, ℕ, zero, suc, ◌<◌, ◌≤◌, true, false, List, [], ◌∷◌, ◌++◌, length, filter, nat_lt, Some, None, refl, sym, ap, subst, subst₂, ◌∙◌, inl, inr, append_assoc, arith}
+use Rattle.std.specs.Prelude.{⊤}
 use Rattle.std.specs.List.{AllByRecursion}
 use Rattle.std.proofs.lemmas.List.{append_cancel_right}
 use Rattle.std.proofs.lemmas.List.Concat.{flat_map-append}
@@ -21,7 +21,7 @@ use Rattle.sv_history.specs.History.{is_port_shut, IsLogOf}
 use Rattle.sv_history.proofs.AlwaysTold.{channel_log_exists}
 use Rattle.sv_history.proofs.Telling.{channel_open_by_channel_log}
 use Rattle.sv_laws.proofs.Brought.{brings}
-use Rattle.sv_laws.proofs.OneLog.{one_log}
+use Rattle.sv_laws.proofs.OneLog.{one_log, earlier_log}
 use Rattle.sv_server.specs.Server.State.{StandsFor}
 use Rattle.sv_serve.specs.declared.wire.Answer.{Answer}
 use Rattle.sv_serve.specs.declared.wire.Answer.TheVariants.{Got, Pending, Failed}
@@ -36,8 +36,9 @@ use Rattle.sv_driver_laws.proofs.Peers.{passes}
 use Rattle.sv_driver_laws.proofs.Whole.{IsIn, IsPeerAsked, is_asked, found_more, found_front, IsBetween, dial_phase, Wrote, wrote_front, wrote_back, front_is_written, OnlyAddsToChannel, untold_port, shut_more, intr_phase}
 use Rattle.sv_driver_laws.proofs.Parts.{Grows, OnPortEvents, grows_trans, grows_each, grows_weaker, grown_events_satisfy, accepts_grows, reads_grows, turns_grows, dials_grows, passes_grows, writes_grows, ends_grows, takes_below, once_taken}
 use Rattle.sv_driver_laws.proofs.Carrying.{accepts, reads, write_by, ends}
-use Rattle.sv_driver_laws.proofs.GoingOn.{acts_brought, none_is_read, log_before_events, only_calls_over_events, taken_within_sent, waiting_after_calls, Elsewhere, Unread, may_all}
+use Rattle.sv_driver_laws.proofs.GoingOn.{acts_brought, none_is_read, only_calls_over_events, taken_within_sent, waiting_after_calls, Elsewhere, Unread, may_all, empty_append_both}
 use Rattle.sv_driver_laws.proofs.Turned.{Turned, Offered, had_turn_more_events, offered_more, Nobody, keeps_unread, keeps_elsewhere, turned_keeps, turn_phase}
+use mathlib.Core.Bool.{or-true}
 
 -- ---- bytes that wait are written
 
@@ -48,8 +49,7 @@ IsMine c OfNone = ⊤
 
 pub mine_unread : (c : ℕ) (s : Subject) → IsMine c s → Unread s
 mine_unread c (OfRead d) h = absurd h
-mine_unread c (OfConn d) h = tt
-mine_unread c OfNone h = tt
+mine_unread c _ h = tt
 
 pub mine_elsewhere : (c d : ℕ) → c < d → (s : Subject) → IsMine c s → Elsewhere d s
 mine_elsewhere c d lt (OfRead e) h = absurd h
@@ -96,10 +96,6 @@ pub record WriteStep {W : Type 0} (hears : W → Heard → W
   pub wrote : (log : List Act) → IsLogOf config x.history log
       → (waiting (of c log) ≡ []) ⊎ ((answer : Answer ℕ) × IsIn (WasWritten (Conn c) (waiting (of c log)) answer) k.piece)
 
-pub empty_append_first : (xs ys : List ℕ) → [] ≡ xs ++ ys → xs ≡ []
-empty_append_first [] ys e = refl
-empty_append_first (x ∷ xs) ys e = absurd cc
-
 -- The bytes that waited after the turn come first among those that wait now.
 pub waited_in_front : (config : Config) (c : ℕ) (history events : List PlainEvent) (log after : List Act)
     → (t : Turned config c history events) → IsLogOf config (events ++ history) log
@@ -122,7 +118,7 @@ write_step hears config c x y history events piece lt is t (bytes, (log, channel
     had = t.had;
     offers = λ after so.
         let still = waited_in_front config c history events log after t (subst (λ h. IsLogOf config h log) is was) so in
-        inl (empty_append_first (waiting (of c after)) still.0 (sym none ∙ waits ∙ still.1));
+        inl (empty_append_both (waiting (of c after)) still.0 (sym (sym none ∙ waits ∙ still.1))).0;
   };
   wrote = λ other also. inl (ap (λ (l : List Act). waiting (of c l)) (one_log config x.history other log also was) ∙ sym waits ∙ none);
 }
@@ -314,12 +310,8 @@ still_shut : (c : ℕ) (end : List Act) (channel_log : List ChannelAct) → Hear
     → is_channel_open c channel_log ≡ false → is_port_shut (Intr c) end ≡ true
 still_shut c end channel_log hears_of shut =
     let none : has_channel c (device_acts end) ≡ false = sym (channel_open_by_channel_log c (device_acts end) channel_log hears_of)
-    ∙ shut in
-    rw none (either (nat_lt 15 c))
-  where
-    either : (b : Bool) → (b || true) ≡ true
-    either true = refl
-    either false = refl
+        ∙ shut in
+    rw none (or-true (nat_lt 15 c))
 
 by_port : (P : Port → Type 0) → ((c : ℕ) → P (Conn c)) → ((c : ℕ) → P (Intr c)) → (port : Port) → P port
 by_port P conn intr (Conn c) = conn c
@@ -396,7 +388,7 @@ sweep_once hears config ticks m0 m10 (m1, s1, (m2, s2, (m3, s3, (m4, s4, (m5, s5
                 let later = rest.events ++ writes_all.k.events in
                 let grown : m10.history ≡ later ++ m7.history = rest.grown ∙ ap (λ h. rest.events ++ h) writes_all.k.grown
                 ∙ sym (append_assoc rest.events writes_all.k.events m7.history) in
-                let front = log_before_events config later m7.history end (subst (λ h. IsLogOf config h end) grown is_end) in
+                let front = earlier_log config later m7.history end (subst (λ h. IsLogOf config h end) grown is_end) in
                 let told = channel_log_exists (device_acts front.0) in (
                   k7.events,
                   later,
@@ -440,7 +432,7 @@ serves config c history events piece log is t =
     let parts : events ++ history ≡ t.behind ++ (t.turn ++ (t.first ++ history)) =
     ap (λ e. e ++ history) t.split ∙ append_assoc t.behind (t.turn ++ t.first) history
     ∙ ap (λ e. t.behind ++ e) (append_assoc t.turn t.first history) in
-    let front = log_before_events config t.behind (t.turn ++ (t.first ++ history)) log (subst (λ e. IsLogOf config e log) parts is) in (
+    let front = earlier_log config t.behind (t.turn ++ (t.first ++ history)) log (subst (λ e. IsLogOf config e log) parts is) in (
       t.first,
       t.turn,
       t.behind,

@@ -3,7 +3,6 @@ use Rattle.std.proofs.Common.{◌≡◌, ℕ, zero, suc, ◌+◌, ◌-◌, ◌<�
 use Rattle.std.specs.Prelude.{◌==◌, ⊤, if◌then◌else◌}
 use Rattle.std.proofs.Math.Nat.{eq-or-lt_of_le}
 use Rattle.std.proofs.lemmas.Bool.{ne_eqb, cond_both}
-use Rattle.sv_links.specs.Channels.{ChannelAct}
 use Rattle.sv_history.specs.declared.event.Config.{Config}
 use Rattle.sv_history.specs.declared.event.Did.{Did}
 use Rattle.sv_history.specs.declared.event.Did.TheVariants.{Done}
@@ -11,7 +10,7 @@ use Rattle.sv_history.specs.declared.event.Refused.{Refused}
 use Rattle.sv_history.specs.declared.event.Role.TheVariants.{Core, Abort, Portmap}
 use Rattle.sv_history.specs.declared.event.Port.TheVariants.{Conn, Intr}
 use Rattle.sv_history.specs.Event.{PlainEvent, Tick}
-use Rattle.sv_history.specs.Act.{Act, device_acts}
+use Rattle.sv_history.specs.Act.{device_acts}
 use Rattle.sv_history.specs.History.{last_clock, history_after}
 use Rattle.sv_history.proofs.AlwaysTold.{channel_log_exists}
 use Rattle.sv_replay.specs.Entry.{stimulus_event, IsAccepted}
@@ -19,7 +18,6 @@ use Rattle.sv_replay.specs.Scenario.{IsScenario}
 use Rattle.sv_replay.specs.declared.entry.Entry.{Entry}
 use Rattle.sv_replay.specs.declared.entry.Stimulus.{Stimulus}
 use Rattle.sv_replay.specs.declared.entry.Stimulus.TheVariants as stimuli
-use Rattle.sv_laws.specs.Laws.{Suits}
 use Rattle.sv_laws.proofs.Brought.{is_tick}
 use Rattle.sv_laws.proofs.TicksTaken.{ticks_taken}
 use Rattle.sv_serve.specs.Heard.{Heard}
@@ -29,6 +27,7 @@ use Rattle.sv_serve.specs.Sweep.{PlaysOne, IsNoneDue, Plays, most_ticks, Counts,
 use Rattle.sv_driver_laws.specs.Timed.{is_timed, entry_events, time_events, handed_ticks, with_entry}
 use Rattle.sv_driver_laws.proofs.Keeps.{allowed_event_is_applied}
 use Rattle.sv_driver_laws.proofs.Idling.{Idles, idles_refl, idles_trans, idles_each, accepts_idles, reads_idles, turns_idles, dials_idles, writes_idles, ends_idles}
+use Rattle.sv_serve.proofs.Suited.{stimulus_suits}
 
 -- ---- entries of the scenario by their milliseconds
 
@@ -119,11 +118,6 @@ timed_here config s n k a p none =
 stimulus_timed : (stimulus : Stimulus) → (is_timed (stimulus_event stimulus) ≡ true) × (is_tick (stimulus_event stimulus) ≡ false)
 stimulus_timed (stimuli.Input channel microvolts) = (refl, refl)
 stimulus_timed stimuli.External = (refl, refl)
-
-stimulus_suits : (stimulus : Stimulus) (channel_log : List ChannelAct) (log : List Act) → IsAccepted stimulus
-    → Suits (stimulus_event stimulus) channel_log log
-stimulus_suits (stimuli.Input channel microvolts) channel_log log h = h
-stimulus_suits stimuli.External channel_log log h = tt
 
 play_one : {W : Type 0} (config : Config) (s : List Entry) (n k : ℕ) (a b : DriverView W) → PlaysOne config a b → InPlay config s n k a
     → InPlay config s n k b

@@ -3,7 +3,7 @@
 use Rattle.std.proofs.Common.{◌≡◌, ◌⊎◌, ℕ, zero, suc, ◌<◌, ◌≤◌, Bool, true, false, cond, List, [], ◌∷◌, ◌++◌, filter, nat_lt, Option, Some, None, Result, Ok, Err, refl, sym, ap, subst, ◌∙◌, inl, inr, append_assoc, arith, le-ltb}
 use Rattle.std.specs.Prelude.{not, ◌||◌, is_some}
 use Rattle.std.proofs.Math.Nat.{eq-or-lt_of_le}
-use Rattle.std.proofs.lemmas.Bool.{ltb-true}
+use Rattle.std.proofs.lemmas.Bool.{ltb-true, not-true, not-false}
 use Rattle.std.proofs.lemmas.List.Elements.{filter-append}
 use Rattle.std.proofs.lemmas.List.Concat.{flat_map-append}
 use Rattle.sv_links.specs.Channels.{ChannelAct}
@@ -15,7 +15,7 @@ use Rattle.sv_history.specs.declared.event.Refused.TheVariants.{NoMemory, NoConn
 use Rattle.sv_history.specs.declared.event.Role.{Role}
 use Rattle.sv_history.specs.declared.event.Port.TheVariants.{Conn}
 use Rattle.sv_history.specs.Event.{PlainEvent, Turn, Refuse}
-use Rattle.sv_history.specs.Act.{Act, ConnAct, Opened, Piece, CallTaken, Faulted, Replied, BytesTaken, PortClosed, of}
+use Rattle.sv_history.specs.Act.{Act, ConnAct, PortClosed, of}
 use Rattle.sv_history.specs.Connection.{is_open, waiting, is_idle, free, open_role, bytes_taken}
 use Rattle.sv_history.specs.Limits.{longest_reply}
 use Rattle.sv_history.specs.History.{refusal, IsLogOf, Answers}
@@ -150,23 +150,10 @@ pub record TurnStep {W : Type 0} (hears : W → Heard → W
   pub k : Keeps hears Nobody config x y
   pub turned : Turned config c history (k.events ++ events)
 
-pub not_ready_is_idle : (b : Bool) → false ≡ not b → b ≡ true
-not_ready_is_idle true e = refl
-not_ready_is_idle false e = absurd cc
-
-pub ready_is_not_idle : (b : Bool) → true ≡ not b → b ≡ false
-ready_is_not_idle true e = absurd cc
-ready_is_not_idle false e = refl
-
 pub clear_idle : (acts : List ConnAct) → IsClear acts → false ≡ not (is_idle acts)
 clear_idle [] h = nothing_idle [] refl
 clear_idle (PortClosed ∷ acts) h = nothing_idle [] refl
-clear_idle (Opened role ∷ acts) h = absurd h
-clear_idle (Piece bytes ∷ acts) h = absurd h
-clear_idle (CallTaken call ∷ acts) h = absurd h
-clear_idle (Faulted ∷ acts) h = absurd h
-clear_idle (Replied bytes ∷ acts) h = absurd h
-clear_idle (BytesTaken count ∷ acts) h = absurd h
+clear_idle (_ ∷ acts) h = absurd h
 
 pub role_none : (found : Option Role) → is_some found ≡ false → found ≡ None
 role_none (Some role) e = absurd cc
@@ -188,12 +175,12 @@ pub refused_turn_has_no_room : (config : Config) (history : List PlainEvent) (lo
     → c < 16 → IsLogOf config history log → true ≡ not (is_idle (of c log)) → refusal config channel_log (Turn c) log ≡ Some refused
     → free (of c log) < longest_reply
 refused_turn_has_no_room config history log c channel_log refused lt was ready h =
-    let busy = ready_is_not_idle (is_idle (of c log)) ready in
+    let busy = not-true (is_idle (of c log)) (sym ready) in
     ltb-true (free (of c log)) longest_reply (refused_turn_has_no_room_by (nat_lt 15 c) (is_open (of c log)) (is_idle (of c log))
     (nat_lt (free (of c log)) longest_reply) refused h (le-ltb 15 c (omega (arith, lt))) busy
     (λ shut.
-    let idle = not_ready_is_idle (is_idle (of c log)) (clear_idle (of c log) (shut_is_clear config history log c was
-    (role_none (open_role (of c log)) shut))) in
+    let idle = not-false (is_idle (of c log)) (sym (clear_idle (of c log) (shut_is_clear config history log c was
+    (role_none (open_role (of c log)) shut)))) in
     let z : true ≡ false = sym idle ∙ busy in cc))
 
 pub step_err : {W : Type 0} (hears : W → Heard → W → Type 0) (config : Config) (c : ℕ) (refused : Refused)
@@ -232,7 +219,7 @@ pub step_ready : {W : Type 0} (hears : W → Heard → W → Type 0) (config : C
     → TurnStep hears config c history events x y
 step_ready hears config c false x y history events log lt is was idle same = record {
   k = keeps_none hears Nobody config x y same;
-  turned = turned_by config c x.history history events [] log is was (inr (inr (refl, inl (not_ready_is_idle (is_idle (of c log)) idle))));
+  turned = turned_by config c x.history history events [] log is was (inr (inr (refl, inl (not-false (is_idle (of c log)) (sym idle)))));
 }
 step_ready hears config c true x y history events log lt is was ready (result, (between, bytes_taken, ends)) =
     step_answer hears config c result x between y history events log lt is was ready bytes_taken ends

@@ -12,7 +12,7 @@ use Rattle.sv_history.specs.declared.event.Config.{Config}
 use Rattle.sv_history.specs.declared.event.Dial.{Dial}
 use Rattle.sv_history.specs.declared.event.Port.{Port}
 use Rattle.sv_history.specs.declared.event.Port.TheVariants.{Conn, Intr}
-use Rattle.sv_history.specs.Event.{PlainEvent, Open, Bytes, Turn, Refuse, Took, Close, Dialed, Input, External, Tick}
+use Rattle.sv_history.specs.Event.{PlainEvent, Took, Dialed}
 use Rattle.sv_history.specs.Act.{Act, of, device_acts}
 use Rattle.sv_history.specs.Connection.{waiting_on, pending_call}
 use Rattle.sv_history.specs.Interrupts.{dial_of}
@@ -23,7 +23,7 @@ use Rattle.sv_history.proofs.AlwaysTold.{channel_log_exists}
 use Rattle.sv_history.proofs.Telling.{channel_log_unique}
 use Rattle.sv_laws.proofs.Brought.{tells, opened_to, peer_in, OnlyAdds}
 use Rattle.sv_laws.proofs.OnlyRequests.{only_adds_refl, only_adds_trans, only_requests}
-use Rattle.sv_laws.proofs.OneLog.{one_log}
+use Rattle.sv_laws.proofs.OneLog.{one_log, earlier_log}
 use Rattle.sv_serve.specs.declared.wire.Answer.{Answer}
 use Rattle.sv_serve.specs.declared.wire.Answer.TheVariants.{Got, Pending, Failed}
 use Rattle.sv_serve.specs.Heard.{Heard, WasWritten, WasDialed, PeerAnswered, IsWithin}
@@ -31,12 +31,13 @@ use Rattle.sv_serve.specs.DriverView.{DriverView, ForEach}
 use Rattle.sv_serve.specs.Steps.{dialed_of, ConnectResult, PollResult, DialsFor, Dials, EndsWrite, WritesTo}
 use Rattle.sv_driver_laws.specs.Timed.{is_timed}
 use Rattle.sv_driver_laws.specs.Served.{is_taking, IsDialed}
-use Rattle.sv_driver_laws.proofs.Ports.{concat_of_append, untaken_calls_bytes}
+use Rattle.sv_driver_laws.proofs.Ports.{untaken_calls_bytes}
 use Rattle.sv_driver_laws.proofs.Keeps.{Subject, OfConn, OfNone, Keeps, keeps_none, keeps_then}
 use Rattle.sv_driver_laws.proofs.Peers.{connect_result_keeps, poll_result_keeps, dials_for_keeps, cancels_unwanted_keeps}
 use Rattle.sv_driver_laws.proofs.Carrying.{write_by}
-use Rattle.sv_driver_laws.proofs.GoingOn.{log_before_events, took_not_too_many}
+use Rattle.sv_driver_laws.proofs.GoingOn.{took_not_too_many, empty_append_both}
 use Rattle.sv_driver_laws.proofs.Parts.{Grows, OnPortEvents, grows_refl, grows_trans, grows_each, cancels_unwanted_grows, dials_for_grows, dials_grows, writes_grows}
+use Rattle.std.proofs.lemmas.List.Folds.{concat-append}
 
 -- ---- what a trace contains
 
@@ -185,7 +186,7 @@ within_adds c before after adds h = λ opened.
     let a = adds opened in
     let le = h a.0 in
     let same = a.1 in
-    let all = ap (λ (l : List (List ℕ)). length (concat l)) a.3 ∙ ap length (concat_of_append (calls c before) a.2)
+    let all = ap (λ (l : List (List ℕ)). length (concat l)) a.3 ∙ ap length (concat-append (calls c before) a.2)
     ∙ length-append (concat (calls c before)) (concat a.2) in
     omega (arith, le, same, all)
 
@@ -214,16 +215,7 @@ within_told config (Took (Intr d) n) log c channel_log free h = elim (cases_Bool
 ]
 within_told config (Dialed d true) log c channel_log free h =
     within_opened c d (peer_in (core_call_in (pending_call (of d log)))) channel_log h
-within_told config (Dialed d false) log c channel_log free h = h
-within_told config (Took (Conn d) n) log c channel_log free h = h
-within_told config (Open d role) log c channel_log free h = h
-within_told config (Bytes d piece) log c channel_log free h = h
-within_told config (Turn d) log c channel_log free h = h
-within_told config (Refuse d) log c channel_log free h = h
-within_told config (Close port) log c channel_log free h = h
-within_told config (Input channel microvolts) log c channel_log free h = h
-within_told config External log c channel_log free h = h
-within_told config Tick log c channel_log free h = h
+within_told config _ log c channel_log free h = h
 
 pub within_channel : (config : Config) (history : List PlainEvent) (log : List Act) (channel_log : List ChannelAct) (c : ℕ)
     → IsLogOf config history log → HearsOf (device_acts log) channel_log → TakenWithinSent c channel_log
@@ -274,7 +266,7 @@ waited_in_front : (c : ℕ) (before after : List ChannelAct) → OnlyAdds c befo
     → is_channel_open c after ≡ true → (more : List ℕ) × (channel_waiting c after ≡ channel_waiting c before ++ more)
 waited_in_front c before after adds within opened =
     let a = adds opened in
-    let all : concat (calls c after) ≡ concat (calls c before) ++ concat a.2 = ap concat a.3 ∙ concat_of_append (calls c before) a.2 in (
+    let all : concat (calls c after) ≡ concat (calls c before) ++ concat a.2 = ap concat a.3 ∙ concat-append (calls c before) a.2 in (
       concat a.2,
       rw (opened, a.0) (untaken_calls_bytes (channel_taken c after) (calls c after)
           ∙ ap (λ (k : ℕ). drop k (concat (calls c after))) a.1
@@ -297,14 +289,10 @@ pub wrote_back : (port : Port) (bytes : List ℕ) (piece more : List Heard) → 
 wrote_back port bytes piece more (inl none) = inl none
 wrote_back port bytes piece more (inr (rest, answer, h)) = inr (rest, answer, in_trace_back _ piece more h)
 
-front_none : (xs ys : List ℕ) → xs ++ ys ≡ [] → xs ≡ []
-front_none [] ys e = refl
-front_none (x ∷ xs) ys e = absurd cc
-
 -- A write of all bytes that wait also writes those that come first among them.
 pub front_is_written : (port : Port) (bytes all more : List ℕ) (piece : List Heard) → all ≡ bytes ++ more
     → (all ≡ []) ⊎ ((answer : Answer ℕ) × IsIn (WasWritten port all answer) piece) → Wrote port bytes piece
-front_is_written port bytes all more piece is (inl none) = inl (front_none bytes more (sym is ∙ none))
+front_is_written port bytes all more piece is (inl none) = inl (empty_append_both bytes more (sym is ∙ none)).0
 front_is_written port bytes all more piece is (inr (answer, h)) =
     inr (more, answer, subst (λ (l : List ℕ). IsIn (WasWritten port l answer) piece) is h)
 
@@ -366,7 +354,7 @@ IsShutOn config c at = (log : List Act) (channel_log : List ChannelAct) → IsLo
 pub shut_more : {W : Type 0} (config : Config) (c : ℕ) (a b : DriverView W) → Grows (OnlyAddsToChannel c) a b → IsShutOn config c a
     → IsShutOn config c b
 shut_more config c a b (events, grown, all) shut log channel_log is hears_of =
-    let front = log_before_events config events a.history log (subst (λ h. IsLogOf config h log) grown is) in
+    let front = earlier_log config events a.history log (subst (λ h. IsLogOf config h log) grown is) in
     let told = channel_log_exists (device_acts front.0) in
     let adds = adds_grown config a b front.0 log told.0 channel_log c (events, grown, all) front.1 told.1 is hears_of in
     elim (cases_Bool (is_channel_open c channel_log)) [

@@ -37,8 +37,7 @@ contents_after_unit text at end behind ended mark long told lost answering respo
       later = drop behind text;
       end_pending = mark;
       overlong = long;
-      overrun_reported =
-          told;
+      overrun_reported = told;
       answers_dropped = lost;
       answering = answering;
       output = drop taken response;

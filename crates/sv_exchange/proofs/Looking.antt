@@ -16,6 +16,7 @@ use Rattle.sv_exchange.specs.Exchange.{units, is_something}
 use Rattle.sv_exchange.specs.FirstUnit.{IsFirst}
 use Rattle.sv_exchange.specs.Ahead.{is_separator, IsOpen, IsFound, IsAhead, IsBegun, IsLooked, behind_semicolon, behind_space}
 use Rattle.sv_exchange.specs.declared.ahead.Ahead.{Ahead}
+use Rattle.sv_exchange.proofs.Stands.{nothing_there}
 
 -- The units that these parts leave.
 abbrev kept : List (List ℕ) → List (List ℕ)
@@ -63,10 +64,6 @@ part_unit seen unit space parts some h =
     let is : trim (unit ++ space) ≡ unit = ap trim_end (h.starts some space) ∙ trim_end_over_white unit space h.white ∙ h.ends in
     ap (λ (u : List ℕ). cond (is_something u) (u ∷ kept parts) (kept parts)) is
     ∙ ap (λ (t : Bool). cond t (unit ∷ kept parts) (kept parts)) some
-
-nothing : (xs : List ℕ) → is_something xs ≡ false → xs ≡ []
-nothing [] e = refl
-nothing (b ∷ xs) e = let f : true ≡ false = e in absurd cc
 
 something : (xs : List ℕ) (n : ℕ) → n < n + length xs → is_something xs ≡ true
 something [] n lt = absurd (omega (arith, lt))
@@ -206,7 +203,7 @@ grown_open seen unit space b w k o =
         append_assoc (unit ++ space) (b ∷ []) more ∙ append_assoc unit space (b ∷ more) in
         ap trim_start all ∙ o.starts e (space ++ (b ∷ more)) ∙ sym all
     at false e more =
-        let empty : unit ++ space ≡ [] = ap (λ (l : List ℕ). l ++ space) (nothing unit e) ∙ o.unbegun e in
+        let empty : unit ++ space ≡ [] = ap (λ (l : List ℕ). l ++ space) (nothing_there unit e) ∙ o.unbegun e in
         let all : ((unit ++ space) ++ b ∷ []) ++ more ≡ b ∷ more = ap (λ (l : List ℕ). (l ++ b ∷ []) ++ more) empty in
         ap trim_start all ∙ ap (λ (t : Bool). cond t (trim_start more) (b ∷ more)) w ∙ sym all
 

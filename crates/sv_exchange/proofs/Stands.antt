@@ -12,7 +12,7 @@ use Rattle.sv_exchange.proofs.Responses.{response_after, response_finished, resp
 use Rattle.sv_exchange.proofs.Dues.{unit_due_state, readable_is}
 use Rattle.sv_exchange.specs.Limits.{max_message, max_response}
 
-nothing_there : (bytes : List ℕ) → is_something bytes ≡ false → bytes ≡ []
+pub nothing_there : (bytes : List ℕ) → is_something bytes ≡ false → bytes ≡ []
 nothing_there [] h = refl
 nothing_there (b ∷ bytes) h = absurd cc
 

@@ -1,6 +1,5 @@
 -- Records are equal if their fields are.
 use Rattle.std.proofs.Common.{◌≡◌, Bool, true, false, refl, ap, ◌∙◌}
-use Rattle.std.specs.Prelude.{not}
 use mathlib.Core.Bool.{beq}
 use Rattle.sv_explain.specs.declared.shown.ConnShown.{ConnShown}
 use Rattle.sv_explain.specs.declared.shown.SettingsShown.{SettingsShown}
@@ -34,10 +33,6 @@ same_measurements a b state progress readings newest =
     ∙ ap (λ x. record a { state = b.state; progress = x }) progress
     ∙ ap (λ x. record b { readings = x; newest = a.newest }) readings
     ∙ ap (λ x. record b { newest = x }) newest
-
-pub not_false : (b : Bool) → not b ≡ false → b ≡ true
-not_false true e = refl
-not_false false e = absurd cc
 
 pub same_bools : (a b : Bool) → beq a b ≡ true → a ≡ b
 same_bools true true e = refl

@@ -1,9 +1,7 @@
 -- For any acts, there are a byte that a serial poll returns and a list of acts of the channels.
-use Rattle.std.proofs.Common.{◌≡◌, ℕ, Bool, true, false, eqb, List, [], ◌∷◌, refl, ap, ◌⊎◌, inl, inr, bit_and, bit_or, arith}
+use Rattle.std.proofs.Common.{◌≡◌, ℕ, Bool, true, false, eqb, List, [], ◌∷◌, refl, ◌⊎◌, inl, inr, bit_and, bit_or, arith}
 use Rattle.std.specs.Prelude.{◌↔◌, ◌&&◌, ◌||◌, not, bit_xor}
 use Rattle.std.specs.Int.{bit_at}
-use Rattle.std.proofs.lemmas.Bool.{cases_eq}
-use Rattle.std.proofs.lemmas.Nat.Bits.{bit_at-lt, bit_at-pow_other}
 use Rattle.sv_logs.proofs.Since.{since_empty, since_step, iff_transitive, both_true, either_true}
 use Rattle.sv_status.proofs.Words.{bit_of_and, bit_of_or, not_zero, bit_rises}
 use Rattle.sv_links.specs.Channels.{ChannelAct}
@@ -14,6 +12,7 @@ use Rattle.sv_layers.proofs.AlwaysTold.{one_account}
 use Rattle.sv_history.specs.Act.{DeviceAct, Linked, Waited, Channel, Applied, Ticked, instrument_acts}
 use Rattle.sv_history.specs.Requests.{HearsOf, link_told, request_told}
 use Rattle.sv_history.specs.PolledStatus.{IsPolled}
+use Rattle.sv_status.proofs.StatusBytes.{zero_bit, six_alone}
 
 -- ---- decidable properties
 
@@ -78,9 +77,6 @@ master_test log =
       ),
     )
 
-zero_bit : (w k : ℕ) → (bit_at w k ≡ 1 → ⊥) → bit_at w k ≡ 0
-zero_bit w k none = elim (cases_eq (bit_at w k) 1) [ inl one ↦ absurd (none one) | inr other ↦ (let lt = bit_at-lt w k in omega arith) ]
-
 reason_test : (act : InstrumentAct) (log : List InstrumentAct) → Test (Reason (act ∷ log))
 reason_test act log =
     let was = asking_word log in
@@ -113,12 +109,6 @@ raised_test : (act : InstrumentAct) (log : List InstrumentAct) → Test (IsRaise
 raised_test act log = both_test (request_test (act ∷ log)) (not_test (request_test log))
 
 -- ---- the status byte of a serial poll
-
-six_alone : (k : ℕ) → (bit_at 64 k ≡ 1) ↔ (k ≡ 6)
-six_alone k = (
-  (λ h. elim (cases_eq k 6) [ inl e ↦ e | inr ne ↦ absurd (let none = bit_at-pow_other 6 k ne in omega arith) ]),
-  (λ e. ap (bit_at 64) e),
-)
 
 polled_by : (log : List InstrumentAct) (word : ℕ) (is : Bool) → ((k : ℕ) → (bit_at word k ≡ 1) ↔ SummaryBit k log)
     → (is ≡ true) ↔ Request log → (polled : ℕ) × ((k : ℕ) → (bit_at polled k ≡ 1) ↔ PolledBit k log)

@@ -19,6 +19,7 @@ use Rattle.sv_history.specs.Connection.{pending_call}
 use Rattle.sv_history.specs.Request.{core_call_in}
 use Rattle.sv_history.specs.Effect.{acts_of}
 use Rattle.sv_history.specs.Resuming.{resume_effect, failure_effect, late}
+use Rattle.std.proofs.lemmas.Option.{same_Some}
 
 first_step_unique : (A B : List Act → Type 0) → ((x y : List Act) → A x → A y → x ≡ y) → ((x y : List Act) → B x → B y → x ≡ y)
     → (x y : List Act) → First A B x → First A B y → x ≡ y
@@ -45,12 +46,6 @@ log_after_resume config log polled c wait =
 abbrev pub log_after_timeout : List Act → ℕ → Wait → List Act
 log_after_timeout log c wait = acts_of c (failure_effect (late wait) c (core_call_in (pending_call (of c log)))) ++ log
 
-some_of : (a b : ℕ) → Some a ≡ Some b → a ≡ b
-some_of a b e = cc
-
-wait_of : (a b : Wait) → Some a ≡ Some b → a ≡ b
-wait_of a b e = cc
-
 word_of : (acts : List DeviceAct) (a b : ℕ) → IsPolled a acts → IsPolled b acts → a ≡ b
 word_of acts a b x y = one_word (λ k. PolledBit k (instrument_acts acts)) a b x y
 
@@ -65,12 +60,12 @@ expired_waits clock acts c (wait, last, for, until, past) none = let z : Some wa
 same_call : {A : Type 0} (acts : List WaitAct) (c d : ℕ) (for what : Wait) (f : ℕ → Wait → A) → c ≡ d → waits c acts ≡ Some for
     → waits d acts ≡ Some what → f c for ≡ f d what
 same_call acts c d for what f one x y =
-    let same : for ≡ what = wait_of for what (sym x ∙ ap (λ (e : ℕ). waits e acts) one ∙ y) in
+    let same : for ≡ what = same_Some for what (sym x ∙ ap (λ (e : ℕ). waits e acts) one ∙ y) in
     ap (λ (e : ℕ). f e for) one ∙ ap (f d) same
 
 resumes_unique : (config : Config) (log x y : List Act) → Resumes config log x → Resumes config log y → x ≡ y
 resumes_unique config log x y (c, wait, polled, oldest, for, said, is) (d, other, byte, first, what, told, same) =
-    let one : c ≡ d = some_of c d (oldest_unique (wait_acts (device_acts log)) (CanResume (device_acts log)) (Some c) (Some d)
+    let one : c ≡ d = same_Some c d (oldest_unique (wait_acts (device_acts log)) (CanResume (device_acts log)) (Some c) (Some d)
     (able_waits (device_acts log)) oldest first) in
     let word : polled ≡ byte = word_of (device_acts log) polled byte said told in
     is ∙ same_call (wait_acts (device_acts log)) c d wait other (λ e w. log_after_resume config log polled e w) one for what
@@ -79,7 +74,7 @@ resumes_unique config log x y (c, wait, polled, oldest, for, said, is) (d, other
 times_out_unique : (config : Config) (log x y : List Act) → TimesOut config log x → TimesOut config log y → x ≡ y
 times_out_unique config log x y (c, wait, oldest, for, is) (d, other, first, what, same) =
     let clock = config.clock + ticks (device_acts log) in
-    let one : c ≡ d = some_of c d (oldest_unique (wait_acts (device_acts log)) (IsExpired clock (wait_acts (device_acts log))) (Some c)
+    let one : c ≡ d = same_Some c d (oldest_unique (wait_acts (device_acts log)) (IsExpired clock (wait_acts (device_acts log))) (Some c)
     (Some d)
     (expired_waits clock (wait_acts (device_acts log))) oldest first) in
     is ∙ same_call (wait_acts (device_acts log)) c d wait other (λ e w. log_after_timeout log e w) one for what ∙ sym same

@@ -1,7 +1,7 @@
 -- The acts of one connection, and those of the device, in a log that further acts extend.
-use Rattle.std.proofs.Common.{◌≡◌, ◌≢◌, ℕ, List, [], ◌∷◌, ◌++◌, refl, sym, ap, ◌∙◌, append_assoc, eq-eqb}
+use Rattle.std.proofs.Common.{◌≡◌, ◌≢◌, ℕ, List, [], ◌∷◌, ◌++◌, refl, sym, ap, ◌∙◌, append_assoc, eq-eqb, eqb, inl, inr}
 use Rattle.std.specs.Prelude.{map}
-use Rattle.std.proofs.lemmas.Bool.{ne_eqb}
+use Rattle.std.proofs.lemmas.Bool.{ne_eqb, cases_Bool}
 use Rattle.sv_links.specs.Links.{LinkAct}
 use Rattle.sv_layers.specs.Act.{Act as InstrumentAct}
 use Rattle.sv_history.specs.Act.{Act, ConnAct, DeviceAct, Linked, Applied, On, OnDevice, of, device_acts, link_acts, wait_acts, instrument_acts, ticks}
@@ -13,6 +13,14 @@ of_own_act c act log = rw (eq-eqb c c refl) refl
 
 pub of_other_act : (c d : ℕ) (act : ConnAct) (log : List Act) → d ≢ c → of d (On c act ∷ log) ≡ of d log
 of_other_act c d act log ne = rw (ne_eqb c d (λ e. ne (sym e))) refl
+
+pub of_append : (c : ℕ) (adds log : List Act) → of c (adds ++ log) ≡ of c adds ++ of c log
+of_append c [] log = refl
+of_append c (OnDevice act ∷ adds) log = of_append c adds log
+of_append c (On d act ∷ adds) log = elim (cases_Bool (eqb d c)) [
+  | inl e ↦ rw e (ap (λ (l : List ConnAct). act ∷ l) (of_append c adds log))
+  | inr e ↦ rw e (of_append c adds log)
+]
 
 -- Acts of the device.
 pub of_device_acts : (c : ℕ) (adds : List DeviceAct) (log : List Act) → of c (map OnDevice adds ++ log) ≡ of c log

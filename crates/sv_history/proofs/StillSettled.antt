@@ -1,5 +1,6 @@
--- An act of a connection or of an interrupt channel makes no step due.
-use Rattle.std.proofs.Common.{◌≡◌, ℕ, ◌+◌, List, ◌∷◌, ◌++◌, Some, refl, sym, subst, inl, inr}
+-- An act of a connection or of an interrupt channel makes no step due. No step is due after the
+-- last one, or in the empty log.
+use Rattle.std.proofs.Common.{◌≡◌, ℕ, ◌+◌, List, ◌∷◌, ◌++◌, Some, refl, sym, subst, inl, inr, zero, suc, [], None}
 use Rattle.std.specs.Prelude.{map}
 use Rattle.sv_links.specs.Waiting.{waits, IsOldest, IsExpired}
 use Rattle.sv_links.specs.Channels.{ChannelAct}
@@ -9,7 +10,7 @@ use Rattle.sv_instrument.specs.Step.{IsStep}
 use Rattle.sv_history.specs.declared.event.Config.{Config}
 use Rattle.sv_history.specs.Act.{Act, ConnAct, DeviceAct, Channel, Applied, On, OnDevice, device_acts, wait_acts, instrument_acts, ticks}
 use Rattle.sv_history.specs.PolledStatus.{IsPolled}
-use Rattle.sv_history.specs.Settling.{First, InstrumentDoes, CanResume, Resumes, TimesOut, IsNext, IsSettled}
+use Rattle.sv_history.specs.Settling.{First, InstrumentDoes, CanResume, Resumes, TimesOut, IsNext, IsSettled, SettlesIn}
 use Rattle.sv_history.proofs.OneStep.{log_after_resume, log_after_timeout}
 
 instrument_step_back : (IsSuch : List InstrumentAct → List InstrumentAct → Type 0) (log other new : List Act)
@@ -101,3 +102,15 @@ channel_settled act config log none = λ new next.
     (first_back _ _ _ _ (λ new. resumes_without_channel_act act config log new) (λ new. resumes_with_channel_act act config log new)
     (first_back _ _ _ _ (λ new. channel_happens act IsStep log new) (λ new. happens_channel act IsStep log new)
     (λ new. channel_gives act config log new))) new next in none there.0 there.1
+
+-- ---- after the last step, and before any event, none is due
+
+pub settling_ends_settled : (n : ℕ) (config : Config) (log new : List Act) → SettlesIn n config log new → IsSettled config new
+settling_ends_settled zero config log new (none, same) = subst (λ (end : List Act). IsSettled config end) (sym same) none
+settling_ends_settled (suc n) config log new (middle, next, more) = settling_ends_settled n config middle new more
+
+pub empty_log_is_settled : (config : Config) → IsSettled config []
+empty_log_is_settled config new (inl fires) = absurd (let none = fires.1.0 in cc)
+empty_log_is_settled config new (inr (none, inl goes)) = absurd (let z : None ≡ Some goes.1 = goes.4 in cc)
+empty_log_is_settled config new (inr (none, inr (still, inl step))) = step.1
+empty_log_is_settled config new (inr (none, inr (still, inr (idle, gives)))) = absurd (let z : None ≡ Some gives.1 = gives.3 in cc)

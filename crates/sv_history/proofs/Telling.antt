@@ -1,23 +1,17 @@
 -- The device's acts determine the acts of the interrupt channels, and which channels are open.
 use Rattle.std.proofs.Common.{◌≡◌, ℕ, ◌+◌, zero, suc, Bool, true, false, List, [], ◌∷◌, ◌++◌, Option, Some, None, refl, sym, ap, subst, ◌∙◌, arith}
-use Rattle.std.specs.Prelude.{map, ◌↔◌, ◌==◌, is_some, if◌then◌else◌}
+use Rattle.std.specs.Prelude.{map, ◌==◌, is_some, if◌then◌else◌}
 use Rattle.sv_scan.specs.Condition.{bit}
 use Rattle.sv_links.specs.declared.request.Peer.{Peer}
 use Rattle.sv_links.specs.Links.{LinkAct, Destroyed}
 use Rattle.sv_links.specs.Channels.{ChannelAct, ChannelOpened, ChannelClosed, Requested, peer, is_channel_open}
 use Rattle.sv_layers.specs.Act.{Act as InstrumentAct}
-use Rattle.sv_layers.specs.StatusByte.{IsRaised}
 use Rattle.sv_instrument.specs.RequestCount.{Raise}
 use Rattle.sv_history.specs.Act.{DeviceAct, Linked, Waited, Channel, Applied, Ticked, channel_acts, instrument_acts}
 use Rattle.sv_history.specs.Requests.{HearsOf, link_told, request_told}
 use Rattle.sv_history.specs.Interrupts.{has_channel}
 use Rattle.sv_history.proofs.Projections.{instrument_acts_applied}
-
-same_flag : (p q : Bool) (P : Type 0) → ((p ≡ true) ↔ P) → ((q ≡ true) ↔ P) → p ≡ q
-same_flag true true P x y = refl
-same_flag false false P x y = refl
-same_flag true false P x y = absurd (let z : false ≡ true = y.1 (x.0 refl) in cc)
-same_flag false true P x y = absurd (let z : false ≡ true = x.1 (y.0 refl) in cc)
+use Rattle.sv_layers.proofs.Booleans.{same_bool}
 
 -- The device's acts determine only one list of acts of the interrupt channels.
 pub channel_log_unique : (acts : List DeviceAct) (a b : List ChannelAct) → HearsOf acts a → HearsOf acts b → a ≡ b
@@ -28,7 +22,7 @@ channel_log_unique (Linked act ∷ acts) a b (s, channel_log, x) (t, other, y) =
     x ∙ ap (link_told act) (channel_log_unique acts s t channel_log other) ∙ sym y
 channel_log_unique (Applied act ∷ acts) a b (s, p, channel_log, so, x) (t, q, other, also, y) =
     x ∙ ap (request_told p) (channel_log_unique acts s t channel_log other)
-    ∙ ap (λ (r : Bool). request_told r t) (same_flag p q (IsRaised (act ∷ instrument_acts acts)) so also) ∙ sym y
+    ∙ ap (λ (r : Bool). request_told r t) (same_bool p q so also) ∙ sym y
 channel_log_unique (Waited act ∷ acts) a b x y = channel_log_unique acts a b x y
 channel_log_unique (Ticked ∷ acts) a b x y = channel_log_unique acts a b x y
 

@@ -19,15 +19,14 @@ use Rattle.sv_instrument.specs.Representation.{Kept, IsHeldRight, one_if_unheld,
 use Rattle.sv_instrument.specs.Inside.Acted.{Behaves, Follows, StartsUnit}
 use Rattle.sv_instrument.proofs.Paths.{started_path}
 use Rattle.sv_instrument.proofs.Dues.{unit_is_next}
+use Rattle.std.proofs.lemmas.Bool.{false≢true}
+use Rattle.sv_instrument.proofs.OneStep.{next_once}
 
 -- A step that fits the held unit and what is due in message exchange is the step that is due.
 pub step_of : (log new : List Act) (kept : Option Awaited) (next : Due) → kept ≡ held_unit log → next ≡ due (exchange_acts log)
     → StepOf kept next log new → IsStep log new
 step_of log new kept next is next_is step =
     subst (λ (d : Due). StepOf (held_unit log) d log new) next_is (subst (λ (h : Option Awaited). StepOf h next log new) is step)
-
-false_isnt_true : false ≡ true → ⊥
-false_isnt_true same = absurd cc
 
 -- No step is due if no unit is held and nothing is due in message exchange.
 pub nothing_due : (log new : List Act) → None ≡ held_unit log → NothingDue ≡ due (exchange_acts log) → IsStep log new → ⊥
@@ -39,12 +38,12 @@ nothing_due log new free is step =
 pub none_while_busy : (log new : List Act) (awaited : Awaited) → Some awaited ≡ held_unit log → false ≡ is_idle log → IsStep log new → ⊥
 none_while_busy log new awaited is busy step =
     let ended = subst (λ (h : Option Awaited). StepOf h (due (exchange_acts log)) log new) (sym is) step in
-    false_isnt_true (busy ∙ ended.0)
+    false≢true (busy ∙ ended.0)
 
 -- `IsNoneDue` holds if no unit is held and nothing is due in message exchange.
 pub none_due_if_nothing_due : (log : List Act) → None ≡ held_unit log → NothingDue ≡ due (exchange_acts log) → IsNoneDue log
 none_due_if_nothing_due log free is step.Release (held, idle) =
-    false_isnt_true (ap (λ (h : Option Awaited). is_held h) free ∙ held)
+    false≢true (ap (λ (h : Option Awaited). is_held h) free ∙ held)
 none_due_if_nothing_due log free is step.Overrun (none, so) = absurd (let z : NothingDue ≡ OverrunDue = is ∙ so in cc)
 none_due_if_nothing_due log free is (step.Interrupt place unit) (none, so, more, placed) =
     absurd (let z : NothingDue ≡ InterruptDue = is ∙ so in cc)
@@ -53,7 +52,7 @@ none_due_if_nothing_due log free is step.Finish (none, so) = absurd (let z : Not
 
 -- `IsNoneDue` holds while a unit is held and a measurement is under way.
 pub none_while_held : (log : List Act) (awaited : Awaited) → Some awaited ≡ held_unit log → false ≡ is_idle log → IsNoneDue log
-none_while_held log awaited is busy step.Release (held, idle) = false_isnt_true (busy ∙ idle)
+none_while_held log awaited is busy step.Release (held, idle) = false≢true (busy ∙ idle)
 none_while_held log awaited is busy step.Overrun (none, so) = absurd (let z : Some awaited ≡ None = is ∙ none in cc)
 none_while_held log awaited is busy (step.Interrupt place unit) (none, so, more, placed) =
     absurd (let z : Some awaited ≡ None = is ∙ none in cc)
@@ -63,16 +62,13 @@ none_while_held log awaited is busy step.Finish (none, so) = absurd (let z : Som
 pub fault_isnt_none : {fault : Option Code} {code : Code} → fault ≡ Some code → fault ≡ None → ⊥
 fault_isnt_none {fault} {code} is none = absurd cc
 
-same_unit : (next : Option (List ℕ)) (unit text : List ℕ) → next ≡ Some unit → next ≡ Some text → unit ≡ text
-same_unit next unit text is same = cc
-
 -- The unit that is due is the next unit of the message, so the step that is due starts it.
 pub start_is_due_step : (log new : List Act) (unit text : List ℕ) → None ≡ held_unit log → UnitDue text ≡ due (exchange_acts log)
     → next_unit (exchange_acts log) ≡ Some unit → Starts unit log new → IsStep log new
 start_is_due_step log new unit text free is next starts =
     step_of log new None (UnitDue text) free is
     (subst (λ (bytes : List ℕ). Starts bytes log new)
-    (same_unit (next_unit (exchange_acts log)) unit text next (unit_is_next (exchange_acts log) text is)) starts)
+    (next_once (next_unit (exchange_acts log)) unit text next (unit_is_next (exchange_acts log) text is)) starts)
 
 -- After a unit started, the state of the instrument stands for the log.
 pub stands_after_start : (start log : List Act) (unit : List ℕ) (path : List (List ℕ)) (kept : Kept) → None ≡ held_unit log

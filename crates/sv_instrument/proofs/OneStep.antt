@@ -56,7 +56,7 @@ starts_once unit log a b (front, behind, outcome, x, read, does) (other, left, r
     let is = (one_reading other unit outcome result behind left (rw same at read) again).0 in
     does_once result log a b (rw is at does) done_so
 
-next_once : (next : Option (List ℕ)) (a b : List ℕ) → next ≡ Some a → next ≡ Some b → a ≡ b
+pub next_once : (next : Option (List ℕ)) (a b : List ℕ) → next ≡ Some a → next ≡ Some b → a ≡ b
 next_once next a b x y = cc
 
 step_once : (kept : Option Awaited) (next : Due) (log a b : List Act) → StepOf kept next log a → StepOf kept next log b → a ≡ b

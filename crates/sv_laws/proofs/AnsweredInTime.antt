@@ -34,6 +34,7 @@ use Rattle.sv_laws.proofs.EveryLog.Taken.{next_call_means_none_pending}
 use Rattle.sv_laws.proofs.EveryLog.EachAct.{WerePossible, acts_were_possible, unrefused_is_open}
 use Rattle.sv_laws.proofs.EveryLog.EachEvent.{turn_acts_in_order}
 use Rattle.sv_laws.proofs.EveryLog.Steps.{Extends, extends_then, settles_extends}
+use Rattle.sv_history.proofs.Projections.{of_append}
 
 -- ---- acts of the connection that don't open or close it
 
@@ -107,14 +108,6 @@ pending_or_answered bytes call (Replied reply ∷ front) own known stays all =
     ]
 
 -- ---- the age of the call
-
-of_append : (c : ℕ) (front log : List Act) → of c (front ++ log) ≡ of c front ++ of c log
-of_append c [] log = refl
-of_append c (On d act ∷ front) log = elim (cases_Bool (eqb d c)) [
-  | inl e ↦ rw e (ap (λ (l : List ConnAct). act ∷ l) (of_append c front log))
-  | inr e ↦ rw e (of_append c front log)
-]
-of_append c (OnDevice act ∷ front) log = of_append c front log
 
 device_acts_append : (front log : List Act) → device_acts (front ++ log) ≡ device_acts front ++ device_acts log
 device_acts_append [] log = refl

@@ -21,6 +21,9 @@ foreign_act_keeps_call c (Entered conn named wait last) acts other ne same = sea
 foreign_act_keeps_call c (Again conn wait last) acts other ne same = search (ne_eqb conn c ne)
 foreign_act_keeps_call c (Left conn) acts other ne same = search (ne_eqb conn c ne)
 
+pub same_call_refl : (c : ℕ) (acts : List WaitAct) → SameCall c acts acts
+same_call_refl c acts = record { wait = refl; until = refl; named = refl }
+
 pub call_sym : (c : ℕ) (acts other : List WaitAct) → SameCall c acts other → SameCall c other acts
 call_sym c acts other same = search sym
 

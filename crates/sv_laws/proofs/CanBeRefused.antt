@@ -21,7 +21,7 @@ use Rattle.sv_history.specs.Connection.{next_call, is_idle, free, pending_call}
 use Rattle.sv_history.specs.Limits.{longest_reply}
 use Rattle.sv_history.specs.CoreCall.{CoreCall, lid_of, is_too_long}
 use Rattle.sv_history.specs.CoreChannel.{owns, own_call}
-use Rattle.sv_history.specs.Request.{Request, NoCall, Decided, CoreRequest, AbortRequest, PortRequest, core_call_in, next_request}
+use Rattle.sv_history.specs.Request.{Request, CoreRequest, AbortRequest, core_call_in, next_request}
 use Rattle.sv_history.specs.Effect.{Effect, acts_of}
 use Rattle.sv_history.specs.Interrupts.{is_dial, is_dialing, dialing}
 use Rattle.sv_history.specs.Admission.{Stop, Fails, Awaits, lock_stop, device_wait, call_stop, deadline, stop_of, admission}
@@ -180,9 +180,6 @@ request_wants_no_memory : (config : Config) (polled c : ℕ) (bytes : List ℕ) 
     → refusable_call (Some request) ≡ None
     → wants_memory (device_acts (taken_acts c bytes (request_effect config polled c request (device_acts log))
     (aborts request (device_acts log)) log)) ≡ false
-request_wants_no_memory config polled c bytes NoCall log e = refl
-request_wants_no_memory config polled c bytes (Decided xid reply) log e = refl
-request_wants_no_memory config polled c bytes (PortRequest xid args) log e = refl
 request_wants_no_memory config polled c bytes (AbortRequest xid lid) log e =
     abort_wants_no_memory c bytes _ (aborts (AbortRequest xid lid) (device_acts log)) log
 request_wants_no_memory config polled c bytes (CoreRequest call) log e =
@@ -190,6 +187,7 @@ request_wants_no_memory config polled c bytes (CoreRequest call) log e =
     (sym (taken_adds c bytes (request_effect config polled c (CoreRequest call) (device_acts log)) log))
     (admission_wants_no_memory config polled c call.arguments (stop_of c call.arguments (device_acts log)) (device_acts log)
     (unrefusable_takes_no_memory call.arguments call e) refl)
+request_wants_no_memory config polled c bytes _ log e = refl
 
 -- ---- a call that allocates memory can be refused
 

@@ -2,7 +2,7 @@
 use Rattle.std.proofs.Common.{◌≡◌, ◌≢◌, ℕ, Bool, true, false, eqb, cond, List, [], ◌∷◌, ◌++◌, Option, Some, None, refl, sym, ap, ◌∙◌, inl, inr, eq-eqb}
 use Rattle.std.specs.Prelude.{map, filter, find, option_map, ◌||◌}
 use Rattle.std.specs.List.{AllByRecursion}
-use Rattle.std.proofs.lemmas.Bool.{ne_eqb, cases_Bool}
+use Rattle.std.proofs.lemmas.Bool.{cases_Bool, or_right}
 use mathlib.Core.List.{reverse_aux, reverse_aux-eq}
 use Rattle.sv_logs.proofs.Each.{Each}
 use Rattle.sv_links.specs.declared.links.Link.{Link}
@@ -10,7 +10,7 @@ use Rattle.sv_links.specs.Links.{LinkAct, Destroyed, live, owner, is_of, links_o
 use Rattle.sv_links.specs.Table.{IsRising}
 use Rattle.sv_links.proofs.Closing.{with_destroyed, of_conn, has_link_number, is_locked_after_destroying, has_by_owner}
 use Rattle.sv_laws.proofs.Facts.{some_injective}
-use Rattle.sv_laws.proofs.LinksAlike.{IsForeignLink, MakesNone, owner_destroyed, owner_is_of, unlocked_is_not_holder}
+use Rattle.sv_laws.proofs.LinksAlike.{IsForeignLink, MakesNone, owner_destroyed, owner_is_of, unlocked_is_not_holder, other_owner}
 
 -- The live links of a connection.
 abbrev links_in : ℕ → List LinkAct → List Link
@@ -74,24 +74,17 @@ all_then : (P Q : Link → Type 0) (xs : List Link) → ((x : Link) → P x → 
 all_then P Q [] so h = tt
 all_then P Q (x ∷ xs) so h = (so x h.0, all_then P Q xs so h.1)
 
-or_true : (a b : Bool) → b ≡ true → (a || b) ≡ true
-or_true true b e = refl
-or_true false b e = e
-
 all_has : (ys : List Link) → AllByRecursion (λ y. has_link_number y.lid ys ≡ true) ys
 all_has [] = tt
 all_has (y ∷ ys) = (
   rw (eq-eqb y.lid y.lid refl) refl,
   all_then (λ x. has_link_number x.lid ys ≡ true) (λ x. has_link_number x.lid (y ∷ ys) ≡ true) ys
-      (λ x h. or_true (eqb y.lid x.lid) (has_link_number x.lid ys) h) (all_has ys),
+      (λ x h. or_right (eqb y.lid x.lid) (has_link_number x.lid ys) h) (all_has ys),
 )
 
 all_numbers : (P : ℕ → Type 0) (ys : List Link) → AllByRecursion (λ y. P y.lid) ys → AllByRecursion P (map (λ link. link.lid) ys)
 all_numbers P [] h = tt
 all_numbers P (y ∷ ys) h = (h.0, all_numbers P ys h.1)
-
-other_owner : (c d : ℕ) (found : Option ℕ) → d ≢ c → found ≡ Some d → is_of c found ≡ false
-other_owner c d found ne h = rw h (ne_eqb d c ne)
 
 closed_others : (c d last : ℕ) (acts : List LinkAct) → d ≢ c → IsRising (live acts) last
     → AllByRecursion (λ n. is_of c (owner n acts) ≡ false) (links_of d acts)

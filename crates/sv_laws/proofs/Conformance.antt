@@ -2,7 +2,7 @@
 use Rattle.std.proofs.Common.{◌≡◌, ◌≢◌, ℕ, ◌+◌, ◌<◌, Bool, true, false, List, [], ◌∷◌, refl, sym, ap, subst, ◌∙◌, inl, inr, arith}
 use Rattle.std.specs.Int.{bit_at}
 use Rattle.std.specs.Prelude.{◌↔◌, ◌&&◌, ◌||◌}
-use Rattle.std.specs.List.{list_any, range_with_len}
+use Rattle.std.specs.List.{range_with_len}
 use Rattle.sv_logs.specs.Since.{is_since}
 use Rattle.sv_logs.proofs.Since.{since_empty, since_step, since_kept, since_skips_act, since_same, since_not_kept, iff_transitive}
 use Rattle.sv_errors.specs.declared.error_queue.QueueAct.{QueueAct}
@@ -29,12 +29,9 @@ use Rattle.sv_instrument.specs.CommandEffect.{done, after_answering}
 use Rattle.sv_history.specs.Act.{instrument_acts}
 use Rattle.sv_laws.specs.Conformance.{SameSettings, SameElse, SameRegisters, HasDefaults, PollEndsRequest, StatusByteLeaves, ClearClears, ResetLeaves, StandardReadOnce, PresetLeaves, ErrorsInOrder, ClearRests}
 use Rattle.sv_laws.proofs.Facts.{true_is_not_false}
+use Rattle.sv_layers.proofs.LimitSummary.{any_of_equal_tests}
 
 -- ---- an act that isn't of the scanner
-
-any_same : (f g : ℕ → Bool) → ((k : ℕ) → f k ≡ g k) → (ks : List ℕ) → list_any f ks ≡ list_any g ks
-any_same f g same [] = refl
-any_same f g same (k ∷ ks) = rw (same k, any_same f g same ks) refl
 
 -- A condition bit that doesn't change sets no event bit.
 bit_passes_none : (condition : List Act → ℕ) (name : RegisterName) (k : ℕ) (act : Act) (log : List Act)
@@ -51,7 +48,7 @@ since_on a b c on off = rw (on, off) refl
 
 limit_same : (act : Act) (log : List Act) → scan_acts (act ∷ log) ≡ scan_acts log → leaves Limit (act ∷ log) ≡ true
     → enable Limit (act ∷ log) ≡ enable Limit log → summary Limit (act ∷ log) ≡ summary Limit log
-limit_same act log same kept enables = any_same
+limit_same act log same kept enables = any_of_equal_tests (range_with_len 0 16)
     (λ k. is_since (passes (word Limit) Limit k) (leaves Limit) (act ∷ log) && has_bit (enable Limit (act ∷ log)) k)
     (λ k. is_since (passes (word Limit) Limit k) (leaves Limit) log && has_bit (enable Limit log) k)
     (λ k.
@@ -60,7 +57,6 @@ limit_same act log same kept enables = any_same
     (is_since (passes (word Limit) Limit k) (leaves Limit) log) kept none in
     ap (λ (b : Bool). b && has_bit (enable Limit (act ∷ log)) k) on
     ∙ ap (λ (m : ℕ). is_since (passes (word Limit) Limit k) (leaves Limit) log && has_bit m k) enables)
-    (range_with_len 0 16)
 
 condition_same : (name : RegisterName) (act : Act) (log : List Act) → scan_acts (act ∷ log) ≡ scan_acts log
     → leaves Limit (act ∷ log) ≡ true → enable Limit (act ∷ log) ≡ enable Limit log → condition name (act ∷ log) ≡ condition name log
@@ -232,7 +228,7 @@ requested_moved : (one two : List Act) → SameRegisters one two → response (e
 requested_moved one two f same k (is, on) =
     (summary_moved one two f same k is, subst (λ (m : ℕ). bit_at m k ≡ 1) f.settings.2 on)
 
-lasts_master : (log : List Act) → Lasts log → Master log
+pub lasts_master : (log : List Act) → Lasts log → Master log
 lasts_master [] h = h
 lasts_master (Polled ∷ log) h = absurd h
 lasts_master (_ ∷ log) h = h

@@ -34,14 +34,14 @@ use Rattle.sv_history.proofs.Projections.{of_own_act, of_device_acts, device_act
 use Rattle.sv_laws.specs.InTime.{waits_for_peer, waited, time_for, EachWaitInTime}
 use Rattle.sv_laws.proofs.Patience.{time_left_after_lock, wait_after_lock_is, BeginsWait, begins}
 use Rattle.sv_laws.proofs.Facts.{some_injective, none_is_not_some, true_is_not_false}
-use Rattle.sv_laws.proofs.CallsAlike.{SameCall}
+use Rattle.sv_laws.proofs.CallsAlike.{SameCall, same_call_refl}
 use Rattle.sv_laws.proofs.NoneLate.{none_late}
 use Rattle.sv_laws.proofs.Place.{EventsKeep, each_place}
-use Rattle.sv_laws.proofs.Sound.{same_call_refl, same_call_other_conn, left_is_not_suspended}
+use Rattle.sv_laws.proofs.Sound.{same_call_other_conn, mapped_again}
 use Rattle.sv_laws.proofs.EveryLog.Done.{IsActOfCall, each_act_is_of_call}
 use Rattle.sv_laws.proofs.EveryLog.Taken.{core_call_is_on_core_role}
 use Rattle.sv_laws.proofs.EveryLog.Fit.{Fit, each_after_effect}
-use Rattle.sv_laws.proofs.EveryLog.EachEvent.{StepsKeep, step_keeps, turn_keeps, refuse_keeps, call_acts_suspend_none, entered_waits, next_call_means_none_suspended, close_acts, device_acts_of_close, close_leaves_others, fit_log}
+use Rattle.sv_laws.proofs.EveryLog.EachEvent.{StepsKeep, step_keeps, turn_keeps, refuse_keeps, call_acts_suspend_none, entered_waits, next_call_means_none_suspended, close_acts, device_acts_of_close, close_leaves_others, fit_log, left_is_not_suspended}
 
 -- ---- when a wait began
 
@@ -63,11 +63,8 @@ waited_plus_began_is_ticks c (Waited (Again d wait last) ∷ acts) = elim (cases
   | inl e ↦ rw e (omega arith)
   | inr e ↦ rw e (waited_plus_began_is_ticks c acts)
 ]
-waited_plus_began_is_ticks c (Waited (Left d) ∷ acts) = waited_plus_began_is_ticks c acts
 waited_plus_began_is_ticks c (Ticked ∷ acts) = let before = waited_plus_began_is_ticks c acts in omega (arith, before)
-waited_plus_began_is_ticks c (Linked act ∷ acts) = waited_plus_began_is_ticks c acts
-waited_plus_began_is_ticks c (Channel act ∷ acts) = waited_plus_began_is_ticks c acts
-waited_plus_began_is_ticks c (Applied act ∷ acts) = waited_plus_began_is_ticks c acts
+waited_plus_began_is_ticks c (_ ∷ acts) = waited_plus_began_is_ticks c acts
 
 began_happened : (c : ℕ) (adds : List InstrumentAct) (acts : List DeviceAct) → wait_began c (map Applied adds ++ acts) ≡ wait_began c acts
 began_happened c [] acts = refl
@@ -180,11 +177,6 @@ again_other : (c d : ℕ) (wait : Wait) (last : Option ℕ) (acts : List DeviceA
     → SameWait d (Waited (Again c wait last) ∷ acts) acts
 again_other c d wait last acts ne =
     (same_call_other_conn c d (Again c wait last) (wait_acts acts) refl ne, rw (ne_eqb c d (λ e. ne (sym e))) refl)
-
-mapped_again : (c : ℕ) (wait other before : Wait) (last : Option ℕ) (acts : List WaitAct) → waits c acts ≡ Some before
-    → waits c (Again c wait last ∷ acts) ≡ Some other → wait ≡ other
-mapped_again c wait other before last acts was is =
-    let now : Some wait ≡ Some other = rw (eq-eqb c c refl, was) at is in some_injective wait other now
 
 dated_continued : (config : Config) (polled c : ℕ) (wait : Wait) (call : CoreCall) (next : Option (Wait × ℕ)) (log : List Act)
     → AllDated config log → waits c (wait_acts (device_acts log)) ≡ Some wait → core_call_in (pending_call (of c log)) ≡ Some call

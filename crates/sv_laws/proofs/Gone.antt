@@ -2,7 +2,7 @@
 -- channel.
 use Rattle.std.proofs.Common.{◌≡◌, ◌≢◌, ℕ, Bool, true, false, cond, eqb, List, [], ◌∷◌, ◌++◌, Option, Some, None, refl, sym, ap, subst, ◌∙◌, inl, inr, append_assoc, eq-eqb, nat_lt}
 use Rattle.std.specs.Prelude.{map, not, is_some, ◌||◌}
-use Rattle.std.proofs.lemmas.Bool.{cases_Bool, cases_eq, ne_eqb}
+use Rattle.std.proofs.lemmas.Bool.{cases_Bool, cases_eq, ne_eqb, false_from_ne_true}
 use Rattle.sv_logs.proofs.Each.{Each}
 use Rattle.sv_vxi.specs.Arguments.{Arguments}
 use Rattle.sv_links.specs.declared.request.Peer.{Peer}
@@ -253,10 +253,6 @@ no_some_is_none : (found : Option Wait) → ((wait : Wait) → found ≡ Some wa
 no_some_is_none None h = refl
 no_some_is_none (Some wait) h = absurd (h wait refl)
 
-not_true_is_false : (b : Bool) → (b ≡ true → ⊥) → b ≡ false
-not_true_is_false false h = refl
-not_true_is_false true h = absurd (h refl)
-
 pub closed_holds_nothing : ClosedHoldsNothing
 closed_holds_nothing config history log c was shut =
     let acts = device_acts log in
@@ -275,7 +271,7 @@ closed_holds_nothing config history log c was shut =
             ap is_some (fit.core lid lives.0 lives.1),
           );
       call = no_some_is_none (waits c (wait_acts acts)) (λ wait for. never (fit.held c wait for).0);
-      channel = not_true_is_false (has_channel c acts) (λ opened. never (core_log config history log was c opened));
+      channel = false_from_ne_true (has_channel c acts) (λ opened. never (core_log config history log was c opened));
       requests = λ channel_log lid enabled hears is same.
           links lid (enabled_link_is_owned acts channel_log fit.suits hears lid enabled is ∙ ap (λ (n : ℕ). Some n) same);
     }

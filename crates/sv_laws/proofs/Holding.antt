@@ -1,8 +1,8 @@
 -- The link that holds the lock keeps it until its connection lets it go. A link gets the lock
 -- because a call asks for it, in the order in which the calls were taken.
 use Rattle.std.proofs.Common.{◌≡◌, ◌≢◌, ℕ, Bool, true, false, eqb, List, [], ◌∷◌, ◌++◌, Some, None, refl, sym, ap, subst, ◌∙◌, inl, inr, ◌⊎◌, eq-eqb}
-use Rattle.std.specs.Prelude.{map, not, ◌&&◌, ◌||◌}
-use Rattle.std.proofs.lemmas.Bool.{cases_eq, ne_eqb}
+use Rattle.std.specs.Prelude.{map, not, ◌&&◌}
+use Rattle.std.proofs.lemmas.Bool.{cases_eq, ne_eqb, or_right}
 use Rattle.sv_links.specs.Links.{LinkAct, Destroyed, Locked, Unlocked, owner, is_locked, holder, is_this}
 use Rattle.sv_links.specs.Waiting.{Left}
 use Rattle.sv_links.proofs.Locks.{holder_is_this_link}
@@ -41,10 +41,6 @@ holds_locked : (acts : List DeviceAct) → AllSuit acts → AllKeep acts → (li
     → is_locked lid (link_acts acts) ≡ true
 holds_locked acts suits keeps lid is = only_holder_is_locked acts suits keeps lid ∙ ap (is_this lid) is ∙ eq-eqb lid lid refl
 
-or_on : (a b : Bool) → b ≡ true → (a || b) ≡ true
-or_on true b e = refl
-or_on false b e = e
-
 off_and : (a b : ℕ) (on : Bool) → a ≢ b → on ≡ true → (not (eqb a b) && on) ≡ true
 off_and a b on ne e = rw (ne_eqb a b ne) e
 
@@ -53,7 +49,7 @@ off_and a b on ne e = rw (ne_eqb a b ne) e
 stays_locked : (act : Act) (older : List Act) (c lid : ℕ) → IsPlaced older act → owner lid (link_acts (device_acts older)) ≡ Some c
     → is_locked lid (link_acts (device_acts older)) ≡ true
     → (is_locked lid (link_acts (device_acts (act ∷ older))) ≡ true) ⊎ (is_open (of c older) ≡ false) ⊎ ReleasesLock c lid older
-stays_locked (OnDevice (Linked (Locked other))) older c lid placed owns on = inl (or_on (eqb other lid) _ on)
+stays_locked (OnDevice (Linked (Locked other))) older c lid placed owns on = inl (or_right (eqb other lid) _ on)
 stays_locked (OnDevice (Linked (Unlocked other))) older c lid placed owns on = elim (cases_eq other lid) [
   | inl same ↦ inr (subst (λ (n : ℕ). MayFree n older) same placed c owns)
   | inr ne ↦ inl (off_and other lid _ ne on)

@@ -1,5 +1,5 @@
 -- Suspended calls are queued in the order in which they were taken.
-use Rattle.std.proofs.Common.{◌≡◌, ◌≢◌, ℕ, ◌≤◌, Bool, true, false, cond, eqb, List, [], ◌∷◌, length, Option, Some, None, refl, sym, ap, subst, ◌∙◌, inl, inr, eq-eqb, arith}
+use Rattle.std.proofs.Common.{◌≡◌, ◌≢◌, ℕ, ◌≤◌, true, eqb, List, [], ◌∷◌, length, Option, Some, None, refl, sym, ap, subst, ◌∙◌, inl, inr, eq-eqb, arith}
 use Rattle.std.proofs.lemmas.Bool.{cases_Bool, cases_eq, ne_eqb}
 use Rattle.sv_logs.specs.Since.{newest}
 use Rattle.sv_links.specs.declared.waiting.Wait.{Wait}
@@ -11,22 +11,15 @@ use Rattle.sv_laws.proofs.Facts.{none_is_not_some}
 use Rattle.sv_laws.proofs.Placed.{AllPlaced}
 use Rattle.sv_laws.proofs.EveryLog.Keeps.{IsEarliest}
 use Rattle.sv_laws.proofs.EveryLog.Known.{mapped_was_some}
+use Rattle.sv_links.proofs.Queues.{newest_le}
 
 -- ---- when a call was suspended
-
-newest_is_no_longer : (is_such : List WaitAct → Bool) (acts : List WaitAct) → length (newest is_such acts) ≤ length acts
-newest_is_no_longer is_such [] = omega arith
-newest_is_no_longer is_such (act ∷ acts) = by (is_such (act ∷ acts)) (newest_is_no_longer is_such acts)
-  where
-    by : (b : Bool) → length (newest is_such acts) ≤ length acts → length (cond b (act ∷ acts) (newest is_such acts)) ≤ length (act ∷ acts)
-    by true le = omega arith
-    by false le = omega (arith, le)
 
 -- A call that was just suspended was suspended later than any other.
 entered_call_is_newest : (c d : ℕ) (named : Option ℕ) (wait : Wait) (last : Option ℕ) (acts : List WaitAct) → d ≢ c
     → arrival c (Entered c named wait last ∷ acts) ≤ arrival d (Entered c named wait last ∷ acts) → ⊥
 entered_call_is_newest c d named wait last acts ne le =
-    let most = newest_is_no_longer (enters d) acts in
+    let most = newest_le (enters d) acts in
     let less : length (Entered c named wait last ∷ acts) ≤ length (newest (enters d) acts) =
     rw (eq-eqb c c refl, ne_eqb c d (λ e. ne (sym e))) at le in
     omega (arith, most, less)

@@ -35,15 +35,15 @@ use Rattle.sv_history.proofs.Projections.{of_own_act, of_device_acts, device_act
 use Rattle.sv_laws.specs.InTime.{age, lock_time, patience, waits_for_peer, InTime}
 use Rattle.sv_laws.proofs.Patience.{bound, bound_within_patience, wait_within_bound, wait_after_lock_is, BeginsWait, begins}
 use Rattle.sv_laws.proofs.Facts.{some_injective, none_is_not_some, true_is_not_false}
-use Rattle.sv_laws.proofs.CallsAlike.{SameCall}
+use Rattle.sv_laws.proofs.CallsAlike.{SameCall, same_call_refl}
 use Rattle.sv_laws.proofs.NoneLate.{none_late}
 use Rattle.sv_laws.proofs.Place.{EventsKeep, each_place}
-use Rattle.sv_laws.proofs.Sound.{same_call_refl, same_call_other_conn, left_is_not_suspended}
+use Rattle.sv_laws.proofs.Sound.{same_call_other_conn, mapped_again}
 use Rattle.sv_laws.proofs.EveryLog.Done.{IsActOfCall, each_act_is_of_call}
 use Rattle.sv_laws.proofs.EveryLog.Taken.{core_call_is_on_core_role}
 use Rattle.sv_laws.proofs.EveryLog.Fit.{Fit, each_after_effect}
 use Rattle.sv_laws.proofs.EveryLog.BusyWaits.{unsuspended_has_no_pending}
-use Rattle.sv_laws.proofs.EveryLog.EachEvent.{StepsKeep, step_keeps, turn_keeps, refuse_keeps, call_acts_suspend_none, entered_waits, next_call_means_none_suspended, close_acts, device_acts_of_close, close_leaves_others, fit_log}
+use Rattle.sv_laws.proofs.EveryLog.EachEvent.{StepsKeep, step_keeps, turn_keeps, refuse_keeps, call_acts_suspend_none, entered_waits, next_call_means_none_suspended, close_acts, device_acts_of_close, close_leaves_others, fit_log, left_is_not_suspended}
 
 -- ---- the deadline of a suspended call
 
@@ -199,11 +199,6 @@ lock_wait_within_timeout old clock until arguments other (inr (last, is, le, aft
 
 again_until : (c : ℕ) (wait : Wait) (last : Option ℕ) (acts : List WaitAct) → until_of c (Again c wait last ∷ acts) ≡ last
 again_until c wait last acts = rw (eq-eqb c c refl) refl
-
-mapped_again : (c : ℕ) (wait other before : Wait) (last : Option ℕ) (acts : List WaitAct) → waits c acts ≡ Some before
-    → waits c (Again c wait last ∷ acts) ≡ Some other → wait ≡ other
-mapped_again c wait other before last acts was is =
-    let now : Some wait ≡ Some other = rw (eq-eqb c c refl, was) at is in some_injective wait other now
 
 timely_continued : (config : Config) (polled c : ℕ) (wait : Wait) (call : CoreCall) (next : Option (Wait × ℕ)) (log : List Act)
     → AllTimely config log → waits c (wait_acts (device_acts log)) ≡ Some wait → core_call_in (pending_call (of c log)) ≡ Some call

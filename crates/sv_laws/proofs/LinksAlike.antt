@@ -103,6 +103,9 @@ pub owner_is_of : (c : ℕ) (found : Option ℕ) → is_of c found ≡ true → 
 owner_is_of c (Some other) e = ap (λ (n : ℕ). Some n) (eqb-true other c e)
 owner_is_of c None e = absurd cc
 
+pub other_owner : (c d : ℕ) (found : Option ℕ) → d ≢ c → found ≡ Some d → is_of c found ≡ false
+other_owner c d found ne h = rw h (ne_eqb d c ne)
+
 -- ---- which links one connection owns
 
 abbrev pub OwnsAlike : ℕ → List LinkAct → List LinkAct → Type 0
@@ -126,8 +129,7 @@ owns_alike_foreign_act c (Destroyed lid) acts other h alike = λ n. elim (cases_
       gone ∙ sym (ap (λ (m : ℕ). is_of c (owner m acts)) (sym e) ∙ h) ∙ alike n
   | inr ne ↦ ap (is_of c) (owner_destroyed_other n lid acts ne) ∙ alike n
 ]
-owns_alike_foreign_act c (Locked lid) acts other h alike = absurd h
-owns_alike_foreign_act c (Unlocked lid) acts other h alike = absurd h
+owns_alike_foreign_act c _ acts other h alike = absurd h
 
 abbrev pub MakesNone : LinkAct → Type 0
 MakesNone (Made lid conn) = ⊥
@@ -170,7 +172,7 @@ found_by_narrower_test wide narrow m (x ∷ xs) so is h = elim (cases_Bool (wide
   ]
 ]
 
-not_same : (a b : ℕ) → not (eqb a b) ≡ true → a ≢ b
+pub not_same : (a b : ℕ) → not (eqb a b) ≡ true → a ≢ b
 not_same a b e same = absurd (let z : not true ≡ true = rw (eq-eqb a b same) at e in cc)
 
 pub unlocked_is_not_holder : (lid : ℕ) (acts : List LinkAct) → is_locked lid acts ≡ false → holder acts ≡ Some lid → ⊥
@@ -212,5 +214,4 @@ pub owner_of_holder_kept : (c lid : ℕ) (act : LinkAct) (acts : List LinkAct) �
     → owner lid (act ∷ acts) ≡ Some c
 owner_of_holder_kept c lid (Made n conn) acts now h = owner_made lid c n conn acts h
 owner_of_holder_kept c lid (Destroyed n) acts now h = owner_destroyed_other lid n acts (holder_was_not_destroyed lid n acts now) ∙ h
-owner_of_holder_kept c lid (Locked n) acts now h = h
-owner_of_holder_kept c lid (Unlocked n) acts now h = h
+owner_of_holder_kept c lid _ acts now h = h

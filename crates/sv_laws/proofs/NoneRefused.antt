@@ -3,7 +3,7 @@
 -- one.
 use Rattle.std.proofs.Common.{◌≡◌, ℕ, ◌≤◌, Bool, true, false, cond, List, length, Option, Some, None, refl, sym, ap, ◌∙◌, arith, le-ltb}
 use Rattle.std.specs.Prelude.{◌||◌, not, is_some, is_none, nat_lt}
-use Rattle.std.proofs.lemmas.Bool.{ltb-false}
+use Rattle.std.proofs.lemmas.Bool.{ltb-false, not-false, or_parts}
 use Rattle.sv_links.specs.declared.request.Peer.{Peer}
 use Rattle.sv_links.specs.Channels.{ChannelAct}
 use Rattle.sv_history.specs.declared.event.Config.{Config}
@@ -23,11 +23,6 @@ use Rattle.sv_laws.proofs.Cuts.SameView.{SameConnection, next_call_same, next_re
 use Rattle.sv_laws.proofs.Taking.{TakenAlike, logs_alike, retook_if_same_without_took}
 
 -- ---- where no more bytes wait, no further event is refused
-
-not_shut_is_open : (far opened : Bool) → (far || not opened) ≡ false → opened ≡ true
-not_shut_is_open true opened e = absurd cc
-not_shut_is_open false true e = refl
-not_shut_is_open false false e = absurd cc
 
 -- An event that wasn't refused isn't refused if the reply still finds room.
 not_refused_with_room : (shut one two : Bool) (refused : Refused) → (one ≡ false → shut ≡ false → two ≡ false)
@@ -53,7 +48,8 @@ reply_still_has_room : (c : ℕ) (log also : List Act) → SameConnection (of c 
     → length (waiting (of c also)) ≤ length (waiting (of c log)) → nat_lt (free (of c log)) longest_reply ≡ false → is_shut c log ≡ false
     → nat_lt (free (of c also)) longest_reply ≡ false
 reply_still_has_room c log also v le enough shut =
-    let opened : is_open (of c log) ≡ true = not_shut_is_open (nat_lt 15 c) (is_open (of c log)) shut in
+    let opened : is_open (of c log) ≡ true =
+    not-false (is_open (of c log)) (or_parts (nat_lt 15 c) (not (is_open (of c log))) shut).1 in
     let there : is_open (of c also) ≡ true = ap is_some (sym v.role) ∙ opened in
     let few : length (bytes_left (of c also)) ≤ length (bytes_left (of c log)) = rw (opened, there) at le in
     let room = ltb-false (free (of c log)) longest_reply enough in

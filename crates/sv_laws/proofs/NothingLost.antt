@@ -130,17 +130,18 @@ open_if : (opened : Bool) (n : ℕ) → (opened ≡ false → n ≡ 0) → 0 < n
 open_if true n shut lt = refl
 open_if false n shut lt = absurd (let none = shut refl in omega (arith, lt, none))
 
-open_room : (acts : List ConnAct) → 0 < room acts → is_open acts ≡ true
+pub open_room : (acts : List ConnAct) → 0 < room acts → is_open acts ≡ true
 open_room acts lt = open_if (is_open acts) (room acts) (λ e. rw e refl) lt
 
-open_waiting : (acts : List ConnAct) → 0 < length (waiting acts) → is_open acts ≡ true
+pub open_waiting : (acts : List ConnAct) → 0 < length (waiting acts) → is_open acts ≡ true
 open_waiting acts lt = open_if (is_open acts) (length (waiting acts)) (λ e. rw e refl) lt
 
-channel_there : (c : ℕ) (channel_log : List ChannelAct) → 0 < length (channel_waiting c channel_log) → is_channel_open c channel_log ≡ true
-channel_there c channel_log lt =
+pub channel_open_if_some_wait : (c : ℕ) (channel_log : List ChannelAct) → 0 < length (channel_waiting c channel_log)
+    → is_channel_open c channel_log ≡ true
+channel_open_if_some_wait c channel_log lt =
     open_if (is_channel_open c channel_log) (length (channel_waiting c channel_log)) (λ e. rw e refl) lt
 
-some_role : (found : Option Role) → (found ≡ None → ⊥) → is_some found ≡ true
+pub some_role : (found : Option Role) → (found ≡ None → ⊥) → is_some found ≡ true
 some_role (Some role) h = refl
 some_role None h = absurd (h refl)
 
@@ -155,10 +156,6 @@ open_dialing config history log c dial was some = some_role (open_role (of c log
     let z : None ≡ Some dial = sym (ap (λ (call : Option (List ℕ)). dial_in (core_call_in call)) none) ∙ some in cc)
 
 -- ---- the law
-
-not_none : (b : Bool) → not b ≡ false → b ≡ true
-not_none true e = refl
-not_none false e = absurd cc
 
 pub nothing_lost : NothingLost
 nothing_lost config history (Open c role) channel_log log result was tells suits (also, hears, h) =
@@ -175,7 +172,7 @@ nothing_lost config history (Took (Conn c) n) channel_log log result was tells s
 nothing_lost config history (Took (Intr c) n) channel_log log result was tells suits (also, hears, h) =
     let same = channel_log_unique (device_acts log) also channel_log hears tells in
     let there : has_channel c (device_acts log) ≡ true =
-    sym (channel_open_by_channel_log c (device_acts log) channel_log tells) ∙ channel_there c channel_log suits.1 in
+    sym (channel_open_by_channel_log c (device_acts log) channel_log tells) ∙ channel_open_if_some_wait c channel_log suits.1 in
     let lt = suits.0 in
     done_if_not_refused config channel_log (Took (Intr c) n) log result
     (rw (le-ltb 15 c (omega (arith, lt)), there, le-ltb (length (channel_waiting c channel_log)) n suits.2) refl) refl (λ polled. refl)

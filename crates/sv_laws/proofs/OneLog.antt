@@ -43,3 +43,9 @@ sends_in_other_history port config history other log also bytes x y moves (found
     let same : found ≡ log = one_log config history found log is_log x in
     let so = moves channel_log (subst (λ (l : List Act). HearsOf (device_acts l) channel_log) same hears) in
     (also, so.0, y, so.1, sent ∙ ap (λ (l : List Act). all_sent port channel_log l) same ∙ so.2)
+
+-- If a history has a log, then each earlier part of the history has a log too.
+pub earlier_log : (config : Config) (events past : List PlainEvent) (log : List Act) → IsLogOf config (events ++ past) log
+    → (was : List Act) × IsLogOf config past was
+earlier_log config [] past log is_log = (log, is_log)
+earlier_log config (event ∷ events) past log is_log = earlier_log config events past is_log.0 is_log.4

@@ -35,10 +35,10 @@ use Rattle.sv_laws.proofs.Facts.{some_injective, none_is_not_some}
 use Rattle.sv_laws.proofs.CallsAlike.{SameCall}
 use Rattle.sv_laws.proofs.OneLog.{one_log}
 use Rattle.sv_laws.proofs.NoneLate.{none_late}
-use Rattle.sv_laws.proofs.Sound.{same_call_other_conn, left_is_not_suspended}
+use Rattle.sv_laws.proofs.Sound.{same_call_other_conn}
 use Rattle.sv_laws.proofs.EveryLog.Taken.{core_call_is_on_core_role}
 use Rattle.sv_laws.proofs.EveryLog.Steps.{log_settled, Rested, settled_is_rested}
-use Rattle.sv_laws.proofs.EveryLog.EachEvent.{settling_keeps, turn_acts_in_order, entered_waits}
+use Rattle.sv_laws.proofs.EveryLog.EachEvent.{settling_keeps, turn_acts_in_order, entered_waits, left_is_not_suspended}
 
 -- ---- what stops a call that is locked out
 

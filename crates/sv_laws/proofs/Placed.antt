@@ -22,9 +22,9 @@ use Rattle.sv_layers.specs.Act.{Act as InstrumentAct}
 use Rattle.sv_instrument.specs.Step.{is_answerable}
 use Rattle.sv_instrument.specs.Stimulus.{external_acts, tick_acts}
 use Rattle.sv_history.specs.declared.event.Config.{Config}
-use Rattle.sv_history.specs.declared.event.Port.TheVariants.{Conn, Intr}
+use Rattle.sv_history.specs.declared.event.Port.TheVariants.{Conn}
 use Rattle.sv_history.specs.declared.event.Role.TheVariants.{Core}
-use Rattle.sv_history.specs.Event.{PlainEvent, Open, Bytes, Turn, Refuse, Took, Close, Dialed, Input, External, Tick}
+use Rattle.sv_history.specs.Event.{PlainEvent, Turn, Refuse, Took, Close, Dialed, External, Tick}
 use Rattle.sv_history.specs.Act.{Act, ConnAct, DeviceAct, CallTaken, PortClosed, Linked, Waited, Applied, Ticked, On, OnDevice, of, device_acts, link_acts, wait_acts, instrument_acts, exchange_acts}
 use Rattle.sv_history.specs.Connection.{is_open, next_call, pending_call}
 use Rattle.sv_history.specs.CallOutcome.{CallOutcome, only}
@@ -394,18 +394,14 @@ placed_event config history event polled channel_log log was free fit so =
     all = so.placed
 
     by : (event : PlainEvent) → AllPlaced (own_acts config polled event log ++ log)
-    by (Open c role) = (tt, all)
-    by (Bytes c piece) = (tt, all)
     by (Turn c) = placed_turn config polled c (next_call (of c log)) (next_request (of c log)) log fit all
         (no_wait_for_free_lock config history log was) refl refl
     by (Refuse c) = refuse_keeps AllPlaced c (next_call (of c log)) (refusable (of c log)) log all
         (λ bytes call next can. (tt, (next_call_means_none_suspended c log bytes fit next, all)))
     by (Took (Conn c) count) = (tt, all)
-    by (Took (Intr c) count) = (tt, all)
     by (Close (Conn c)) =
         subst AllPlaced (sym (append_assoc (map OnDevice (close_acts c (device_acts log))) (On c PortClosed ∷ []) log))
         (placed_close c log fit all)
-    by (Close (Intr c)) = (tt, all)
     by (Dialed c ok) = called c ok (core_call_in (pending_call (of c log)))
       where
         called : (c : ℕ) (ok : Bool) (call : Option CoreCall)
@@ -413,12 +409,12 @@ placed_event config history event polled channel_log log was free fit so =
         called c ok (Some call) = rw (connect_outcome_by_peer c ok call.arguments)
             (placed_dialed c ok call (peer_named_by call.arguments) log all)
         called c ok None = (tt, all)
-    by (Input channel microvolts) = (tt, all)
     by External = placed_happened (external_acts (instrument_acts (device_acts log))) log all
     by Tick =
         let adds = tick_acts (instrument_acts (device_acts log)) in
         subst AllPlaced (sym (append_assoc (map OnDevice (map Applied adds)) (OnDevice Ticked ∷ []) log))
         (placed_happened adds (OnDevice Ticked ∷ log) (tt, all))
+    by _ = (tt, all)
 
 pub placed_log : (config : Config) (history : List PlainEvent) (log : List Act) → IsLogOf config history log → Placed log
 placed_log config = each_place config Placed (record { sound = sound_none; placed = tt }) (placed_event config) (placed_step config)

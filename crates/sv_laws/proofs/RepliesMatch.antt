@@ -1,5 +1,5 @@
 -- Each reply answers the call that was unanswered until then, and has that call's xid.
-use Rattle.std.proofs.Common.{◌≡◌, ℕ, zero, suc, ◌≤◌, Bool, true, false, cond, List, [], ◌∷◌, ◌++◌, length, map, flat_map, take, drop, Option, Some, None, refl, sym, ap, subst, ◌∙◌, arith}
+use Rattle.std.proofs.Common.{◌≡◌, ℕ, zero, suc, ◌≤◌, Bool, true, false, List, [], ◌∷◌, ◌++◌, length, map, flat_map, take, drop, Some, refl, sym, ap, subst, ◌∙◌, arith}
 use Rattle.std.specs.Prelude.{Result, Ok, Err, slice_get, ◌||◌}
 use Rattle.std.specs.List.{concat}
 use Rattle.std.specs.Int.{w32, to_be_bytes}
@@ -21,6 +21,8 @@ use Rattle.sv_history.specs.Reply.{reply_record}
 use Rattle.sv_laws.specs.Laws.{HasXidOf, RepliesMatch}
 use Rattle.sv_laws.proofs.EveryLog.EachAct.{IsReplyTo, WerePossible, acts_were_possible}
 use Rattle.sv_laws.proofs.EveryLog.Taken.{xid_of}
+use Rattle.sv_laws.proofs.Facts.{some_injective}
+use Rattle.std.proofs.NetLemmas.Options.{cond_none}
 
 -- ---- each byte of a call is below 256
 
@@ -64,31 +66,24 @@ record_bytes sent fits =
     let others = back_is_bytes (flat_map (fragment false) sent.front) (fragment true sent.final) fits in
     append_is_bytes (concat sent.front) sent.final (front_bytes sent.front first) (text_bytes true sent.final others)
 
-some_bytes : (a b : List ℕ) → Some a ≡ Some b → a ≡ b
-some_bytes a b e = cc
-
 taken_bytes : (sent : List Sent) (n : ℕ) (call : List ℕ) → IsBytes (flat_map bytes_of sent)
     → slice_get (map record_of sent) n ≡ Some call → IsBytes call
 taken_bytes (one ∷ sent) zero call fits e =
-    subst IsBytes (some_bytes (record_of one) call e) (record_bytes one (front_is_bytes (bytes_of one) (flat_map bytes_of sent) fits))
+    subst IsBytes (some_injective (record_of one) call e) (record_bytes one (front_is_bytes (bytes_of one) (flat_map bytes_of sent) fits))
 taken_bytes (one ∷ sent) (suc n) call fits e = taken_bytes sent n call (back_is_bytes (bytes_of one) (flat_map bytes_of sent) fits) e
 taken_bytes [] n call fits e = absurd cc
-
-next_by : (b : Bool) (found : Option (List ℕ)) (call : List ℕ) → cond b None found ≡ Some call → found ≡ Some call
-next_by true found call e = absurd cc
-next_by false found call e = e
 
 next_bytes : (acts : List ConnAct) (call : List ℕ) → WerePossible acts → next_call acts ≡ Some call → IsBytes call
 next_bytes acts call all next =
     let s = every_stream (stream acts) (stream_bytes acts all) in
     let fits : IsBytes (flat_map bytes_of s.sent ++ s.rest) = subst IsBytes s.whole (stream_bytes acts all) in
-    let found = next_by (took_no_call acts || is_busy acts) (slice_get (records_of (stream acts)) (records_ended acts)) call next in
+    let found = (cond_none (took_no_call acts || is_busy acts) (slice_get (records_of (stream acts)) (records_ended acts)) call next).1 in
     taken_bytes s.sent (records_ended acts) call (front_is_bytes (flat_map bytes_of s.sent) s.rest fits)
     (ap (λ (l : List (List ℕ)). slice_get l (records_ended acts)) s.records_are ∙ found)
 
 pub pending_call_is_bytes : (acts : List ConnAct) (call : List ℕ) → WerePossible acts → pending_call acts ≡ Some call → IsBytes call
 pending_call_is_bytes (CallTaken taken ∷ acts) call all busy =
-    subst IsBytes (some_bytes taken call busy) (next_bytes acts taken all.1 all.0.1)
+    subst IsBytes (some_injective taken call busy) (next_bytes acts taken all.1 all.0.1)
 pending_call_is_bytes (Piece bytes ∷ acts) call all busy = pending_call_is_bytes acts call all.1 busy
 pending_call_is_bytes (BytesTaken count ∷ acts) call all busy = pending_call_is_bytes acts call all.1 busy
 pending_call_is_bytes _ call all busy = absurd cc

@@ -1,8 +1,8 @@
 -- An invariant of logs: each act of the device satisfies `Keeps`, and each suspended call fits its
 -- arguments. Calls that resume or fail keep it.
 use Rattle.std.proofs.Common.{◌≡◌, ◌≢◌, ℕ, ◌+◌, Bool, true, false, cond, eqb, List, [], ◌∷◌, ◌++◌, length, nat_lt, Option, Some, None, refl, sym, ap, subst, ◌∙◌, inl, inr, ◌⊎◌, eq-eqb, append_assoc, arith}
-use Rattle.std.specs.Prelude.{map, pos, not, option_map, find}
-use Rattle.std.proofs.lemmas.Bool.{cases_Bool}
+use Rattle.std.specs.Prelude.{map, pos, option_map, find}
+use Rattle.std.proofs.lemmas.Bool.{cases_Bool, not-true}
 use Rattle.sv_logs.proofs.Each.{Each, each_join}
 use Rattle.sv_vxi.specs.declared.error_code.ErrorCode.{ErrorCode}
 use Rattle.sv_vxi.specs.declared.arguments.GenericCall.TheVariants.{Readstb, Trigger, Clear}
@@ -30,11 +30,11 @@ use Rattle.sv_history.specs.Settling.{CanResume}
 use Rattle.sv_history.proofs.Projections.{of_device_acts, device_acts_append, device_effect, wait_acts_applied}
 use Rattle.sv_laws.specs.LockFair.{WaitsForLock}
 use Rattle.sv_laws.proofs.Facts.{some_injective, none_is_not_some}
-use Rattle.sv_laws.proofs.CallsAlike.{SameCall, connection_of, foreign_act_keeps_call}
+use Rattle.sv_laws.proofs.CallsAlike.{SameCall, connection_of, foreign_act_keeps_call, same_call_refl}
 use Rattle.sv_laws.proofs.EveryLog.Done.{each_act_is_of_call}
 use Rattle.sv_laws.proofs.EveryLog.Fit.{AllSuit, Fit, each_after_effect}
 use Rattle.sv_laws.proofs.EveryLog.Known.{live_number_was_made}
-use Rattle.sv_laws.proofs.EveryLog.EachEvent.{call_acts_suspend_none}
+use Rattle.sv_laws.proofs.EveryLog.EachEvent.{call_acts_suspend_none, left_is_not_suspended}
 use Rattle.sv_laws.proofs.EveryLog.Keeps.{IsEarliest, MayTake, Keeps, AllKeep, NamesNone, keep_append, named_link_is_live, not_locked_out_names_holder, lock_is_free}
 
 -- ---- a suspended call fits its arguments
@@ -72,9 +72,6 @@ pub fits_same_wait : (c : ℕ) (own now : List ConnAct) (acts after : List WaitA
     → SameCall c after acts → FitsArguments c own acts → FitsArguments c now after
 fits_same_wait c own now acts after pending same told = λ wait call is busy.
     let was = told wait call (sym same.wait ∙ is) (ap core_call_in (sym pending) ∙ busy) in (same.named ∙ was.0, was.1, was.2)
-
-pub same_call_refl : (c : ℕ) (acts : List WaitAct) → SameCall c acts acts
-same_call_refl c acts = record { wait = refl; until = refl; named = refl }
 
 pub same_call_other_conn : (c d : ℕ) (act : WaitAct) (acts : List WaitAct) → connection_of act ≡ c → d ≢ c → SameCall d (act ∷ acts) acts
 same_call_other_conn c d act acts is ne = foreign_act_keeps_call d act acts acts (λ e. ne (sym e ∙ is)) (same_call_refl d acts)
@@ -230,8 +227,10 @@ executed_acts_keep config polled c _ acts may = tt
 
 -- ---- a suspended call ends or is suspended again
 
-pub left_is_not_suspended : (c : ℕ) (acts : List WaitAct) → waits c (Left c ∷ acts) ≡ None
-left_is_not_suspended c acts = rw (eq-eqb c c refl) refl
+pub mapped_again : (c : ℕ) (wait other before : Wait) (last : Option ℕ) (acts : List WaitAct) → waits c acts ≡ Some before
+    → waits c (Again c wait last ∷ acts) ≡ Some other → wait ≡ other
+mapped_again c wait other before last acts was is =
+    let now : Some wait ≡ Some other = rw (eq-eqb c c refl, was) at is in some_injective wait other now
 
 -- A suspended call that ends with a result keeps the invariant.
 pub sound_left : (c xid : ℕ) (outcome : CallOutcome) (log : List Act) → Sound log → Keeps (device_acts log) (Waited (Left c))
@@ -269,13 +268,9 @@ sound_failed error c log so keep = sound_ended c (λ arguments. leaving c (only 
 
 -- ---- a call that resumes
 
-not_true : (b : Bool) → not b ≡ true → b ≡ false
-not_true true e = absurd cc
-not_true false e = refl
-
 not_out : (acts : List DeviceAct) (c : ℕ) → CanResume acts c → WaitsForLock acts c
     → is_locked_out (holder (link_acts acts)) (named_link c (wait_acts acts)) ≡ false
-not_out acts c able w = not_true _ (rw w at able)
+not_out acts c able w = not-true _ (rw w at able)
 
 pub lock_waiter_can_resume : (acts : List DeviceAct) (c : ℕ) → WaitsForLock acts c → holder (link_acts acts) ≡ None → CanResume acts c
 lock_waiter_can_resume acts c w free = rw (w, free) refl

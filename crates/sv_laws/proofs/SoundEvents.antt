@@ -37,7 +37,7 @@ use Rattle.sv_history.specs.Resuming.{leaving, late}
 use Rattle.sv_history.specs.History.{abort_acts, turn_acts, IsLogOf}
 use Rattle.sv_history.proofs.Dialing.{peer_named_by, connect_outcome_for, connect_outcome_by_peer}
 use Rattle.sv_history.proofs.Projections.{of_own_act, device_effect, wait_acts_links}
-use Rattle.sv_laws.proofs.CallsAlike.{SameCall}
+use Rattle.sv_laws.proofs.CallsAlike.{SameCall, same_call_refl}
 use Rattle.sv_links.specs.declared.request.Peer.{Peer}
 use Rattle.sv_laws.specs.LockFair.{WaitsForLock, WaitsWhileHeld}
 use Rattle.sv_laws.proofs.Facts.{some_injective, none_is_not_some}
@@ -48,9 +48,9 @@ use Rattle.sv_laws.proofs.EveryLog.Done.{owns_means_owner, each_act_is_of_call, 
 use Rattle.sv_laws.proofs.EveryLog.Taken.{core_call_is_on_core_role}
 use Rattle.sv_laws.proofs.EveryLog.Fit.{AllSuit, Fit}
 use Rattle.sv_laws.proofs.EveryLog.Known.{link_numbers_rise}
-use Rattle.sv_laws.proofs.EveryLog.EachEvent.{call_acts_suspend_none, entered_waits, next_call_means_none_suspended, turn_acts_in_order, refuse_keeps, close_acts, device_acts_of_close, close_leaves_others}
+use Rattle.sv_laws.proofs.EveryLog.EachEvent.{call_acts_suspend_none, entered_waits, next_call_means_none_suspended, turn_acts_in_order, refuse_keeps, close_acts, device_acts_of_close, close_leaves_others, left_is_not_suspended}
 use Rattle.sv_laws.proofs.EveryLog.Keeps.{Keeps, AllKeep, NamesNone, keep_append, keep_suffix, named_link_is_live}
-use Rattle.sv_laws.proofs.Sound.{takes_lock, can_free_lock, FitsArguments, Sound, fits_if_not_suspended, fits_without_call, fits_same_wait, same_call_refl, same_call_other_conn, sound_effect, sound_shared, sound_happened, asks_lock, MayDo, executed_acts_keep, left_is_not_suspended, sound_left, sound_ended, sound_failed, lock_waiter_can_resume, sound_resumed}
+use Rattle.sv_laws.proofs.Sound.{takes_lock, can_free_lock, FitsArguments, Sound, fits_if_not_suspended, fits_without_call, fits_same_wait, same_call_other_conn, sound_effect, sound_shared, sound_happened, asks_lock, MayDo, executed_acts_keep, sound_left, sound_ended, sound_failed, lock_waiter_can_resume, sound_resumed}
 
 -- ---- a call that nothing stops
 

@@ -13,7 +13,7 @@ use Rattle.sv_links.specs.Channels.{ChannelAct, SrqEnabled, SrqDisabled, Channel
 use Rattle.sv_history.specs.declared.event.Config.{Config}
 use Rattle.sv_history.specs.declared.event.Port.{Port}
 use Rattle.sv_history.specs.declared.event.Port.TheVariants.{Conn, Intr}
-use Rattle.sv_history.specs.Event.{PlainEvent, Open, Bytes, Turn, Refuse, Took, Close, Dialed, Input, External, Tick}
+use Rattle.sv_history.specs.Event.{PlainEvent, Took}
 use Rattle.sv_history.specs.Act.{Act, ConnAct, DeviceAct, BytesTaken, Linked, Waited, Channel, Applied, Ticked, On, OnDevice, of, device_acts, instrument_acts}
 use Rattle.sv_history.specs.Requests.{HearsOf, link_told, request_told}
 use Rattle.sv_history.specs.Connection.{free}
@@ -46,31 +46,21 @@ untaken (Requested ∷ acts) = Requested ∷ untaken acts
 
 peer_same : (c : ℕ) (acts : List ChannelAct) → peer c (untaken acts) ≡ peer c acts
 peer_same c [] = refl
-peer_same c (ChannelTaken conn count ∷ acts) = peer_same c acts
-peer_same c (SrqEnabled lid conn handle ∷ acts) = peer_same c acts
-peer_same c (SrqDisabled lid ∷ acts) = peer_same c acts
 peer_same c (ChannelOpened conn what ∷ acts) = ap (λ (o : Option Peer). if conn == c then Some what else o) (peer_same c acts)
 peer_same c (ChannelClosed conn ∷ acts) = ap (λ (o : Option Peer). if conn == c then None else o) (peer_same c acts)
-peer_same c (Requested ∷ acts) = peer_same c acts
+peer_same c (_ ∷ acts) = peer_same c acts
 
 enabled_same : (lid : ℕ) (acts : List ChannelAct) → srq_enabled lid (untaken acts) ≡ srq_enabled lid acts
 enabled_same lid [] = refl
-enabled_same lid (ChannelTaken conn count ∷ acts) = enabled_same lid acts
 enabled_same lid (SrqEnabled other conn handle ∷ acts) = ap
     (λ (o : Option Enabled). if other == lid then Some (record { lid = lid; conn = conn; handle = handle }) else o) (enabled_same lid acts)
 enabled_same lid (SrqDisabled other ∷ acts) = ap (λ (o : Option Enabled). if other == lid then None else o) (enabled_same lid acts)
-enabled_same lid (ChannelOpened conn what ∷ acts) = enabled_same lid acts
-enabled_same lid (ChannelClosed conn ∷ acts) = enabled_same lid acts
-enabled_same lid (Requested ∷ acts) = enabled_same lid acts
+enabled_same lid (_ ∷ acts) = enabled_same lid acts
 
 past_same : (acts : List ChannelAct) → past (untaken acts) ≡ past acts
 past_same [] = refl
-past_same (ChannelTaken conn count ∷ acts) = past_same acts
 past_same (SrqEnabled lid conn handle ∷ acts) = ap (λ (n : ℕ). max (lid + 1) n) (past_same acts)
-past_same (SrqDisabled lid ∷ acts) = past_same acts
-past_same (ChannelOpened conn what ∷ acts) = past_same acts
-past_same (ChannelClosed conn ∷ acts) = past_same acts
-past_same (Requested ∷ acts) = past_same acts
+past_same (_ ∷ acts) = past_same acts
 
 filter_map_same : {A B : Type 0} (f g : A → Option B) → ((x : A) → f x ≡ g x) → (xs : List A) → filter_map f xs ≡ filter_map g xs
 filter_map_same f g same [] = refl
@@ -103,22 +93,16 @@ all_calls_unlimited c (_ ∷ acts) = all_calls_unlimited c acts
 
 free_same : (c : ℕ) (acts : List ChannelAct) → calls_unlimited c (untaken acts) ≡ calls_unlimited c acts
 free_same c [] = refl
-free_same c (ChannelTaken conn count ∷ acts) = free_same c acts
-free_same c (SrqEnabled lid conn handle ∷ acts) = free_same c acts
-free_same c (SrqDisabled lid ∷ acts) = free_same c acts
 free_same c (ChannelOpened conn what ∷ acts) = ap (λ (l : List (List ℕ)). if conn == c then [] else l) (free_same c acts)
 free_same c (ChannelClosed conn ∷ acts) = ap (λ (l : List (List ℕ)). if conn == c then [] else l) (free_same c acts)
 free_same c (Requested ∷ acts) = rw (peer_same c acts, free_same c acts, links_same acts) refl
+free_same c (_ ∷ acts) = free_same c acts
 
 free_all_same : (c : ℕ) (acts : List ChannelAct) → all_calls_unlimited c (untaken acts) ≡ all_calls_unlimited c acts
 free_all_same c [] = refl
-free_all_same c (ChannelTaken conn count ∷ acts) = free_all_same c acts
-free_all_same c (SrqEnabled lid conn handle ∷ acts) = free_all_same c acts
-free_all_same c (SrqDisabled lid ∷ acts) = free_all_same c acts
-free_all_same c (ChannelOpened conn what ∷ acts) = free_all_same c acts
-free_all_same c (ChannelClosed conn ∷ acts) = free_all_same c acts
 free_all_same c (Requested ∷ acts) =
     rw (free_all_same c acts, free_same c acts, peer_same c acts, links_same acts) refl
+free_all_same c (_ ∷ acts) = free_all_same c acts
 
 at_most_one_call_per_handle : (what : Peer) (t : ℕ) (cs handles : List (List ℕ))
     → length (fold (add_call (Some what) t) cs handles) ≤ length cs + length handles
@@ -160,30 +144,24 @@ requested_free None t cs handles h = none_added t cs handles
 
 calls_are_unlimited : (c : ℕ) (acts : List ChannelAct) → NoneLeftOut c acts → calls c acts ≡ calls_unlimited c acts
 calls_are_unlimited c [] h = refl
-calls_are_unlimited c (ChannelTaken conn count ∷ acts) h = calls_are_unlimited c acts h
-calls_are_unlimited c (SrqEnabled lid conn handle ∷ acts) h = calls_are_unlimited c acts h
-calls_are_unlimited c (SrqDisabled lid ∷ acts) h = calls_are_unlimited c acts h
 calls_are_unlimited c (ChannelOpened conn what ∷ acts) h = ap (λ (l : List (List ℕ)). if conn == c then [] else l)
     (calls_are_unlimited c acts h)
 calls_are_unlimited c (ChannelClosed conn ∷ acts) h = ap (λ (l : List (List ℕ)). if conn == c then [] else l) (calls_are_unlimited c acts h)
 calls_are_unlimited c (Requested ∷ acts) (all, h) =
     requested_free (peer c acts) (bytes_taken c acts) (calls c acts) (handles_of c (enabled_links acts)) all
     ∙ ap (λ (l : List (List ℕ)). fold (add_call_unlimited (peer c acts)) l (handles_of c (enabled_links acts)))
-    (calls_are_unlimited c acts h)
+        (calls_are_unlimited c acts h)
+calls_are_unlimited c (_ ∷ acts) h = calls_are_unlimited c acts h
 
 all_calls_are_unlimited : (c : ℕ) (acts : List ChannelAct) → NoneLeftOut c acts → all_calls c acts ≡ all_calls_unlimited c acts
 all_calls_are_unlimited c [] h = refl
-all_calls_are_unlimited c (ChannelTaken conn count ∷ acts) h = all_calls_are_unlimited c acts h
-all_calls_are_unlimited c (SrqEnabled lid conn handle ∷ acts) h = all_calls_are_unlimited c acts h
-all_calls_are_unlimited c (SrqDisabled lid ∷ acts) h = all_calls_are_unlimited c acts h
-all_calls_are_unlimited c (ChannelOpened conn what ∷ acts) h = all_calls_are_unlimited c acts h
-all_calls_are_unlimited c (ChannelClosed conn ∷ acts) h = all_calls_are_unlimited c acts h
 all_calls_are_unlimited c (Requested ∷ acts) h =
     ap (λ (l : List (List ℕ)). l ++ drop (length (calls c acts)) (calls c (Requested ∷ acts))) (all_calls_are_unlimited c acts h.1)
     ∙ ap (λ (l : List (List ℕ)). all_calls_unlimited c acts ++ drop (length l) (calls c (Requested ∷ acts)))
     (calls_are_unlimited c acts h.1)
     ∙ ap (λ (l : List (List ℕ)). all_calls_unlimited c acts ++ drop (length (calls_unlimited c acts)) l)
-    (calls_are_unlimited c (Requested ∷ acts) h)
+        (calls_are_unlimited c (Requested ∷ acts) h)
+all_calls_are_unlimited c (_ ∷ acts) h = all_calls_are_unlimited c acts h
 
 same_calls : (c : ℕ) (acts other : List ChannelAct) → NoneLeftOut c acts → NoneLeftOut c other → untaken acts ≡ untaken other
     → all_calls c acts ≡ all_calls c other
@@ -360,15 +338,7 @@ logs_alike config (Other {past} {other} port n retook_if_same_without_took) log 
 
 is_took_or_not : (event : PlainEvent) → ((port : Port) × (n : ℕ) × (event ≡ Took port n)) ⊎ (is_took event ≡ false)
 is_took_or_not (Took port n) = inl (port, n, refl)
-is_took_or_not (Open c role) = inr refl
-is_took_or_not (Bytes c piece) = inr refl
-is_took_or_not (Turn c) = inr refl
-is_took_or_not (Refuse c) = inr refl
-is_took_or_not (Close port) = inr refl
-is_took_or_not (Dialed c ok) = inr refl
-is_took_or_not (Input channel microvolts) = inr refl
-is_took_or_not External = inr refl
-is_took_or_not Tick = inr refl
+is_took_or_not _ = inr refl
 
 retook_only_tooks : (other : List PlainEvent) → [] ≡ without_took other → Retook [] other
 retook_only_tooks [] e = Neither

@@ -1,6 +1,6 @@
 -- Lemmas about booleans and one-bit words.
 use Rattle.std.proofs.Common.{◌≡◌, ℕ, suc, ◌^◌, Bool, true, false, cond, List, [], ◌∷◌, length, refl, sym, nat_lt, arith}
-use Rattle.std.specs.Prelude.{◌↔◌, not, ◌&&◌, ◌||◌}
+use Rattle.std.specs.Prelude.{◌↔◌, not, ◌&&◌}
 use Rattle.std.proofs.lemmas.Bool.{lt-ltb, and_parts, and_from}
 use Rattle.std.specs.Int.{from_bool}
 use Rattle.sv_exchange.specs.Exchange.{is_something}
@@ -31,7 +31,3 @@ and_both a false = ((λ h. absurd (let none = (and_parts a false h).1 in cc)), (
 pub and_not : (a b : Bool) → ((a && not b) ≡ true) ↔ ((b ≡ false) × (a ≡ true))
 and_not a true = ((λ h. absurd (let none = (and_parts a false h).1 in cc)), (λ h. absurd (let none = h.0 in cc)))
 and_not a false = ((λ h. (refl, (and_parts a true h).0)), (λ h. and_from a true h.1 refl))
-
-pub neither : (a b : Bool) → (a || b) ≡ false → (a ≡ false) × (b ≡ false)
-neither true b e = absurd cc
-neither false b e = (refl, e)

@@ -19,7 +19,7 @@ use Rattle.sv_layers.proofs.Either.{iff_refl, either_congruent}
 use Rattle.sv_layers.proofs.Transitions.{Passes, NotCleared, changes_is}
 use Rattle.sv_layers.proofs.SameWords.{same_words}
 
-iff_sym : {P Q : Type 0} → P ↔ Q → Q ↔ P
+pub iff_sym : {P Q : Type 0} → P ↔ Q → Q ↔ P
 iff_sym same = (same.1, same.0)
 
 -- After a new condition an event bit is set if a transition passes its filter, or if it was set

@@ -4,7 +4,7 @@ use Rattle.std.specs.Prelude.{◌^◌, Some, None, unwrap_or, if◌then◌else�
 use Rattle.std.proofs.Math.Nat.{mod-mod}
 use Rattle.sv_status.specs.declared.register_name.RegisterName.{RegisterName}
 use Rattle.sv_status.specs.declared.register.RegisterAct.{RegisterAct}
-use Rattle.sv_status.specs.declared.register.RegisterAct.TheVariants.{Condition, SetFilter, SetEnable, ReadEvent, Clear}
+use Rattle.sv_status.specs.declared.register.RegisterAct.TheVariants.{Condition, SetFilter, SetEnable, ReadEvent}
 use Rattle.sv_status.specs.declared.register.RegisterAct.TheVariants as register
 use Rattle.sv_status.specs.Register as register_words
 use Rattle.sv_status.specs.Register.{without_top_bit}
@@ -30,12 +30,9 @@ WordsOf name acts log = Words (start name) acts (condition name log) (rise name 
 filters_masked : (acts : List RegisterAct) → (without_top_bit (register_words.rise acts) ≡ register_words.rise acts)
     × (without_top_bit (register_words.fall acts) ≡ register_words.fall acts)
 filters_masked [] = (refl, refl)
-filters_masked (Condition word ∷ acts) = filters_masked acts
 filters_masked (SetFilter up down ∷ acts) = (mod-mod up (2 ^ 15), mod-mod down (2 ^ 15))
-filters_masked (SetEnable word ∷ acts) = filters_masked acts
-filters_masked (ReadEvent ∷ acts) = filters_masked acts
 filters_masked (register.Preset ∷ acts) = (refl, refl)
-filters_masked (Clear ∷ acts) = filters_masked acts
+filters_masked (_ ∷ acts) = filters_masked acts
 
 -- An act changes only the register that it names.
 read_words : (s : ℕ) (b : Bool) (acts : List RegisterAct) (c r f e : ℕ) → Words s acts c r f e

@@ -3,7 +3,7 @@
 use Rattle.std.proofs.Common.{◌≡◌, ℕ, Bool, true, false, List, refl, ◌⊎◌, arith, eq-eqb}
 use Rattle.std.specs.Prelude.{◌↔◌, not, ◌&&◌, ◌||◌}
 use Rattle.std.specs.Int.{bit_at}
-use Rattle.std.proofs.lemmas.Bool.{eqb-true, eqb-false, ne_eqb}
+use Rattle.std.proofs.lemmas.Bool.{eqb-true, eqb-false, ne_eqb, not-true}
 use Rattle.std.proofs.lemmas.Nat.Bits.{bit_at-lt}
 use Rattle.sv_logs.proofs.Since.{both_true, either_true}
 use Rattle.sv_status.specs.declared.register_name.RegisterName.{RegisterName}
@@ -23,13 +23,9 @@ NotCleared name log = leaves name log ≡ true
 pub has_bit_is_one : (word k : ℕ) → (has_bit word k ≡ true) ↔ (bit_at word k ≡ 1)
 has_bit_is_one word k = (eqb-true (bit_at word k) 1, eq-eqb (bit_at word k) 1)
 
-not_true : (b : Bool) → not b ≡ true → b ≡ false
-not_true true e = cc
-not_true false e = refl
-
 lacks_bit_is_zero : (word k : ℕ) → (not (has_bit word k) ≡ true) ↔ (bit_at word k ≡ 0)
 lacks_bit_is_zero word k = (
-  (λ h. let ne = eqb-false (bit_at word k) 1 (not_true (has_bit word k) h) in let small = bit_at-lt word k in omega (arith, ne, small)),
+  (λ h. let ne = eqb-false (bit_at word k) 1 (not-true (has_bit word k) h) in let small = bit_at-lt word k in omega (arith, ne, small)),
   (λ e. rw (ne_eqb (bit_at word k) 1 (λ one. absurd (omega (arith, e, one)))) refl),
 )
 

@@ -21,6 +21,7 @@ use Rattle.sv_lexer.proofs.Tokens.{header_stands, rest_stands}
 use Rattle.sv_lexer.proofs.Headers.{header_some, longest_is}
 use Rattle.sv_lexer.proofs.Pushes.{list_all_append_one, rest_none, rest_place_without_data}
 use Rattle.sv_lexer.proofs.Stages.{next_stage_is_right, is_header_at_stage, may_end}
+use mathlib.Core.Bool.{and-true, and-false}
 
 -- ---- another byte
 
@@ -51,19 +52,11 @@ legal_next : (stage : Stage) (b : ℕ) → (not (is_illegal stage) && is_legal b
 legal_next stage b =
     ap (λ (t : Bool). not (is_illegal stage) && (is_white b || t)) (graphic_is b) ∙ at (is_white b) (is_ascii_graphic b)
   where
-    yes : (t : Bool) → (t && true) ≡ t
-    yes true = refl
-    yes false = refl
-
-    none : (t : Bool) → (t && false) ≡ false
-    none true = refl
-    none false = refl
-
     at : (w g : Bool) → (not (is_illegal stage) && (w || g))
         ≡ not (is_illegal (cond w (behind_space stage) (cond g (behind_graphic stage b) Illegal)))
-    at true g = yes (not (is_illegal stage)) ∙ ap not (sym (space_legal stage))
-    at false true = yes (not (is_illegal stage)) ∙ ap not (sym (graphic_legal stage b))
-    at false false = none (not (is_illegal stage))
+    at true g = and-true (not (is_illegal stage)) ∙ ap not (sym (space_legal stage))
+    at false true = and-true (not (is_illegal stage)) ∙ ap not (sym (graphic_legal stage b))
+    at false false = and-false (not (is_illegal stage))
 
 -- Before the first byte, nothing was read.
 pub nothing_was_read : (p : Progress) → p.stage ≡ WhiteSpace → p.size ≡ 0 → p.header_start ≡ 0 → p.mnemonic ≡ 0 → p.longest ≡ 0 → Reads p []

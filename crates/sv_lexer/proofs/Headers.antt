@@ -17,6 +17,7 @@ use Rattle.sv_lexer.specs.declared.stage.Stage.{Stage}
 use Rattle.sv_lexer.specs.declared.stage.Stage.TheVariants.{WhiteSpace, Asterisk, Colon, CommonMnemonic, Mnemonic, QuerySign, HeaderSeparator, ProgramData, DataSpace, Misspelled, Illegal}
 use Rattle.sv_lexer.proofs.Ends.{append_not_empty}
 use Rattle.sv_lexer.proofs.Words.{without_question_mark, strip_other, strip_front, is_query_append, cut_some, words_some, prepend_to_first, joined_none, last_push, others_push, others_last, words_added, words_onward, words_more, words_with_question_mark, words_with_colon, words_with_word_byte, word_byte_no_question_mark, has_first_part}
+use mathlib.Core.Bool.{and-false, and-true}
 
 -- The lengths of the last mnemonic and of the longest one before it are counted.
 pub record IsCounted (mnemonic front : ℕ) (head : List ℕ) : Type 0 where
@@ -43,14 +44,6 @@ HeaderPushed stage n m head b = IsPushed stage n m (head ++ b ∷ [])
 letter_word : (b : ℕ) → is_letter b ≡ true → is_word_byte b ≡ true
 letter_word b l = grind (arith, nat_tests, l)
 
-and_false : (x : Bool) → (x && false) ≡ false
-and_false true = refl
-and_false false = refl
-
-and_true : (x : Bool) → (x && true) ≡ x
-and_true true = refl
-and_true false = refl
-
 -- ---- words
 
 -- All words are the last one and those before it.
@@ -58,7 +51,7 @@ pub list_all_by_last : (test : List ℕ → Bool) (parts : List (List ℕ)) → 
     → list_all test parts ≡ (list_all test (others parts) && test (last parts))
 list_all_by_last test parts some =
     ap (list_all test) (sym (others_last parts some)) ∙ list_all-append test (others parts) (last parts ∷ [])
-    ∙ ap (λ (t : Bool). list_all test (others parts) && t) (and_true (test (last parts)))
+    ∙ ap (λ (t : Bool). list_all test (others parts) && t) (and-true (test (last parts)))
 
 pub longest_is : (parts : List (List ℕ)) → longest parts ≡ max (longest (others parts)) (length (last parts))
 longest_is [] = refl
@@ -185,7 +178,7 @@ bad_words_fail : (head more : List ℕ) → is_empty head ≡ false → is_query
 bad_words_fail head more s q none =
     ap (list_all is_mnemonic) (words_more head more s q)
     ∙ list_all-append is_mnemonic (others (words head)) (prepend_to_first (last (words head)) (words_added (is_common head) more))
-    ∙ ap (λ (t : Bool). list_all is_mnemonic (others (words head)) && t) none ∙ and_false (list_all is_mnemonic (others (words head)))
+    ∙ ap (λ (t : Bool). list_all is_mnemonic (others (words head)) && t) none ∙ and-false (list_all is_mnemonic (others (words head)))
 
 no_letter_fails : (head : List ℕ) (b : ℕ) (more : List ℕ) → Awaits head → is_letter b ≡ false → is_header (head ++ b ∷ more) ≡ false
 no_letter_fails head b more h l =

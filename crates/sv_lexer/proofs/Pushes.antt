@@ -12,13 +12,10 @@ use Rattle.sv_lexer.proofs.Standing.{white_rest, stands_within}
 use Rattle.sv_lexer.proofs.Tokens.{rest_stands}
 use Rattle.sv_lexer.proofs.Ends.{before_white, trim_end_cons, trim_end_of_white, trim_end_over_white, trim_end_of_non_white, white_size_of_trim_end}
 use Rattle.sv_lexer.proofs.Divided.{is_not_white, IsDivided, IsPlaced, unit_is_divided, divided_unit_is_placed, header_run, white_size_over_white, white_size_of_append}
+use mathlib.Core.Bool.{and-true}
 
 pub list_all_append_one : (test : ℕ → Bool) (bytes : List ℕ) (b : ℕ) → list_all test (bytes ++ b ∷ []) ≡ (list_all test bytes && test b)
-list_all_append_one test bytes b = list_all-append test bytes (b ∷ []) ∙ ap (λ (t : Bool). list_all test bytes && t) (at (test b))
-  where
-    at : (t : Bool) → (t && true) ≡ t
-    at true = refl
-    at false = refl
+list_all_append_one test bytes b = list_all-append test bytes (b ∷ []) ∙ ap (λ (t : Bool). list_all test bytes && t) (and-true (test b))
 
 -- Removing white space leaves nothing exactly of a text that is all white space.
 start_blank : (xs : List ℕ) → is_empty (trim_start xs) ≡ list_all is_white xs
@@ -55,7 +52,7 @@ gap_more (b ∷ body) more s e = at (is_white b) e
     at true e = refl
     at false e = absurd cc
 
-some_length : (xs : List ℕ) → 0 < length xs → is_empty xs ≡ false
+pub some_length : (xs : List ℕ) → 0 < length xs → is_empty xs ≡ false
 some_length [] lt = absurd (omega (arith, lt))
 some_length (b ∷ xs) lt = refl
 

@@ -15,6 +15,7 @@ use Rattle.sv_lexer.proofs.Ends.{before_white}
 use Rattle.sv_lexer.proofs.Words.{words_some, words_with_question_mark}
 use Rattle.sv_lexer.proofs.Headers.{IsCounted, HeaderPushed, list_all_by_last, header_some, header_is_pushed, is_before_header_end}
 use Rattle.sv_lexer.proofs.Pushes.{IsLonger, IsSame, header_gets_longer, leading_white_gets_longer, header_continues, header_ends_at_white, rest_none, data_after_header, end_same, white_after_header, data_get_longer, white_after_data}
+use mathlib.Core.Bool.{and-false}
 
 -- ---- headers
 
@@ -28,11 +29,7 @@ awaits_none : (text : List ℕ) → Awaits text → is_header text ≡ false
 awaits_none text h =
     list_all_by_last is_mnemonic (words text) (words_some text)
     ∙ ap (λ (word : List ℕ). list_all is_mnemonic (others (words text)) && is_mnemonic word) h.empty
-    ∙ none (list_all is_mnemonic (others (words text)))
-  where
-    none : (t : Bool) → (t && false) ≡ false
-    none true = refl
-    none false = refl
+    ∙ and-false (list_all is_mnemonic (others (words text)))
 
 -- Whether the header is complete at this stage.
 abbrev pub may_end : Stage → Bool

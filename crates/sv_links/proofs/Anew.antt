@@ -1,7 +1,7 @@
 -- How many steps remain after a suspended call begins to wait for something else.
 use Rattle.std.proofs.Common.{◌≡◌, ℕ, ◌+◌, ◌≤◌, Bool, true, false, eqb, List, [], ◌∷◌, length, Option, Some, refl, arith, inl, inr}
 use Rattle.std.specs.Prelude.{not, filter, map}
-use Rattle.std.proofs.lemmas.Bool.{cases_Bool, eqb-true, true≢false, false≢true}
+use Rattle.std.proofs.lemmas.Bool.{cases_Bool, eqb-true, not-true, not-false}
 use Rattle.sv_links.specs.declared.waiting.Entry.{Entry}
 use Rattle.sv_links.specs.declared.waiting.Wait.{Wait}
 use Rattle.sv_links.specs.declared.waiting.Wait.TheVariants.{Lock}
@@ -38,16 +38,8 @@ fewer p q f same other (x ∷ xs) = elim (cases_Bool (q x)) [
   | inr e ↦ rw (e, other x e) (fewer p q f same other xs)
 ]
 
-not_true : (b : Bool) → not b ≡ true → b ≡ false
-not_true false e = refl
-not_true true e = absurd (false≢true e)
-
-not_false : (b : Bool) → not b ≡ false → b ≡ true
-not_false true e = refl
-not_false false e = absurd (true≢false e)
-
 pub creations_anew : (conn : ℕ) (wait : Wait) (last : Option ℕ) (xs : List Entry) → (wait ≡ Lock → ⊥)
     → creations (map (anew conn wait last) xs) ≤ creations (without conn xs)
 creations_anew conn wait last xs other = fewer creates (λ x. not (eqb x.conn conn)) (anew conn wait last)
-    (λ x e. rw (not_true (eqb x.conn conn) e) refl)
-    (λ x e. rw (not_false (eqb x.conn conn) e) (not_creates conn wait last x other)) xs
+    (λ x e. rw (not-true (eqb x.conn conn) e) refl)
+    (λ x e. rw (not-false (eqb x.conn conn) e) (not_creates conn wait last x other)) xs

@@ -1,11 +1,11 @@
 -- The sorted list of links with service requests enabled: inserting and removing a link.
-use Rattle.std.proofs.Common.{◌≡◌, ◌≢◌, ℕ, ◌<◌, ◌≤◌, Bool, eqb, ltb, List, [], ◌∷◌, ◌++◌, length, take, drop, refl, sym, ap, ◌∙◌, arith, inl, inr}
+use Rattle.std.proofs.Common.{◌≡◌, ◌≢◌, ℕ, ◌<◌, ◌≤◌, Bool, eqb, ltb, List, [], ◌∷◌, ◌++◌, length, take, drop, refl, sym, ap, ◌∙◌, arith, inl, inr, false}
 use Rattle.std.specs.Prelude.{not, filter}
 use Rattle.std.specs.List.{AllByRecursion, insert}
 use Rattle.std.proofs.lemmas.Bool.{cases_Bool, cond_both, eqb-true, eqb-false, ltb-true, ltb-false, lt-ltb, le-ltb}
-use Rattle.std.proofs.lemmas.List.Elements.{All-filter, All-from_recursion, recursion_from_All}
 use Rattle.sv_links.specs.declared.enabled.Enabled.{Enabled}
 use Rattle.sv_links.specs.ChannelRepresentation.{IsSorted}
+use Rattle.sv_links.proofs.Queues.{all_filter}
 
 -- The links with lower numbers, and those with higher ones.
 abbrev pub lower_links : ℕ → List Enabled → List Enabled
@@ -17,13 +17,10 @@ higher_links lid = filter (λ other. ltb lid other.lid)
 abbrev pub other_links : ℕ → List Enabled → List Enabled
 other_links lid = filter (λ other. not (eqb other.lid lid))
 
-all_filter : (P : Enabled → Type 0) (p : Enabled → Bool) (xs : List Enabled) → AllByRecursion P xs → AllByRecursion P (filter p xs)
-all_filter P p xs h = recursion_from_All P _ (All-filter p P xs (All-from_recursion P xs h))
-
 pub sorted_filter : (p : Enabled → Bool) (xs : List Enabled) → IsSorted xs → IsSorted (filter p xs)
 sorted_filter p [] h = tt
 sorted_filter p (x ∷ xs) h = cond_both (p x) (x ∷ filter p xs) (filter p xs) IsSorted
-    (λ _. (all_filter (λ y. x.lid < y.lid) p xs h.0, sorted_filter p xs h.1)) (λ _. sorted_filter p xs h.1)
+    (λ _. (all_filter (λ (y : Enabled). x.lid < y.lid) p xs h.0, sorted_filter p xs h.1)) (λ _. sorted_filter p xs h.1)
 
 -- ---- the position of a number
 
@@ -61,25 +58,23 @@ free_other lid (x ∷ xs) = elim (cases_Bool (eqb x.lid lid)) [
   | inr e ↦ rw e (eqb-false x.lid lid e, free_other lid xs)
 ]
 
-pub below_other : (lid : ℕ) (xs : List Enabled) → lower_links lid (other_links lid xs) ≡ lower_links lid xs
-below_other lid [] = refl
-below_other lid (x ∷ xs) = elim (cases_Bool (eqb x.lid lid)) [
-  | inl e ↦ let same = eqb-true x.lid lid e in rw (e, le-ltb x.lid lid (omega arith)) (below_other lid xs)
-  | inr e ↦ elim (cases_Bool (ltb x.lid lid)) [
-    | inl k ↦ rw (e, k) (ap (λ (ys : List Enabled). x ∷ ys) (below_other lid xs))
-    | inr k ↦ rw (e, k) (below_other lid xs)
+-- Removing the links with this number changes no list of links that doesn't have them.
+kept_by_other : (test : Enabled → Bool) (lid : ℕ) (xs : List Enabled) → ((x : Enabled) → x.lid ≡ lid → test x ≡ false)
+    → filter test (other_links lid xs) ≡ filter test xs
+kept_by_other test lid [] fails = refl
+kept_by_other test lid (x ∷ xs) fails = elim (cases_Bool (eqb x.lid lid)) [
+  | inl e ↦ rw (e, fails x (eqb-true x.lid lid e)) (kept_by_other test lid xs fails)
+  | inr e ↦ elim (cases_Bool (test x)) [
+    | inl k ↦ rw (e, k) (ap (λ (ys : List Enabled). x ∷ ys) (kept_by_other test lid xs fails))
+    | inr k ↦ rw (e, k) (kept_by_other test lid xs fails)
   ]
 ]
 
+pub below_other : (lid : ℕ) (xs : List Enabled) → lower_links lid (other_links lid xs) ≡ lower_links lid xs
+below_other lid xs = kept_by_other (λ other. ltb other.lid lid) lid xs (λ x same. le-ltb x.lid lid (omega arith))
+
 pub above_other : (lid : ℕ) (xs : List Enabled) → higher_links lid (other_links lid xs) ≡ higher_links lid xs
-above_other lid [] = refl
-above_other lid (x ∷ xs) = elim (cases_Bool (eqb x.lid lid)) [
-  | inl e ↦ let same = eqb-true x.lid lid e in rw (e, le-ltb lid x.lid (omega arith)) (above_other lid xs)
-  | inr e ↦ elim (cases_Bool (ltb lid x.lid)) [
-    | inl k ↦ rw (e, k) (ap (λ (ys : List Enabled). x ∷ ys) (above_other lid xs))
-    | inr k ↦ rw (e, k) (above_other lid xs)
-  ]
-]
+above_other lid xs = kept_by_other (λ other. ltb lid other.lid) lid xs (λ x same. le-ltb lid x.lid (omega arith))
 
 -- A link that is inserted at its position stands between the lower and the higher ones.
 pub insert_between : (lid : ℕ) (xs : List Enabled) (link : Enabled) → IsSorted (other_links lid xs)
@@ -112,8 +107,8 @@ sorted_between link (x ∷ xs) h = elim (cases_Bool (ltb x.lid link.lid)) [
       let lt = ltb-true x.lid link.lid e in
       rw (e, le-ltb link.lid x.lid (omega arith)) (
         all_joined (λ y. x.lid < y.lid) (lower_links link.lid xs) (higher_links link.lid xs) link
-            (all_filter (λ y. x.lid < y.lid) (λ y. ltb y.lid link.lid) xs h.0) lt
-            (all_filter (λ y. x.lid < y.lid) (λ y. ltb link.lid y.lid) xs h.0),
+            (all_filter (λ (y : Enabled). x.lid < y.lid) (λ y. ltb y.lid link.lid) xs h.0) lt
+            (all_filter (λ (y : Enabled). x.lid < y.lid) (λ y. ltb link.lid y.lid) xs h.0),
         sorted_between link xs h.1,
       )
   | inr e ↦

@@ -5,7 +5,7 @@ use Rattle.std.proofs.lemmas.Bool.{cases_Bool}
 use Rattle.sv_links.specs.declared.waiting.Entry.{Entry}
 use Rattle.sv_links.specs.Queue.{creates, creations, without}
 
-pub length_filter_le : (p : Entry → Bool) (xs : List Entry) → length (filter p xs) ≤ length xs
+pub length_filter_le : {A : Type 0} (p : A → Bool) (xs : List A) → length (filter p xs) ≤ length xs
 length_filter_le p [] = omega arith
 length_filter_le p (x ∷ xs) = elim (cases_Bool (p x)) [
   | inl e ↦ rw e (omega (arith, length_filter_le p xs))

@@ -74,7 +74,7 @@ passing_by_connection p test zero [] once below same among = refl
 passing_by_connection p test zero (x ∷ xs) once below same among = absurd (omega (arith, below.0))
 passing_by_connection p test (suc n) xs once below same among =
     let rest = passing_by_connection p test n (without n xs) (once_filter (λ x. not (eqb x.conn n)) xs once) (below_less n xs below)
-    (all_filter (λ x. p x ≡ test x.conn) (λ x. not (eqb x.conn n)) xs same)
+    (all_filter (λ (x : Entry). p x ≡ test x.conn) (λ x. not (eqb x.conn n)) xs same)
     (λ c lt k. among_without c n xs (omega (arith, lt)) (among c (omega (arith, lt)) k)) in
     let end = ap (λ (ns : List ℕ). length (filter test ns)) (range_push 0 n n (omega arith))
     ∙ pushed test (range_with_len 0 n) n in

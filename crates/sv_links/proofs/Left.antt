@@ -4,10 +4,10 @@ use Rattle.std.specs.Prelude.{map, sum}
 use Rattle.std.specs.List.{concat, AllByRecursion}
 use Rattle.std.proofs.lemmas.Bool.{cases_Bool, ltb-true, ltb-false, lt-ltb, le-ltb}
 use Rattle.std.proofs.lemmas.List.{length-append, length-drop, drop_at, drop-drop, drop-append-le}
-use Rattle.std.proofs.lemmas.List.Sums.{sum_by-cons, sum_by-append}
 use Rattle.sv_links.specs.Channels.{calls_left}
 use Rattle.sv_links.specs.Limits.{longest_call}
 use Rattle.sv_links.specs.ChannelRepresentation.{left_in}
+use Rattle.sv_rpc.proofs.Cuts.{sum_cons}
 
 -- The sizes of the remaining calls are what remains of the sizes.
 pub left_sizes : (count : ℕ) (calls : List (List ℕ)) → map length (calls_left count calls) ≡ left_in count (map length calls)
@@ -17,7 +17,7 @@ left_sizes count (call ∷ calls) = elim (cases_Bool (ltb count (length call))) 
   | inr e ↦ rw e (left_sizes (count - length call) calls)
 ]
 
-drop_past : (count : ℕ) (xs ys : List ℕ) → length xs ≤ count → drop count (xs ++ ys) ≡ drop (count - length xs) ys
+pub drop_past : (count : ℕ) (xs ys : List ℕ) → length xs ≤ count → drop count (xs ++ ys) ≡ drop (count - length xs) ys
 drop_past count xs ys h =
     let both : length xs + (count - length xs) ≡ count = omega arith in
     ap (λ (n : ℕ). drop n (xs ++ ys)) (sym both) ∙ sym (drop-drop (count - length xs) (length xs) (xs ++ ys))
@@ -72,9 +72,6 @@ calls_left_append count (first ∷ calls) call some h = elim (cases_Bool (ltb co
 
 -- ---- sizes
 
-sum_cons : (n : ℕ) (ns : List ℕ) → sum (n ∷ ns) ≡ n + sum ns
-sum_cons n ns = sum_by-cons (λ (x : ℕ). x) n ns
-
 -- The bytes that were taken and those that remain are all bytes.
 pub taken_and_left_are_all : (count : ℕ) (sizes : List ℕ) → count ≤ sum sizes → count + sum (left_in count sizes) ≡ sum sizes
 taken_and_left_are_all count [] h = omega arith
@@ -104,11 +101,3 @@ length_left count (size ∷ sizes) = elim (cases_Bool (ltb count size)) [
 pub sum_bounded : (sizes : List ℕ) → AllByRecursion (λ size. size ≤ longest_call) sizes → sum sizes ≤ longest_call * length sizes
 sum_bounded [] h = omega arith
 sum_bounded (size ∷ sizes) h = omega (arith, sum_cons size sizes, h.0, sum_bounded sizes h.1)
-
-pub sum_push : (sizes : List ℕ) (size : ℕ) → sum (sizes ++ size ∷ []) ≡ sum sizes + size
-sum_push sizes size = omega (arith, sum_by-append (λ (x : ℕ). x) sizes (size ∷ []))
-
-pub all_push : (most : ℕ) (sizes : List ℕ) (size : ℕ) → AllByRecursion (λ size. size ≤ most) sizes → size ≤ most
-    → AllByRecursion (λ size. size ≤ most) (sizes ++ size ∷ [])
-all_push most [] size h le = (le, tt)
-all_push most (first ∷ sizes) size h le = (h.0, all_push most sizes size h.1 le)

@@ -10,7 +10,7 @@ pub mod Tables
 mod Named
 pub mod Closing
 pub mod Live
-mod Left
+pub mod Left
 mod Requests
 mod Going
 mod Sent

@@ -1,19 +1,12 @@
 -- Destroying links never increases the number of live links.
-use Rattle.std.proofs.Common.{ℕ, ◌≤◌, Bool, List, [], ◌∷◌, ◌++◌, length, arith, inl, inr}
+use Rattle.std.proofs.Common.{ℕ, ◌≤◌, List, [], ◌∷◌, ◌++◌, length, arith}
 use Rattle.std.specs.Prelude.{filter}
-use Rattle.std.proofs.lemmas.Bool.{cases_Bool}
 use mathlib.Core.List.{reverse_aux-eq}
 use Rattle.sv_links.specs.declared.links.Link.{Link}
 use Rattle.sv_links.specs.Links.{LinkAct, Destroyed, live, closing}
 use Rattle.sv_links.proofs.Tables.{other_than}
 use Rattle.sv_links.proofs.Closing.{with_destroyed, of_conn}
-
-length_filter_le : (p : Link → Bool) (xs : List Link) → length (filter p xs) ≤ length xs
-length_filter_le p [] = omega arith
-length_filter_le p (x ∷ xs) = elim (cases_Bool (p x)) [
-  | inl e ↦ rw e (omega (arith, length_filter_le p xs))
-  | inr e ↦ rw e (omega (arith, length_filter_le p xs))
-]
+use Rattle.sv_links.proofs.Counted.{length_filter_le}
 
 pub destroyed_adds_no_live : (lid : ℕ) (acts : List LinkAct) → length (live (Destroyed lid ∷ acts)) ≤ length (live acts)
 destroyed_adds_no_live lid acts = length_filter_le (other_than lid) (live acts)

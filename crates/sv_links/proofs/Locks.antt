@@ -1,25 +1,22 @@
 -- Which link holds the lock after each act: lock, unlock, destroy_link.
 use Rattle.std.proofs.Common.{◌≡◌, ℕ, Bool, true, false, eqb, cond, List, [], ◌∷◌, Option, Some, None, refl, sym, ap, ◌∙◌, inl, inr, eq-eqb, ◌⊎◌}
-use Rattle.std.specs.Prelude.{not, find, ◌&&◌}
+use Rattle.std.specs.Prelude.{not, find}
 use Rattle.std.specs.Option.{option_eq}
-use Rattle.std.proofs.lemmas.Bool.{cases_Bool, eqb-true, eqb-false, ne_eqb, true≢false, false≢true}
+use Rattle.std.proofs.lemmas.Bool.{cases_Bool, eqb-true, eqb-false, ne_eqb, true≢false, false≢true, not-true, not-false, and_parts}
 use Rattle.sv_links.specs.Links.{LinkAct, Made, Destroyed, Locked, Unlocked, lock_order, is_locked, holder, is_this, is_locked_out}
 use Rattle.sv_links.specs.Table.{Table, IsTable}
+use mathlib.Core.Bool.{not-not}
 
 abbrev Among : ℕ → List ℕ → Type 0
 Among lid [] = ⊥
 Among lid (n ∷ ns) = (n ≡ lid) ⊎ Among lid ns
 
-and_true : (a b : Bool) → (a && b) ≡ true → b ≡ true
-and_true true b e = e
-and_true false b e = absurd (false≢true e)
-
 -- A link that is locked got the lock.
 was_locked : (lid : ℕ) (acts : List LinkAct) → is_locked lid acts ≡ true → Among lid (lock_order acts)
 was_locked lid [] e = absurd (false≢true e)
 was_locked lid (Made other conn ∷ acts) e = was_locked lid acts e
-was_locked lid (Destroyed other ∷ acts) e = was_locked lid acts (and_true (not (eqb other lid)) (is_locked lid acts) e)
-was_locked lid (Unlocked other ∷ acts) e = was_locked lid acts (and_true (not (eqb other lid)) (is_locked lid acts) e)
+was_locked lid (Destroyed other ∷ acts) e = was_locked lid acts (and_parts (not (eqb other lid)) (is_locked lid acts) e).1
+was_locked lid (Unlocked other ∷ acts) e = was_locked lid acts (and_parts (not (eqb other lid)) (is_locked lid acts) e).1
 was_locked lid (Locked other ∷ acts) e = elim (cases_Bool (eqb other lid)) [
   | inl k ↦ inl (eqb-true other lid k)
   | inr k ↦ inr (was_locked lid acts (rw k at e))
@@ -51,12 +48,8 @@ swap m n = elim (cases_Bool (eqb m n)) [
   | inr e ↦ rw e (sym (ne_eqb n m (λ same. eqb-false m n e (sym same))))
 ]
 
-not_not : (b : Bool) → not (not b) ≡ b
-not_not true = refl
-not_not false = refl
-
 pub own_number_not_locked_out : (m lid : ℕ) → eqb m lid ≡ not (is_locked_out (Some m) (Some lid))
-own_number_not_locked_out m lid = swap m lid ∙ sym (not_not (eqb lid m))
+own_number_not_locked_out m lid = swap m lid ∙ sym (not-not (eqb lid m))
 
 -- ---- the lock after an act
 
@@ -96,19 +89,11 @@ this_is : (lid : ℕ) (o : Option ℕ) → option_eq eqb o (Some lid) ≡ is_thi
 this_is lid None = refl
 this_is lid (Some m) = refl
 
-not_true : (b : Bool) → not b ≡ true → b ≡ false
-not_true false e = refl
-not_true true e = absurd (false≢true e)
-
-not_false : (b : Bool) → not b ≡ false → b ≡ true
-not_false true e = refl
-not_false false e = absurd (true≢false e)
-
 pub other_link_holds : (lid : ℕ) (o : Option ℕ) (r : Bool) → r ≡ not (option_eq eqb o (Some lid)) → r ≡ true → false ≡ is_this lid o
-other_link_holds lid o r told e = sym (not_true (option_eq eqb o (Some lid)) (sym told ∙ e)) ∙ this_is lid o
+other_link_holds lid o r told e = sym (not-true (option_eq eqb o (Some lid)) (sym told ∙ e)) ∙ this_is lid o
 
 pub this_link_holds : (lid : ℕ) (o : Option ℕ) (r : Bool) → r ≡ not (option_eq eqb o (Some lid)) → r ≡ false → true ≡ is_this lid o
-this_link_holds lid o r told e = sym (not_false (option_eq eqb o (Some lid)) (sym told ∙ e)) ∙ this_is lid o
+this_link_holds lid o r told e = sym (not-false (option_eq eqb o (Some lid)) (sym told ∙ e)) ∙ this_is lid o
 
 pub holder_is_this_link : (lid : ℕ) (o : Option ℕ) → true ≡ is_this lid o → o ≡ Some lid
 holder_is_this_link lid None e = absurd (true≢false e)

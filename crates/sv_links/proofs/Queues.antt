@@ -3,21 +3,19 @@ use Rattle.std.proofs.Common.{◌≡◌, ◌≢◌, ℕ, ◌+◌, ◌<◌, ◌�
 use Rattle.std.specs.Prelude.{not, map, filter, find, option_map, is_some, take, drop}
 use Rattle.std.specs.List.{AllByRecursion}
 use Rattle.std.proofs.lemmas.Bool.{ne_eqb, eqb-true, eqb-false, cases_Bool, cond_both, true≢false, false≢true, leb-true, le-leb}
-use Rattle.std.proofs.lemmas.List.Elements.{All-filter, All-push, All-from_recursion, recursion_from_All}
+use Rattle.std.proofs.lemmas.List.Elements.{All-filter, All-from_recursion, recursion_from_All}
 use Rattle.std.proofs.lemmas.List.{take_all, drop_all, append-nil}
 use Rattle.sv_logs.specs.Since.{newest}
 use Rattle.sv_links.specs.declared.waiting.Entry.{Entry}
 use Rattle.sv_links.specs.declared.waiting.Wait.{Wait}
 use Rattle.sv_links.specs.Waiting.{WaitAct, Entered, Again, Left, waits, link, arrival, enters, IsOldest, IsAble, IsExpired, is_there}
 use Rattle.sv_links.specs.Queue.{IsQueue, IsFree, IsOnce, IsBelow, IsEntry, IsOrdered, entry_of, anew, is_past, without}
+use Rattle.sv_rpc.proofs.Steps.{all_push}
 
 -- ---- properties of all entries
 
-pub all_filter : (P : Entry → Type 0) (p : Entry → Bool) (xs : List Entry) → AllByRecursion P xs → AllByRecursion P (filter p xs)
+pub all_filter : {A : Type 0} (P : A → Type 0) (p : A → Bool) (xs : List A) → AllByRecursion P xs → AllByRecursion P (filter p xs)
 all_filter P p xs h = recursion_from_All P _ (All-filter p P xs (All-from_recursion P xs h))
-
-all_push : (P : Entry → Type 0) (xs : List Entry) (x : Entry) → AllByRecursion P xs → P x → AllByRecursion P (xs ++ x ∷ [])
-all_push P xs x h k = recursion_from_All P _ (All-push P xs x (All-from_recursion P xs h) k)
 
 both : (P Q R : Entry → Type 0) → ((x : Entry) → P x → Q x → R x) → (xs : List Entry) → AllByRecursion P xs → AllByRecursion Q xs
     → AllByRecursion R xs
@@ -35,10 +33,10 @@ other_than conn x = not (eqb x.conn conn)
 pub once_filter : (p : Entry → Bool) (xs : List Entry) → IsOnce xs → IsOnce (filter p xs)
 once_filter p [] h = tt
 once_filter p (x ∷ xs) h = cond_both (p x) (x ∷ filter p xs) (filter p xs) IsOnce
-    (λ _. (all_filter (λ y. y.conn ≢ x.conn) p xs h.0, once_filter p xs h.1)) (λ _. once_filter p xs h.1)
+    (λ _. (all_filter (λ (y : Entry). y.conn ≢ x.conn) p xs h.0, once_filter p xs h.1)) (λ _. once_filter p xs h.1)
 
 pub below_filter : (p : Entry → Bool) (n : ℕ) (xs : List Entry) → IsBelow n xs → IsBelow n (filter p xs)
-below_filter p n xs h = all_filter (λ x. x.conn < n) p xs h
+below_filter p n xs h = all_filter (λ (x : Entry). x.conn < n) p xs h
 
 each_left : (conn : ℕ) (acts : List WaitAct) (xs : List Entry) → AllByRecursion (IsEntry acts) xs
     → AllByRecursion (IsEntry (Left conn ∷ acts)) (filter (other_than conn) xs)
@@ -53,7 +51,7 @@ ordered_left : (conn : ℕ) (acts : List WaitAct) (xs : List Entry) → IsOrdere
 ordered_left conn acts [] h = tt
 ordered_left conn acts (x ∷ xs) h =
     cond_both (other_than conn x) (x ∷ filter (other_than conn) xs) (filter (other_than conn) xs) (IsOrdered (Left conn ∷ acts))
-    (λ _. (all_filter (λ y. arrival x.conn acts < arrival y.conn acts) (other_than conn) xs h.0, ordered_left conn acts xs h.1))
+    (λ _. (all_filter (λ (y : Entry). arrival x.conn acts < arrival y.conn acts) (other_than conn) xs h.0, ordered_left conn acts xs h.1))
     (λ _. ordered_left conn acts xs h.1)
 
 pub free_without : (conn : ℕ) (xs : List Entry) → IsFree conn (without conn xs)
@@ -64,7 +62,7 @@ free_without conn (x ∷ xs) = cond_both (other_than conn x) (x ∷ without conn
 ordered_filter : (p : Entry → Bool) (acts : List WaitAct) (xs : List Entry) → IsOrdered acts xs → IsOrdered acts (filter p xs)
 ordered_filter p acts [] h = tt
 ordered_filter p acts (x ∷ xs) h = cond_both (p x) (x ∷ filter p xs) (filter p xs) (IsOrdered acts)
-    (λ _. (all_filter (λ y. arrival x.conn acts < arrival y.conn acts) p xs h.0, ordered_filter p acts xs h.1))
+    (λ _. (all_filter (λ (y : Entry). arrival x.conn acts < arrival y.conn acts) p xs h.0, ordered_filter p acts xs h.1))
     (λ _. ordered_filter p acts xs h.1)
 
 find_left : (conn c : ℕ) (xs : List Entry) → entry_of c (filter (other_than conn) xs) ≡ cond (eqb conn c) None (entry_of c xs)
@@ -124,7 +122,7 @@ ordered_entered : (entry : Entry) (acts : List WaitAct) (xs : List Entry) → Is
     → IsOrdered (acts_with entry acts) (xs ++ entry ∷ [])
 ordered_entered entry acts [] free h = (tt, tt)
 ordered_entered entry acts (x ∷ xs) free h = (
-  all_push (λ y. arrival x.conn (acts_with entry acts) < arrival y.conn (acts_with entry acts)) xs entry
+  all_push (λ (y : Entry). arrival x.conn (acts_with entry acts) < arrival y.conn (acts_with entry acts)) xs entry
       (both (λ y. y.conn ≢ entry.conn) (λ y. arrival x.conn acts < arrival y.conn acts)
       (λ y. arrival x.conn (acts_with entry acts) < arrival y.conn (acts_with entry acts))
       (λ y apart lt. rw (arrival_entered entry acts x free.0, arrival_entered entry acts y apart) lt) xs free.1 h.0)
@@ -161,10 +159,10 @@ is_queue_entered entry acts xs is = record {
 pub once_push : (entry : Entry) (xs : List Entry) → IsFree entry.conn xs → IsOnce xs → IsOnce (xs ++ entry ∷ [])
 once_push entry [] free h = (tt, tt)
 once_push entry (x ∷ xs) free h =
-    (all_push (λ y. y.conn ≢ x.conn) xs entry h.0 (λ e. free.0 (sym e)), once_push entry xs free.1 h.1)
+    (all_push (λ (y : Entry). y.conn ≢ x.conn) xs entry h.0 (λ e. free.0 (sym e)), once_push entry xs free.1 h.1)
 
 pub below_push : (entry : Entry) (n : ℕ) (xs : List Entry) → entry.conn < n → IsBelow n xs → IsBelow n (xs ++ entry ∷ [])
-below_push entry n xs lt h = all_push (λ x. x.conn < n) xs entry h lt
+below_push entry n xs lt h = all_push (λ (x : Entry). x.conn < n) xs entry h lt
 
 -- ---- a call that begins to wait for something else
 

@@ -7,6 +7,7 @@ use Rattle.sv_links.specs.declared.enabled.Enabled.{Enabled}
 use Rattle.sv_links.specs.Channels.{ChannelAct, SrqEnabled, SrqDisabled, srq_enabled, past, enabled_links}
 use Rattle.sv_links.specs.ChannelRepresentation.{IsSorted}
 use Rattle.sv_links.proofs.Asking.{lower_links, higher_links, other_links, none_below, all_above}
+use Rattle.std.proofs.lemmas.Option.{same_Some}
 
 -- The links with service requests enabled whose numbers are among the `n` from `a` on.
 abbrev pub enabled_among : ℕ → ℕ → List ChannelAct → List Enabled
@@ -18,15 +19,12 @@ enabled_among a n acts = filter_map (λ lid. srq_enabled lid acts) (range_with_l
 abbrev IsAt : ℕ → Option Enabled → Type 0
 IsAt a link = (x : Enabled) → link ≡ Some x → x.lid ≡ a
 
-some_is : (x y : Enabled) → Some x ≡ Some y → x ≡ y
-some_is x y e = cc
-
 pub enabled_has_number : (lid : ℕ) (acts : List ChannelAct) → IsAt lid (srq_enabled lid acts)
 enabled_has_number lid [] x h = absurd cc
 enabled_has_number lid (SrqEnabled other conn handle ∷ acts) x h = elim (cases_Bool (eqb other lid)) [
   | inl e ↦
       let one : Enabled = record { lid = lid; conn = conn; handle = handle } in
-      ap (λ (link : Enabled). link.lid) (sym (some_is one x (rw e at h)))
+      ap (λ (link : Enabled). link.lid) (sym (same_Some one x (rw e at h)))
   | inr e ↦ enabled_has_number lid acts x (rw e at h)
 ]
 enabled_has_number lid (SrqDisabled other ∷ acts) x h = elim (cases_Bool (eqb other lid)) [

@@ -1,10 +1,9 @@
 -- A channel's queue agrees with the acts when a call is appended or the peer takes bytes.
 use Rattle.std.proofs.Common.{◌≡◌, ℕ, ◌+◌, ◌<◌, ◌≤◌, Bool, true, false, List, [], ◌∷◌, ◌++◌, length, drop, Some, refl, sym, ap, subst, ◌∙◌, arith}
-use Rattle.std.specs.Prelude.{map, nat_lt, ◌&&◌, if◌then◌else◌}
+use Rattle.std.specs.Prelude.{map, nat_lt, if◌then◌else◌}
 use Rattle.std.specs.List.{concat}
-use Rattle.std.proofs.lemmas.Bool.{lt-ltb, le-ltb}
-use Rattle.std.proofs.lemmas.List.{append-nil, length-append, length-drop, length-map, length_push, map_push}
-use Rattle.std.proofs.lemmas.List.Folds.{concat-append}
+use Rattle.std.proofs.lemmas.Bool.{lt-ltb, le-ltb, and_right}
+use Rattle.std.proofs.lemmas.List.{length-append, length-drop, length-map, length_push, map_push}
 use Rattle.sv_links.specs.declared.channel.Stage.{Stage}
 use Rattle.sv_links.specs.declared.channel.Stage.TheVariants.{Closed, Open}
 use Rattle.sv_links.specs.declared.request.Peer.{Peer}
@@ -14,6 +13,7 @@ use Rattle.sv_links.specs.Channels.{calls_left, may_call, add_call}
 use Rattle.sv_links.specs.ChannelRepresentation.{Channel, IsQueued, left_in}
 use Rattle.sv_links.proofs.Left.{left_sizes, left_bytes, calls_left_twice, calls_left_append}
 use Rattle.sv_links.proofs.Requests.{request_is_some}
+use Rattle.sv_rpc.proofs.EveryStream.{concat_more}
 
 -- The peer takes bytes.
 pub is_queued_taken : (old new : Channel) (before count : ℕ) (calls : List (List ℕ)) → new.made ≡ old.made
@@ -27,9 +27,6 @@ is_queued_taken old new before count calls made sizes bytes within is = (
   omega (arith, within, ap length is.2, ap length (left_bytes before calls), length-drop before (concat calls), is.3),
 )
 
-concat_push : (calls : List (List ℕ)) (call : List ℕ) → concat (calls ++ call ∷ []) ≡ concat calls ++ call
-concat_push calls call = concat-append calls (call ∷ []) ∙ ap (λ (t : List ℕ). concat calls ++ t) (append-nil call)
-
 -- A call is appended.
 pub is_queued_called : (old new : Channel) (count : ℕ) (calls : List (List ℕ)) (call : List ℕ) → new.made ≡ old.made + 1
     → new.sizes ≡ old.sizes ++ length call ∷ [] → new.bytes ≡ old.bytes ++ call → 0 < length call
@@ -39,8 +36,8 @@ is_queued_called old new count calls call made sizes bytes some is =
       made ∙ ap (λ (n : ℕ). n + 1) is.0 ∙ sym (length_push calls call),
       sizes ∙ ap (λ (ns : List ℕ). ns ++ length call ∷ []) is.1 ∙ sym (map_push length (calls_left count calls) call)
           ∙ ap (map length) (sym left),
-      bytes ∙ ap (λ (b : List ℕ). b ++ call) is.2 ∙ sym (concat_push (calls_left count calls) call) ∙ ap concat (sym left),
-      omega (arith, is.3, ap length (concat_push calls call), length-append (concat calls) call),
+      bytes ∙ ap (λ (b : List ℕ). b ++ call) is.2 ∙ sym (concat_more (calls_left count calls) call) ∙ ap concat (sym left),
+      omega (arith, is.3, ap length (concat_more calls call), length-append (concat calls) call),
     )
 
 -- ---- whether a call may be appended
@@ -54,14 +51,11 @@ pub may_call_with_room : (kept : Channel) (count : ℕ) (calls : List (List ℕ)
 may_call_with_room kept count calls is h k =
     rw (← sizes_are kept count calls is, ← is.0, lt-ltb (length kept.sizes) max_calls h, lt-ltb kept.made 4294967295 k) refl
 
-and_false : (b : Bool) (m : ℕ) → 4294967295 ≤ m → (b && nat_lt m 4294967295) ≡ false
-and_false true m h = rw (le-ltb m 4294967295 h) refl
-and_false false m h = refl
-
 pub no_number_is_left : (kept : Channel) (count : ℕ) (calls : List (List ℕ)) → IsQueued kept count calls → 4294967295 ≤ kept.made
     → may_call count calls ≡ false
 no_number_is_left kept count calls is h =
-    rw (← is.0) (and_false (nat_lt (length (calls_left count calls)) max_calls) kept.made h)
+    rw (← is.0) (and_right (nat_lt (length (calls_left count calls)) max_calls) (nat_lt kept.made 4294967295)
+    (le-ltb kept.made 4294967295 h))
 
 -- The calls, with one more if it may be appended.
 abbrev calls_with_one_more : Peer → List ℕ → List (List ℕ) → Bool → List (List ℕ)

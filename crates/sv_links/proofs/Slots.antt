@@ -8,26 +8,20 @@ use Rattle.std.specs.Borrow.{MutBor}
 use Rattle.slab.specs.Slab.{RetainsFrom}
 use Rattle.sv_links.specs.declared.links.Link.{Link}
 use Rattle.sv_links.specs.Table.{IsKept}
+use Rattle.std.proofs.lemmas.List.Elements.{filter-append}
 
 -- The slot, emptied if its link doesn't pass the test.
 abbrev pub keep : (Link → Bool) → Option Link → Option Link
 keep p None = None
 keep p (Some link) = cond (p link) (Some link) None
 
-filter_append : (p : Link → Bool) (xs ys : List Link) → filter p (xs ++ ys) ≡ filter p xs ++ filter p ys
-filter_append p [] ys = refl
-filter_append p (x ∷ xs) ys = elim (cases_Bool (p x)) [
-  | inl e ↦ rw e (ap (λ (zs : List Link). x ∷ zs) (filter_append p xs ys))
-  | inr e ↦ rw e (filter_append p xs ys)
-]
-
 pub kept_filter : (p : Link → Bool) (slots : List (Option Link)) (links : List Link) → IsKept slots links
     → IsKept (map (keep p) slots) (filter p links)
 kept_filter p [] links e = rw e refl
 kept_filter p (None ∷ slots) links h = kept_filter p slots links h
 kept_filter p (Some x ∷ slots) links h =
-    let rest = subst (IsKept (map (keep p) slots)) (filter_append p h.0 h.1) (kept_filter p slots (h.0 ++ h.1) h.3) in
-    let whole = filter_append p h.0 (x ∷ h.1) in
+    let rest = subst (IsKept (map (keep p) slots)) (filter-append p h.0 h.1) (kept_filter p slots (h.0 ++ h.1) h.3) in
+    let whole = filter-append p h.0 (x ∷ h.1) in
     rw (h.2, whole) (elim (cases_Bool (p x)) [
       | inl e ↦ rw e (filter p h.0, filter p h.1, refl, rest)
       | inr e ↦ rw e rest

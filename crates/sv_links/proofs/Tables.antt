@@ -3,7 +3,7 @@ use Rattle.std.proofs.Common.{◌≡◌, ◌≢◌, ℕ, ◌+◌, ◌<◌, ◌�
 use Rattle.std.specs.Prelude.{not, map, filter, length, slice_index_or, nat_lt, ◌&&◌}
 use Rattle.std.specs.List.{AllByRecursion}
 use Rattle.std.specs.Option.{option_eq}
-use Rattle.std.proofs.lemmas.Bool.{cond_both, false≢true, le-ltb, lt-ltb}
+use Rattle.std.proofs.lemmas.Bool.{cond_both, false≢true, le-ltb, lt-ltb, and_right}
 use Rattle.std.proofs.lemmas.List.Elements.{All-filter, All-push, All-from_recursion, recursion_from_All}
 use Rattle.sv_links.specs.declared.links.Link.{Link}
 use Rattle.sv_links.specs.declared.links.CreateRefused.{CreateRefused}
@@ -81,15 +81,12 @@ may_make_is table acts is = rw (count_is_live table acts is, is.made) refl
 full : (n m : ℕ) → max_links ≤ n → (nat_lt n max_links && nat_lt m 2147483647) ≡ false
 full n m h = rw (le-ltb n max_links h) refl
 
-used : (b : Bool) (m : ℕ) → 2147483647 ≤ m → (b && nat_lt m 2147483647) ≡ false
-used true m h = rw (le-ltb m 2147483647 h) refl
-used false m h = refl
-
 pub may_make_when_full : (table : Table) (acts : List LinkAct) → IsTable table acts → max_links ≤ count_of table → may_make acts ≡ false
 may_make_when_full table acts is h = may_make_is table acts is ∙ full (count_of table) table.made h
 
 pub may_make_without_numbers : (table : Table) (acts : List LinkAct) → IsTable table acts → 2147483647 ≤ table.made → may_make acts ≡ false
-may_make_without_numbers table acts is h = may_make_is table acts is ∙ used (nat_lt (count_of table) max_links) table.made h
+may_make_without_numbers table acts is h = may_make_is table acts is
+    ∙ and_right (nat_lt (count_of table) max_links) (nat_lt table.made 2147483647) (le-ltb table.made 2147483647 h)
 
 pub may_make_with_room : (table : Table) (acts : List LinkAct) → IsTable table acts → count_of table < max_links → table.made < 2147483647
     → may_make acts ≡ true

@@ -1,29 +1,14 @@
 -- What a writer has accepted of texts that are written in order.
-use Rattle.std.proofs.Common.{◌≡◌, ℕ, ◌+◌, ◌-◌, ◌<◌, ◌≤◌, ◌/◌, ◌%◌, Bool, true, false, List, [], ◌∷◌, ◌++◌, length, take, drop, map, Option, Some, None, refl, sym, ap, ◌∙◌, append_assoc, append-nil, slice_index, slice_index_or, subst, arith}
+use Rattle.std.proofs.Common.{◌≡◌, ℕ, ◌+◌, ◌-◌, ◌<◌, ◌≤◌, ◌/◌, ◌%◌, Bool, true, false, List, [], ◌∷◌, ◌++◌, length, take, drop, map, Option, refl, sym, ap, ◌∙◌, append_assoc, append-nil, slice_index, slice_index_or, subst, arith}
 use Rattle.std.specs.List.{concat}
 use Rattle.std.proofs.lemmas.List.{take_all, take-append-drop, length-drop, map_more, map-append}
 use Rattle.std.proofs.lemmas.List.Folds.{concat-append}
 use Rattle.hex.specs.Hex.{encode_with, encode_lower, lower_digits}
 use Rattle.std.specs.Prelude.{Result, Ok, Err, ⊤, IsErr}
-use Rattle.std.specs.Io.KnownBytes.{Appends, Keeps}
+use Rattle.std.specs.Io.KnownBytes.{Appends}
 use Rattle.sv_print.specs.TakenByWriter.{IsTakenByWriter}
 use Rattle.sv_print.specs.Printed.{Prints}
-
-pub appends_none : (old : Option (List ℕ)) → Appends old old []
-appends_none None = tt
-appends_none (Some xs) = sym (append-nil xs)
-
-pub appends_keeps : (old mid new : Option (List ℕ)) (a : List ℕ) → Appends old mid a → Keeps mid new → Appends old new a
-appends_keeps None mid new a x y = tt
-appends_keeps (Some xs) (Some ys) (Some zs) a x y = y ∙ x
-appends_keeps (Some xs) None new a x y = elim x [ ]
-appends_keeps (Some xs) (Some ys) None a x y = elim y [ ]
-
-pub appends_then : (old mid new : Option (List ℕ)) (a b : List ℕ) → Appends old mid a → Appends mid new b → Appends old new (a ++ b)
-appends_then None mid new a b x y = tt
-appends_then (Some xs) (Some ys) (Some zs) a b x y = y ∙ ap (λ (l : List ℕ). l ++ b) x ∙ append_assoc xs a b
-appends_then (Some xs) None new a b x y = elim x [ ]
-appends_then (Some xs) (Some ys) None a b x y = elim y [ ]
+pub use Rattle.std.proofs.KnownBytes.{Appends-nil as appends_none, Appends-kept as appends_keeps, Appends-trans as appends_then}
 
 -- If the first write fails, the writer accepted a prefix of both texts.
 pub first_text_fails : {E F : Type 0} (old new : Option (List ℕ)) (a b : List ℕ) (e : E) (r : Result ⊤ F) → IsErr r

@@ -3,7 +3,7 @@ use Rattle.std.proofs.Common.{◌≡◌, ℕ, ◌+◌, Bool, true, false, List, 
 use Rattle.std.specs.Prelude.{◌==◌}
 use Rattle.std.specs.Io.KnownBytes.{Keeps}
 use Rattle.std.proofs.lemmas.Bool.{ne_eqb, cond_both}
-use Rattle.sv_history.specs.Event.{PlainEvent, Open, Bytes, Turn, Refuse, Took, Close, Dialed, Input, External, Tick}
+use Rattle.sv_history.specs.Event.{PlainEvent, Took, Tick}
 use Rattle.sv_print.specs.Printed.{Prints}
 use Rattle.sv_print.proofs.Taking.{appends_keeps, prints_then}
 use Rattle.sv_recording.specs.Tape.{TapeState, Writes, numbered, event_line, ticks_line, pending, script}
@@ -90,13 +90,6 @@ module _ {W : Type 0} (contents : W → Option (List ℕ)) (first : Option (List
   pub noted : (history : List PlainEvent) (event : PlainEvent) (tape : TapeState W) → has_line event ≡ true
       → Writes contents first ((script history ++ ticks_line (pending history)) ++ event_line event) 0 tape
       → Writes contents first (script (event ∷ history)) (pending (event ∷ history)) tape
-  noted history (Open c role) tape so writes = writes
-  noted history (Bytes c piece) tape so writes = writes
-  noted history (Turn c) tape so writes = writes
-  noted history (Refuse c) tape so writes = writes
   noted history (Took port n) tape so writes = absurd (let z : false ≡ true = so in cc)
-  noted history (Close port) tape so writes = writes
-  noted history (Dialed c ok) tape so writes = writes
-  noted history (Input channel microvolts) tape so writes = writes
-  noted history External tape so writes = writes
   noted history Tick tape so writes = absurd (let z : false ≡ true = so in cc)
+  noted history _ tape so writes = writes

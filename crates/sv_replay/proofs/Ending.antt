@@ -17,8 +17,8 @@ use Rattle.sv_replay.specs.declared.fault.RunFault.{RunFault}
 use Rattle.sv_replay.specs.declared.fault.RunFault.TheVariants.{BadLine, Input, Output, Memory}
 use Rattle.sv_replay.specs.Run.{Runs, RunsExplained}
 use Rattle.sv_replay.specs.Stage.{StepsRun, RunsIn, ScriptRuns}
-use Rattle.sv_replay.proofs.Going.{consumes_none}
 use Rattle.sv_replay.proofs.Staged.{output_fault_replaces}
+use Rattle.std.proofs.KnownBytes.{Consumes-nil}
 
 -- In either mode, a fault that stops the lines is a fault of the run.
 fault_in_both_modes : (config : Config) (mode : Mode) (read text : List ℕ) (rest : Option (List ℕ)) (fault : RunFault)
@@ -36,7 +36,7 @@ memory_refused_at_start config mode reader first (Ok all) failed is = absurd cc
 memory_refused_at_start config mode reader first (Err e) failed is = (
   [],
   [],
-  consumes_none reader,
+  Consumes-nil reader,
   appends_none first,
   subst (λ (f : RunFault). RunsIn config mode [] reader (Err f) []) (sym is)
       (fault_in_both_modes config mode [] [] reader Memory (inl (refl, refl))),

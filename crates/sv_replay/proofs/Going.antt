@@ -1,5 +1,5 @@
 -- How one step of a run leads from one stage of the replay to the next.
-use Rattle.std.proofs.Common.{◌≡◌, ℕ, ◌+◌, ◌<◌, true, false, Bool, List, [], ◌∷◌, ◌++◌, length, take, drop, Option, Some, None, refl, sym, ap, subst, ◌∙◌, inl, inr, append-nil, append_assoc, arith}
+use Rattle.std.proofs.Common.{◌≡◌, ℕ, ◌+◌, ◌<◌, true, false, Bool, List, [], ◌∷◌, ◌++◌, length, take, drop, Option, Some, None, refl, sym, ap, subst, ◌∙◌, inl, inr, append-nil, arith}
 use Rattle.std.specs.Prelude.{Result, Ok, Err, ⊤, IsErr, IsErrAnd}
 use Rattle.std.proofs.lemmas.List.{take_all}
 use Rattle.std.specs.Io.KnownBytes.{Consumes, Appends, Keeps, IsAtEnd}
@@ -15,10 +15,7 @@ use Rattle.sv_replay.specs.Run.{Runs}
 use Rattle.sv_replay.specs.Stage.{IsStage, IsDone, Goes, Further, StepsRun}
 use Rattle.sv_replay.proofs.Parts.{parts_at_newline, parts_of_no_newline, parts_never_empty}
 use Rattle.sv_replay.proofs.Staged.{DoesLine, stage_start, stage_line, stage_last, stage_stop, stage_read, stage_long, stage_output, stage_input}
-
-pub consumes_none : (old : Option (List ℕ)) → Consumes old old []
-consumes_none None = tt
-consumes_none (Some xs) = refl
+use Rattle.std.proofs.KnownBytes.{Consumes-trans, Consumes-nil}
 
 keeps_appends : (old mid new : Option (List ℕ)) (a : List ℕ) → Keeps old mid → Appends mid new a → Appends old new a
 keeps_appends None mid new a x y = tt
@@ -55,7 +52,7 @@ go_line config mode old new left line rest len number next reader first last fou
     ∙ ap (λ (l : List ℕ). l ∷ parts (drop (len + 1) left)) (sym cut)
     ∙ ap (λ (l : List ℕ). line ∷ parts l) (sym is) in
     let (other, put, on) = stage_line config mode old new left rest line number next read text first last whole up stage does in
-    ([], other, consumes_none reader, put, nothing_more_read (λ r. IsStage config mode new rest next r (text ++ other)) read [] refl on)
+    ([], other, Consumes-nil reader, put, nothing_more_read (λ r. IsStage config mode new rest next r (text ++ other)) read [] refl on)
 
 pub go_line_stop : (config : Config) (mode : Mode) (old new : State) (left line rest : List ℕ) (len number next last_number : ℕ)
     (reader first last : Option (List ℕ))
@@ -72,7 +69,7 @@ go_line_stop config mode old new left line rest len number next last_number read
     (inl (parts_never_empty (drop (len + 1) left))) stage does in (
       [],
       other,
-      consumes_none reader,
+      Consumes-nil reader,
       put,
       goes_with_fault config mode new rest last_number reader fault result (read ++ []) (text ++ other) failed is
           (nothing_more_read (λ r. Runs config mode r reader (Err fault) (text ++ other)) read [] refl runs),
@@ -84,7 +81,7 @@ pub go_long : (config : Config) (mode : Mode) (old : State) (left : List ℕ) (n
 go_long config mode old left number next reader first none long up read text stage = (
   [],
   [],
-  consumes_none reader,
+  Consumes-nil reader,
   appends_none first,
   nothing_more_read (λ r. Runs config mode r reader (Err (BadLine next)) (text ++ [])) read [] refl
       (nothing_more_read (λ t. Runs config mode read reader (Err (BadLine next)) t) text [] refl
@@ -99,7 +96,7 @@ pub go_output : (config : Config) (mode : Mode) (old : State) (left : List ℕ) 
 go_output config mode old left number reader first last fault result kept told failed is read text stage = (
   [],
   [],
-  consumes_none reader,
+  Consumes-nil reader,
   appends_keeps first first last [] (appends_none first) kept,
   goes_with_fault config mode old left number reader fault result (read ++ []) (text ++ []) failed is
       (rw told (nothing_more_read (λ r. Runs config mode r reader (Err Output) (text ++ [])) read [] refl
@@ -181,12 +178,6 @@ go_last config mode old new left rest line more number next last_number reader a
       ),
     )
 
-consumes_then : (old mid new : Option (List ℕ)) (a b : List ℕ) → Consumes old mid a → Consumes mid new b → Consumes old new (a ++ b)
-consumes_then None mid new a b x y = tt
-consumes_then (Some xs) None new a b x y = elim x [ ]
-consumes_then (Some xs) (Some ys) None a b x y = elim y [ ]
-consumes_then (Some xs) (Some ys) (Some zs) a b x y = x ∙ ap (λ (l : List ℕ). a ++ l) y ∙ sym (append_assoc a b zs)
-
 -- What was read and printed since the start of the run, and a fact about it.
 abbrev pub SoFar : Option (List ℕ) → Option (List ℕ) → Option (List ℕ) → Option (List ℕ) → (List ℕ → List ℕ → Type 0) → Type 0
 SoFar reader after first last fact = (read text : List ℕ) × Consumes reader after read × Appends first last text × fact read text
@@ -197,7 +188,7 @@ pub so_far_start : (config : Config) (mode : Mode) (server : State) (left : List
 so_far_start config mode server left number reader first s none zero_lines = (
   [],
   [],
-  consumes_none reader,
+  Consumes-nil reader,
   appends_none first,
   subst (λ (l : List ℕ). IsStage config mode server l number [] []) (sym none)
       (subst (λ (n : ℕ). IsStage config mode server [] n [] []) (sym zero_lines) (stage_start config mode server s)),
@@ -215,7 +206,7 @@ so_far_step config mode own old new left rest number next reader middle after fi
     subst (λ (m : Mode). StepLeads config m old new left rest number next middle after mid last result) same going read text stage in (
       read ++ more,
       text ++ other,
-      consumes_then reader middle after read more took took_more,
+      Consumes-trans reader middle after read more took took_more,
       appends_then first mid last text other put put_more,
       goes,
     )

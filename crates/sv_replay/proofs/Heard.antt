@@ -2,7 +2,7 @@
 use Rattle.std.proofs.Common.{◌≡◌, ◌⊎◌, ℕ, Bool, List, Result, Ok, Err, subst, sym, inl, inr, IsErr, IsErrAnd}
 use Rattle.std.specs.Prelude.{⊤, IfErr}
 use Rattle.sv_replay.specs.declared.fault.RunFault.{RunFault}
-use Rattle.sv_replay.specs.declared.fault.RunFault.TheVariants.{BadLine, Input, Output, Memory}
+use Rattle.sv_replay.specs.declared.fault.RunFault.TheVariants.{Input, Output}
 use Rattle.sv_replay.specs.declared.input.InputFault.{InputFault}
 use Rattle.sv_server.specs.declared.replay.ReplayFault.{ReplayFault}
 use Rattle.sv_server.specs.declared.replay.ReplayFault.TheVariants.{NoMemory, Write}
@@ -18,11 +18,8 @@ input_fault_passed_on {A = A} (Err e) fault fact failed is on = subst (λ (f : R
 
 -- If the result isn't the fault `Input`, nothing is claimed of the reads.
 pub not_an_input_fault : {A : Type 0} (result : Result A RunFault) (fact : Type 0) → OnInput result ⊥ → OnInput result fact
-not_an_input_fault (Ok a) fact none = tt
-not_an_input_fault (Err (BadLine n)) fact none = tt
 not_an_input_fault (Err Input) fact none = absurd none
-not_an_input_fault (Err Output) fact none = tt
-not_an_input_fault (Err Memory) fact none = tt
+not_an_input_fault _ fact none = tt
 
 -- A fault of a replay is never reported as `Input`.
 pub replay_fault_is_not_input : (A : Type 0) (fault : ReplayFault) → OnInput {A = A} (Err (run_fault fault)) ⊥

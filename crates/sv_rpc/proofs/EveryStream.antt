@@ -36,7 +36,7 @@ fragments_append (first ∷ front) text rest =
     ∙ ap (λ (l : List ℕ). fragment false first ++ l) (fragments_append front text rest)
     ∙ sym (append_assoc (fragment false first) (flat_map (fragment false) front) (fragment false text ++ rest))
 
-concat_more : (front : List (List ℕ)) (text : List ℕ) → concat (front ++ text ∷ []) ≡ concat front ++ text
+pub concat_more : (front : List (List ℕ)) (text : List ℕ) → concat (front ++ text ∷ []) ≡ concat front ++ text
 concat_more [] text = append-nil text
 concat_more (first ∷ front) text = ap (λ (l : List ℕ). first ++ l) (concat_more front text) ∙ sym (append_assoc first (concat front) text)
 

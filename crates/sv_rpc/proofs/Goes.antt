@@ -138,8 +138,7 @@ completed_header_word header n byte word four is value whole =
 pub three_header_bytes_came : (spot : Place) (payload n : ℕ) (p h : List ℕ) → IsPlace spot payload n → IsInHeader (tail_of spot p h) → 3 ≤ n
     → n ≡ 3
 three_header_bytes_came place.Header payload n p h at in_header le = omega (arith, at.1)
-three_header_bytes_came (place.Data missing last) payload n p h at in_header le = absurd in_header
-three_header_bytes_came place.TooLong payload n p h at in_header le = absurd in_header
+three_header_bytes_came _ payload n p h at in_header le = absurd in_header
 
 -- A byte that doesn't complete the header is stored after the others.
 pub header_byte_stored : (bytes lengths header : List ℕ) (n byte : ℕ) (spot : Place) (old : Records)

@@ -3,7 +3,7 @@ use Rattle.std.proofs.Common.{◌≡◌, ℕ, ◌+◌, ◌-◌, sym, List, [], �
 use Rattle.std.specs.Prelude.{Bool, true, false, ◌*◌, ◌%◌, ◌==◌, cond, slice_get, option_map}
 use Rattle.sv_scan.specs.declared.setting.Reading.{Reading}
 use Rattle.sv_scan.specs.declared.acts.ScanAct.{ScanAct}
-use Rattle.sv_scan.specs.declared.acts.ScanAct.TheVariants.{Input, Configure, Init, Abort, Reset, Trigger, Sample}
+use Rattle.sv_scan.specs.declared.acts.ScanAct.TheVariants.{Init, Abort, Reset, Sample}
 use Rattle.sv_scan.specs.Setting.{scan_list, count}
 use Rattle.std.specs.Option.{option_map_or}
 use Rattle.sv_scan.specs.declared.setting.State.{State}
@@ -23,9 +23,7 @@ length_readings (Sample ∷ log) = length-append (readings log) (reading log ∷
 length_readings (Init ∷ log) = refl
 length_readings (Abort ∷ log) = refl
 length_readings (Reset ∷ log) = refl
-length_readings (Input channel microvolts ∷ log) = length_readings log
-length_readings (Configure setting ∷ log) = length_readings log
-length_readings (Trigger source ∷ log) = length_readings log
+length_readings (_ ∷ log) = length_readings log
 
 pub last_reading_is_found : (found kept : List Reading) (log : List ScanAct) → found ≡ kept → kept ≡ readings log
     → slice_get found (length found - 1) ≡ last_reading log

@@ -107,9 +107,7 @@ holds_run contents log Init now made touched e is at has said = assumption
 holds_run contents log (Trigger from) now made touched e is at has said = assumption
 holds_run contents log Abort now made touched e is at has said = assumption
 holds_run contents log Sample now made touched e is at has said = assumption
-holds_run contents log (Input channel microvolts) now made touched e is at has said = cc
-holds_run contents log (Configure setting) now made touched e is at has said = cc
-holds_run contents log Reset now made touched e is at has said = cc
+holds_run contents log _ now made touched e is at has said = cc
 
 -- A channel is sampled.
 abbrev pub sampled : Contents → Run → Reading

@@ -2,7 +2,7 @@
 use Rattle.std.proofs.Common.{◌≡◌, ℕ, ◌<◌, List, ◌++◌, take, drop, length, min, inr, refl, subst, ap, ◌∙◌, arith}
 use Rattle.std.proofs.lemmas.List.{take_at, take-append-le, length-take}
 use Rattle.sv_serve.specs.declared.wire.Answer.{Answer}
-use Rattle.sv_serve.specs.declared.wire.Answer.TheVariants.{Got, Pending, Failed}
+use Rattle.sv_serve.specs.declared.wire.Answer.TheVariants.{Got}
 use Rattle.sv_history.specs.declared.event.Config.{Config}
 use Rattle.sv_serve.specs.Heard.{Heard, WasRead, bytes_of, IsWithin, IsPiece}
 use Rattle.sv_serve.specs.DriverView.{DriverView}
@@ -12,13 +12,11 @@ use Rattle.sv_serve.specs.Steps.{Comes, ReadsUpTo}
 pub bytes_in_front : (answer : Answer ℕ) (front rest : List ℕ) → IsWithin answer (length front)
     → bytes_of answer (front ++ rest) ≡ bytes_of answer front
 bytes_in_front (Got n) front rest h = ap Got (take-append-le n front rest h)
-bytes_in_front Pending front rest h = refl
-bytes_in_front Failed front rest h = refl
+bytes_in_front _ front rest h = refl
 
 pub within_piece : (answer : Answer ℕ) (buffer : List ℕ) (size : ℕ) → IsWithin answer size → IsPiece (bytes_of answer buffer) size
 within_piece (Got n) buffer size h = let long = length-take n buffer in omega (arith, h, long)
-within_piece Pending buffer size h = tt
-within_piece Failed buffer size h = tt
+within_piece _ buffer size h = tt
 
 -- New contents of a buffer that was lent as a whole replace all that it held.
 pub overwritten_whole : (len : ℕ) (items lent new : List ℕ) → length lent ≡ len → length new ≡ length lent

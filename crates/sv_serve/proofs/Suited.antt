@@ -1,21 +1,20 @@
 -- The answers of the server's queries allow each event that the driver makes from an answer of its
 -- wire, so the server applies it.
-use Rattle.std.proofs.Common.{◌≡◌, ℕ, ◌<◌, ◌≤◌, Bool, true, false, List, [], ◌∷◌, length, Option, Some, None, Result, Ok, Err, refl, sym, ap, subst, ◌∙◌, inl, inr, arith, le-ltb}
-use Rattle.std.specs.Prelude.{min, not, is_some, ◌||◌}
-use Rattle.std.proofs.lemmas.Bool.{cases_Bool}
-use Rattle.sv_links.specs.Channels.{ChannelAct, is_channel_open, waiting as channel_waiting}
+use Rattle.std.proofs.Common.{◌≡◌, ℕ, ◌<◌, ◌≤◌, Bool, true, false, List, [], ◌∷◌, length, Option, Some, None, Result, Ok, Err, refl, sym, ap, subst, ◌∙◌, arith, le-ltb}
+use Rattle.std.specs.Prelude.{min, not, ◌||◌}
+use Rattle.sv_links.specs.Channels.{ChannelAct, waiting as channel_waiting}
 use Rattle.sv_history.specs.declared.event.Config.{Config}
 use Rattle.sv_history.specs.declared.event.Dial.{Dial}
 use Rattle.sv_history.specs.declared.event.Did.{Did}
 use Rattle.sv_history.specs.declared.event.Did.TheVariants.{Done}
 use Rattle.sv_history.specs.declared.event.Refused.{Refused}
-use Rattle.sv_history.specs.declared.event.Refused.TheVariants.{NoMemory, ConnInUse, NoConn, NoRoom, NotSent, NoDial, NotRefusable, BadChannel, BadInput, TimeOver}
+use Rattle.sv_history.specs.declared.event.Refused.TheVariants.{NoMemory}
 use Rattle.sv_history.specs.declared.event.Role.{Role}
 use Rattle.sv_history.specs.declared.event.Port.{Port}
 use Rattle.sv_history.specs.declared.event.Port.TheVariants.{Conn, Intr}
 use Rattle.sv_history.specs.Event.{PlainEvent, Open, Bytes, Turn, Refuse, Took, Close, Dialed, port_number}
-use Rattle.sv_history.specs.Act.{Act, ConnAct, Opened, Piece, CallTaken, Faulted, Replied, BytesTaken, PortClosed, of, device_acts}
-use Rattle.sv_history.specs.Connection.{is_open, room, waiting, is_faulted, open_role}
+use Rattle.sv_history.specs.Act.{Act, ConnAct, PortClosed, of, device_acts}
+use Rattle.sv_history.specs.Connection.{is_open, room, is_faulted, open_role}
 use Rattle.sv_history.specs.Interrupts.{has_channel}
 use Rattle.sv_history.specs.Requests.{HearsOf}
 use Rattle.sv_history.specs.History.{is_port_shut, IsLogOf, Answers, history_after}
@@ -25,7 +24,7 @@ use Rattle.sv_history.proofs.AlwaysTold.{channel_log_exists}
 use Rattle.sv_history.proofs.Telling.{channel_open_by_channel_log}
 use Rattle.sv_history.proofs.Unrecorded.{nothing_faulted}
 use Rattle.sv_laws.proofs.OneLog.{one_log}
-use Rattle.sv_laws.proofs.NothingLost.{nothing_lost}
+use Rattle.sv_laws.proofs.NothingLost.{nothing_lost, open_room, open_waiting, some_role, channel_open_if_some_wait}
 use Rattle.sv_laws.proofs.CanBeRefused.{can_be_refused}
 use Rattle.sv_laws.proofs.ShutIsClear.{shut_is_clear}
 use Rattle.sv_serve.specs.declared.wire.Answer.{Answer}
@@ -39,6 +38,7 @@ use Rattle.sv_laws.specs.Laws.{Suits}
 use Rattle.sv_replay.specs.Entry.{stimulus_event, IsAccepted}
 use Rattle.sv_replay.specs.declared.entry.Stimulus.{Stimulus}
 use Rattle.sv_replay.specs.declared.entry.Stimulus.TheVariants as stimuli
+use Rattle.std.proofs.lemmas.Bool.{not-true}
 
 -- ---- an event that is allowed is applied
 
@@ -63,41 +63,20 @@ open_by : {W : Type 0} (c : ℕ) (config : Config) (at : DriverView W) (log : Li
     → is_open (of c log) ≡ true → IsOpen (Conn c) config at true
 open_by c config at log lt was opened = (log, was, sym (ap not (not_shut c log lt opened)))
 
-has_room : (acts : List ConnAct) → 0 < room acts → is_open acts ≡ true
-has_room acts lt = elim (cases_Bool (is_open acts)) [
-  | inl e ↦ e
-  | inr e ↦ absurd (let none : room acts ≡ 0 = rw e refl in omega (arith, lt, none))
-]
-
-pub has_waiting : (acts : List ConnAct) → 0 < length (waiting acts) → is_open acts ≡ true
-has_waiting acts lt = elim (cases_Bool (is_open acts)) [
-  | inl e ↦ e
-  | inr e ↦ absurd (let none : length (waiting acts) ≡ 0 = rw e refl in omega (arith, lt, none))
-]
-
 pub room_means_open : {W : Type 0} (c room : ℕ) (config : Config) (at : DriverView W) → c < 16 → 0 < room → HasRoom c config at room
     → IsOpen (Conn c) config at true
 room_means_open c room config at lt some (log, was, is) =
-    open_by c config at log lt was (has_room (of c log) (subst (λ (n : ℕ). 0 < n) is some))
+    open_by c config at log lt was (open_room (of c log) (subst (λ (n : ℕ). 0 < n) is some))
 
 pub waiting_means_open : {W : Type 0} (c : ℕ) (bytes : List ℕ) (config : Config) (at : DriverView W) → c < 16 → 0 < length bytes
     → Waits (Conn c) config at bytes → IsOpen (Conn c) config at true
 waiting_means_open c bytes config at lt some (log, channel_log, was, tells, is) =
-    open_by c config at log lt was (has_waiting (of c log) (subst (λ (l : List ℕ). 0 < length l) is some))
+    open_by c config at log lt was (open_waiting (of c log) (subst (λ (l : List ℕ). 0 < length l) is some))
 
 clear_faulted : (acts : List ConnAct) → IsClear acts → false ≡ is_faulted acts
 clear_faulted [] h = nothing_faulted [] refl
 clear_faulted (PortClosed ∷ acts) h = nothing_faulted [] refl
-clear_faulted (Opened role ∷ acts) h = absurd h
-clear_faulted (Piece bytes ∷ acts) h = absurd h
-clear_faulted (CallTaken call ∷ acts) h = absurd h
-clear_faulted (Faulted ∷ acts) h = absurd h
-clear_faulted (Replied bytes ∷ acts) h = absurd h
-clear_faulted (BytesTaken count ∷ acts) h = absurd h
-
-some_role : (found : Option Role) → (found ≡ None → ⊥) → is_some found ≡ true
-some_role (Some role) h = refl
-some_role None h = absurd (h refl)
+clear_faulted (_ ∷ acts) h = absurd h
 
 pub faulted_open : {W : Type 0} (c : ℕ) (config : Config) (at : DriverView W) → c < 16 → IsFaulted c config at true
     → IsOpen (Conn c) config at true
@@ -107,22 +86,15 @@ faulted_open c config at lt (log, was, is) = open_by c config at log lt was (som
 pub channel_open : (c : ℕ) (channel_log : List ChannelAct) (log : List Act) → c < 16 → HearsOf (device_acts log) channel_log
     → 0 < length (channel_waiting c channel_log) → is_port_shut (Intr c) log ≡ false
 channel_open c channel_log log lt tells some =
-    let there : is_channel_open c channel_log ≡ true = elim (cases_Bool (is_channel_open c channel_log)) [
-      | inl e ↦ e
-      | inr e ↦ absurd (let none : length (channel_waiting c channel_log) ≡ 0 = rw e refl in omega (arith, some, none))
-    ] in
     ap (λ (b : Bool). b || not (has_channel c (device_acts log))) (le-ltb 15 c (omega (arith, lt)))
-    ∙ ap not (sym (channel_open_by_channel_log c (device_acts log) channel_log tells) ∙ there)
+    ∙ ap not (sym (channel_open_by_channel_log c (device_acts log) channel_log tells)
+    ∙ channel_open_if_some_wait c channel_log some)
 
 -- ---- events that are allowed
 
 not_not : (b : Bool) → false ≡ not (not b) → b ≡ false
 not_not true e = absurd cc
 not_not false e = refl
-
-shut_so : (b : Bool) → true ≡ not b → b ≡ false
-shut_so true e = absurd cc
-shut_so false e = refl
 
 pub open_suits : {W : Type 0} (c : ℕ) (role : Role) (config : Config) (at : DriverView W) → IsLowest (Some c) config at
     → IsSuited (Open c role) config at
@@ -144,7 +116,8 @@ bytes_suit c n bytes config at lt some few (log, was, is) =
 pub close_suits : {W : Type 0} (port : Port) (config : Config) (at : DriverView W) → IsOpen port config at true
     → IsSuited (Close port) config at
 close_suits port config at (log, was, is) =
-    let channel_log = channel_log_exists (device_acts log) in (log, channel_log.0, was, channel_log.1, shut_so (is_port_shut port log) is)
+    let channel_log = channel_log_exists (device_acts log) in
+    (log, channel_log.0, was, channel_log.1, not-true (is_port_shut port log) (sym is))
 
 pub took_suits : {W : Type 0} (port : Port) (n : ℕ) (config : Config) (at : DriverView W) → port_number port < 16
     → Handed port (Got n) config at → IsSuited (Took port n) config at
@@ -228,15 +201,7 @@ turn_may_find_no_memory c result config before after (log, was, answers, is) non
 
 no_memory : (refused : Refused) → is_no_memory refused ≡ true → refused ≡ NoMemory
 no_memory NoMemory e = refl
-no_memory ConnInUse e = absurd cc
-no_memory NoConn e = absurd cc
-no_memory NoRoom e = absurd cc
-no_memory NotSent e = absurd cc
-no_memory NoDial e = absurd cc
-no_memory NotRefusable e = absurd cc
-no_memory BadChannel e = absurd cc
-no_memory BadInput e = absurd cc
-no_memory TimeOver e = absurd cc
+no_memory _ e = absurd cc
 
 pub finds_no_memory : {W : Type 0} (c : ℕ) (answer : Result Did Refused) (refused : Refused) (so : Bool) (config : Config)
     (at : DriverView W)

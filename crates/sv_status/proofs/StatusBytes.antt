@@ -53,7 +53,7 @@ master_is word latches acts is asks =
       (λ m. zero.1 (m.0, (asks m.0).1 (from m.0 m.1))),
     )
 
-zero_bit : (w k : ℕ) → (bit_at w k ≡ 1 → ⊥) → bit_at w k ≡ 0
+pub zero_bit : (w k : ℕ) → (bit_at w k ≡ 1 → ⊥) → bit_at w k ≡ 0
 zero_bit w k none = elim (cases_eq (bit_at w k) 1) [ inl one ↦ absurd (none one) | inr other ↦ (let lt = bit_at-lt w k in omega arith) ]
 
 -- A reason arises exactly if a bit is set in the new word that isn't in the old one.
@@ -153,7 +153,7 @@ with_bit_six false word = bit_and word 191
 abbrev pub ShowsBit : ℕ → ℕ → Type 0 → Type 0
 ShowsBit k word P = ((k ≢ 6) × (bit_at word k ≡ 1)) ⊎ ((k ≡ 6) × P)
 
-six_alone : (k : ℕ) → (bit_at 64 k ≡ 1) ↔ (k ≡ 6)
+pub six_alone : (k : ℕ) → (bit_at 64 k ≡ 1) ↔ (k ≡ 6)
 six_alone k = (
   (λ h. elim (cases_eq k 6) [ inl e ↦ e | inr ne ↦ absurd (let none = bit_at-pow_other 6 k ne in omega arith) ]),
   (λ e. ap (bit_at 64) e),

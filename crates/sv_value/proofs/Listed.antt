@@ -3,13 +3,13 @@ use Rattle.std.proofs.Common.{◌≡◌, ℕ, zero, suc, ◌+◌, ◌-◌, ◌<�
 use Rattle.std.specs.Prelude.{nat_le, nat_lt, is_some, Option, Some, None, Result, Ok, Err, MatchResult, IfOk}
 use Rattle.std.specs.List.{list_all}
 use Rattle.std.specs.Option.{option_map_or}
-use Rattle.std.proofs.lemmas.Bool.{cases_lt, le-leb, leb-true, ltb-false}
+use Rattle.std.proofs.lemmas.Bool.{cases_lt, le-leb, leb-true, ltb-false, and_parts}
 use Rattle.std.proofs.lemmas.List.{length-append}
 use Rattle.std.proofs.lemmas.List.Folds.{list_all-append}
 use Rattle.sv_errors.specs.Limits.{is_channel, is_channel_list, channel_count, longest_list}
 use Rattle.sv_errors.specs.declared.code.Code.{Code}
 use Rattle.sv_errors.specs.declared.code.Code.TheVariants.{DataOutOfRange, TooMuchData, InvalidExpression}
-use Rattle.sv_lexer.specs.declared.token.Kind.TheVariants.{Number, Base, Word, Expression, Other}
+use Rattle.sv_lexer.specs.declared.token.Kind.TheVariants.{Expression}
 use Rattle.sv_text.specs.Cut.{cut_at}
 use Rattle.sv_text.proofs.Parts.{at_least_one_part}
 use Rattle.sv_value.specs.Channels.{Span as Ends, inner, list_channels, next, read_items, read_list, channel_range, span}
@@ -38,15 +38,11 @@ range_has_channels (suc k) first last size f1 f2 l1 l2 =
           (range_has_channels k (first - 1) last (omega (arith, size, down)) (omega (arith, down, l1)) (omega (arith, f2)) l1 l2)
     ]
 
-both_conjuncts : (a b : Bool) → (a && b) ≡ true → (a ≡ true) × (b ≡ true)
-both_conjuncts true b h = (refl, h)
-both_conjuncts false b h = absurd cc
-
 ends_channels : (first last : ℕ) → (is_channel first && is_channel last) ≡ true → list_all is_channel (channel_range first last) ≡ true
 ends_channels first last h =
-    let one = both_conjuncts (is_channel first) (is_channel last) h in
-    let f = both_conjuncts (nat_le 1 first) (nat_le first channel_count) one.0 in
-    let l = both_conjuncts (nat_le 1 last) (nat_le last channel_count) one.1 in
+    let one = and_parts (is_channel first) (is_channel last) h in
+    let f = and_parts (nat_le 1 first) (nat_le first channel_count) one.0 in
+    let l = and_parts (nat_le 1 last) (nat_le last channel_count) one.1 in
     range_has_channels ((first - last) + (last - first)) first last refl (leb-true 1 first f.0)
     (leb-true first channel_count f.1) (leb-true 1 last l.0) (leb-true last channel_count l.1)
 
@@ -97,10 +93,7 @@ items_channels (Some text) list h = at (list_all (λ item. is_some (span item)) 
 
 pub read_channels : ReadIsChannelList
 read_channels Expression text list h = items_channels (inner text) list h
-read_channels Number text list h = absurd cc
-read_channels Base text list h = absurd cc
-read_channels Word text list h = absurd cc
-read_channels Other text list h = absurd cc
+read_channels _ text list h = absurd cc
 
 -- A list that the code returns is valid.
 pub returned_list_is_valid : {L : Type 0} (items : L → List ℕ) (text : List ℕ) (r : Result L Code)

@@ -1,6 +1,5 @@
 -- A voltage that is printed and read again is the same voltage.
 use Rattle.std.proofs.Common.{◌≡◌, ℕ, zero, suc, ◌+◌, ◌-◌, ◌*◌, ◌/◌, ◌%◌, ◌^◌, ◌<◌, ◌≤◌, Bool, true, false, List, [], ◌∷◌, ◌++◌, length, refl, sym, ap, ◌∙◌, pos, negsuc, Some, arith}
-use Rattle.sv_text.specs.Front.{is_empty}
 use Rattle.std.specs.Prelude.{decimal, replicate, Ok}
 use Rattle.std.specs.Char.{is_ascii_digit, digit_value}
 use Rattle.std.specs.List.{list_all}
@@ -19,6 +18,7 @@ use Rattle.sv_value.specs.PrintedVoltage.{PrintedIsRead, six_digits}
 use Rattle.sv_value.proofs.Pieces.{digits_in_append, behind_digits_append}
 use Rattle.sv_value.proofs.Rounding.{value_join, value_after_more_digits, nearest_right}
 use Rattle.sv_value.proofs.Printed.{length_six, volts_short}
+use Rattle.sv_lexer.proofs.Pushes.{some_length}
 
 is_digit : (b : ℕ) → digit_value b < 10 → is_ascii_digit b ≡ true
 is_digit b lt = grind (arith, nat_tests, lt)
@@ -87,17 +87,13 @@ parts_printed negative whole fraction w f =
     ∙ ap (λ d. parts_of negative whole d (behind_digits fraction)) all
     ∙ ap (parts_of negative whole fraction) none
 
-some_there : (digits : List ℕ) → 0 < length digits → is_empty digits ≡ false
-some_there [] lt = absurd (omega (arith, lt))
-some_there (d ∷ digits) lt = refl
-
 -- The parts of a printed voltage are read as this voltage.
 read_parts : (negative : Bool) (m : ℕ) → m ≤ 1000000000
     → read_with (Some 6) InvalidSuffix (parts_of negative (decimal (m / 1000000)) (six_digits (m % 1000000)) []) ≡ Ok (signed negative m)
 read_parts negative m le =
     let whole : List ℕ = decimal (m / 1000000) in
     let fraction : List ℕ = six_digits (m % 1000000) in
-    let some = some_there whole (decimal_is_IsNumeral (m / 1000000) (omega (arith, le))).0.0 in
+    let some = some_length whole (decimal_is_IsNumeral (m / 1000000) (omega (arith, le))).0.0 in
     let short = volts_short m le in
     let six = length_six (m % 1000000) (omega arith) in
     let joined = length-append whole fraction in

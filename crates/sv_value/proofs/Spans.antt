@@ -1,8 +1,8 @@
 -- Ranges of channels in a channel list, upwards or downwards.
-use Rattle.std.proofs.Common.{◌≡◌, ℕ, zero, suc, ◌+◌, ◌-◌, ◌<◌, ◌≤◌, ◌&&◌, Bool, true, false, List, [], ◌∷◌, ◌++◌, length, refl, sym, ap, ◌∙◌, inl, inr, arith}
+use Rattle.std.proofs.Common.{◌≡◌, ℕ, zero, suc, ◌+◌, ◌-◌, ◌<◌, ◌≤◌, Bool, true, List, [], ◌∷◌, ◌++◌, length, refl, sym, ap, ◌∙◌, inl, inr, arith}
 use Rattle.std.specs.Prelude.{reverse, nat_le, nat_lt, min, Option, Some, None, Result, Err, if◌then◌else◌}
 use Rattle.std.specs.List.{range_with_len}
-use Rattle.std.proofs.lemmas.Bool.{cases_lt, le-leb, lt-leb, leb-true}
+use Rattle.std.proofs.lemmas.Bool.{cases_lt, le-leb, lt-leb, leb-true, and_parts}
 use Rattle.std.proofs.lemmas.List.{append_assoc, length-append, length-reverse, reverse-append}
 use Rattle.std.specs.Int.{abs_diff}
 use Rattle.sv_errors.specs.declared.code.Code.{Code}
@@ -11,6 +11,7 @@ use Rattle.sv_value.specs.declared.channels.Span.{Span}
 use Rattle.sv_errors.specs.Limits.{is_channel, channel_count, longest_list}
 use Rattle.sv_value.specs.Channels.{Span as Ends, next, channel_range, span_of}
 use Rattle.sv_value.specs.Plain.{ends_up_to}
+use Rattle.std.proofs.lemmas.List.FromFn.{length-range_with_len}
 
 pub range_upwards : (first last : ℕ) → first < last → channel_range first last ≡ first ∷ channel_range (first + 1) last
 range_upwards first last lt =
@@ -56,17 +57,13 @@ range_downwards first last lt =
     ∙ ap (λ c. c ∷ reverse (range_with_len last (first - last))) end
     ∙ ap (λ cs. first ∷ cs) (sym (run_rest first last lt))
 
-length_range : (first n : ℕ) → length (range_with_len first n) ≡ n
-length_range first zero = refl
-length_range first (suc n) = ap suc (length_range (first + 1) n)
-
 pub range_length : (first last : ℕ) → length (channel_range first last) ≡ (first - last) + (last - first) + 1
 range_length first last =
     elim (cases_lt last first) [
       | inl lt ↦ ap length (run_back first last lt) ∙ length-reverse (range_with_len last (first - last + 1))
-          ∙ length_range last (first - last + 1) ∙ omega (arith, lt)
+          ∙ length-range_with_len last (first - last + 1) ∙ omega (arith, lt)
       | inr ge ↦ let up : length (range_with_len first (last - first + 1)) ≡ (first - last) + (last - first) + 1 =
-          length_range first (last - first + 1) ∙ omega (arith, ge) in
+          length-range_with_len first (last - first + 1) ∙ omega (arith, ge) in
           rw (le-leb first last ge) up
     ]
 
@@ -98,12 +95,8 @@ capped_item_is_item (Some e) span h = (e, refl, cc, cc)
 -- The numbers of channels are below the cap, so a channel's number was read exactly.
 channel_same : (n m : ℕ) → min n 1000000000000000000 ≡ m → is_channel m ≡ true → n ≡ m
 channel_same n m e c =
-    let most = leb-true m channel_count (second (nat_le 1 m) (nat_le m channel_count) c) in
+    let most = leb-true m channel_count (and_parts (nat_le 1 m) (nat_le m channel_count) c).1 in
     omega (arith, e, most)
-  where
-    second : (a b : Bool) → (a && b) ≡ true → b ≡ true
-    second true b h = h
-    second false b h = absurd cc
 
 -- A range is added to the channels before it, or is refused if the list becomes too long.
 pub item_is_added : (o : Option Ends) (span : Span) (before : List ℕ) (full : Bool) → ends_up_to o ≡ Some span

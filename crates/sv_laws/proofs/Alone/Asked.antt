@@ -1,6 +1,6 @@
 -- A query that is asked alone gets its answer, and no error is reported: the law `QueryAlone`.
-use Rattle.std.proofs.Common.{◌≡◌, ℕ, Bool, true, false, List, [], ◌∷◌, ◌++◌, length, Some, None, refl, sym, ap, subst, ◌∙◌, append_assoc, arith}
-use Rattle.std.specs.Prelude.{◌||◌, drop}
+use Rattle.std.proofs.Common.{◌≡◌, ℕ, true, false, List, [], ◌∷◌, ◌++◌, length, Some, None, refl, sym, ap, subst, ◌∙◌, append_assoc, arith}
+use Rattle.std.specs.Prelude.{drop}
 use Rattle.std.proofs.lemmas.List.{drop_all}
 use Rattle.sv_header.specs.declared.command.Question.{Question}
 use Rattle.sv_exchange.specs.Exchange.{ExchangeAct, Accepted, ResponseRead, has_ended, response, is_something, due, NothingDue}
@@ -19,7 +19,7 @@ use Rattle.sv_history.specs.Settling.{SettlesIn, Settles}
 use Rattle.sv_history.specs.History.{own_acts, IsLogOf}
 use Rattle.sv_history.proofs.Projections.{of_own_act}
 use Rattle.sv_laws.specs.QueryAlone.{IsAtRest, AsksAlone, reported, NoneReported, write_reply, read_reply, IsAnswered, QueryAlone}
-use Rattle.sv_laws.proofs.OneLog.{one_log, settling_has_one_end}
+use Rattle.sv_laws.proofs.OneLog.{one_log, settling_has_one_end, earlier_log}
 use Rattle.sv_laws.proofs.EveryLog.Steps.{settled_log_stays}
 use Rattle.sv_laws.proofs.Cuts.Written.{log_with_write}
 use Rattle.sv_laws.proofs.Cuts.FirstPart.{Resting}
@@ -32,7 +32,8 @@ use Rattle.sv_laws.specs.Adding.{all_replies}
 use Rattle.sv_laws.proofs.EveryLog.EachEvent.{next_call_means_none_suspended, fit_log}
 use Rattle.sv_laws.proofs.Alone.Heard.{quiet_heard}
 use Rattle.sv_laws.proofs.Alone.Unbegun.{all_executed_is_at_rest}
-use Rattle.sv_laws.proofs.Alone.Quiet.{Same, same_start, quiet_same, earlier_log, resting_if_answerable}
+use Rattle.sv_laws.proofs.Alone.Quiet.{Same, same_start, quiet_same, resting_if_answerable}
+use mathlib.Core.Bool.{or-true}
 
 -- ---- a Turn
 
@@ -55,11 +56,7 @@ turn_leads_to c config past start log was is_log =
 
 pub idle_exchange_is_answerable : (acts : List InstrumentAct) → held_unit acts ≡ None → has_ended (exchange_acts acts) ≡ false
     → is_answerable acts ≡ true
-idle_exchange_is_answerable acts held unended = rw (held, unended) (or_true (is_something (response (exchange_acts acts))))
-  where
-    or_true : (b : Bool) → (b || true) ≡ true
-    or_true true = refl
-    or_true false = refl
+idle_exchange_is_answerable acts held unended = rw (held, unended) (or-true (is_something (response (exchange_acts acts))))
 
 pub told : (c : ℕ) (act : InstrumentAct) (call reply : List ℕ) (log : List Act)
     → of c (On c (Replied reply) ∷ OnDevice (Applied act) ∷ On c (CallTaken call) ∷ log) ≡ Replied reply ∷ CallTaken call ∷ of c log

@@ -16,7 +16,7 @@ use Rattle.sv_layers.specs.Act.{Act as InstrumentAct}
 use Rattle.sv_instrument.specs.Stimulus.{where_scanning, or_nothing}
 use Rattle.sv_history.specs.declared.event.Port.TheVariants.{Conn, Intr}
 use Rattle.sv_history.specs.declared.event.Config.{Config}
-use Rattle.sv_history.specs.Event.{PlainEvent, Open, Bytes, Turn, Refuse, Took, Close, Dialed, Input, External, Tick}
+use Rattle.sv_history.specs.Event.{PlainEvent, Open, Bytes, Took, Close, Input, External, Tick}
 use Rattle.sv_history.specs.Act.{Act, ConnAct, DeviceAct, Opened, Piece, BytesTaken, Applied, Ticked, On, OnDevice, of, device_acts, wait_acts}
 use Rattle.sv_history.specs.Connection.{pending_call}
 use Rattle.sv_history.specs.CoreCall.{CoreCall}
@@ -112,16 +112,13 @@ module _ (config : Config) (acts : List ExchangeAct) (links : List LinkAct) (err
       → IdleWithReplies c replies (own_acts config polled event log ++ log)
   event_heard polled (Open d role) log quiet h = silent_act_keeps_replies c d (Opened role) replies log (λ acts. refl) h
   event_heard polled (Bytes d piece) log quiet h = silent_act_keeps_replies c d (Piece piece) replies log (λ acts. refl) h
-  event_heard polled (Turn d) log quiet h = absurd quiet
-  event_heard polled (Refuse d) log quiet h = absurd quiet
   event_heard polled (Took (Conn d) count) log quiet h = silent_act_keeps_replies c d (BytesTaken count) replies log (λ acts. refl) h
   event_heard polled (Took (Intr d) count) log quiet h = h
-  event_heard polled (Close (Conn d)) log quiet h = absurd quiet
   event_heard polled (Close (Intr d)) log quiet h = h
-  event_heard polled (Dialed d ok) log quiet h = absurd quiet
   event_heard polled (Input channel microvolts) log quiet h = h
   event_heard polled External log quiet h = triggered_heard _ log h
   event_heard polled Tick log quiet h = ticked_heard _ log h
+  event_heard polled _ log quiet h = absurd quiet
 
   pub quiet_heard : (past events : List PlainEvent) (was log : List Act) → IsLogOf config past was → Both was
       → AllByRecursion (IsQuiet c) events → IsLogOf config (events ++ past) log → Both log

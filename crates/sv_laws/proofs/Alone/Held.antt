@@ -52,11 +52,12 @@ use Rattle.sv_laws.proofs.Alone.Texts.{Left, Over, write_with_end_is_left, first
 use Rattle.sv_laws.proofs.Alone.Steps.{happened, step_next}
 use Rattle.sv_laws.proofs.Alone.Written.{accepted, first_unit_is_at_root}
 use Rattle.sv_laws.proofs.Alone.Turns.{IsFree, free_link_is_own, turn_adds_outcome, turn_writes, turn_reads, response_makes_answerable, line_is_nonempty}
-use Rattle.sv_laws.proofs.Alone.Quiet.{earlier_log, resting_if_answerable}
+use Rattle.sv_laws.proofs.Alone.Quiet.{resting_if_answerable}
 use Rattle.sv_laws.proofs.Alone.Unbegun.{all_executed_is_at_rest}
 use Rattle.sv_laws.proofs.Alone.Asked.{Turns, turn_leads_to, idle_exchange_is_answerable, told}
 use Rattle.sv_laws.proofs.Alone.Phases.{Status, At, ReadHasStatus, OthersCannotResume, InitiatedIfReadings, unit_end_with_more_acts, inside}
 use Rattle.sv_laws.proofs.Alone.Moves.{unanswerable_without_response, Holds, Gone, Live, Phase, escaped_more, step_phase, quiet_phase, Settled, StillHolds, StillShows, IsGone, settled_is}
+use Rattle.sv_laws.proofs.OneLog.{earlier_log}
 
 -- ---- the unit begins
 

@@ -1,7 +1,7 @@
 -- The phases of a query that waits for the end of the measurement, and how each step and each quiet
 -- event changes them.
 use Rattle.std.proofs.Common.{append_assoc, ◌≡◌, ◌≢◌, ℕ, zero, suc, ◌+◌, ◌≤◌, Bool, true, false, List, [], ◌∷◌, ◌++◌, length, Option, Some, None, refl, sym, ap, subst, ◌∙◌, inl, inr, ◌⊎◌, arith, eq-eqb}
-use Rattle.std.specs.Prelude.{map, replicate, pos, not, ◌&&◌}
+use Rattle.std.specs.Prelude.{map, replicate, pos, not}
 use Rattle.std.proofs.lemmas.Bool.{cases_eq}
 use Rattle.std.proofs.lemmas.List.{append_cancel_right, drop_all}
 use Rattle.std.specs.Prelude.{drop}
@@ -29,7 +29,7 @@ use Rattle.sv_scan.specs.declared.setting.State.TheVariants.{Scanning}
 use Rattle.sv_links.specs.Channels.{ChannelClosed, ChannelTaken}
 use Rattle.sv_instrument.specs.Stimulus.{where_scanning, or_nothing}
 use Rattle.sv_history.specs.declared.event.Port.TheVariants.{Conn, Intr}
-use Rattle.sv_history.specs.Event.{PlainEvent, Open, Bytes, Turn, Refuse, Took, Close, Dialed, Input, External, Tick}
+use Rattle.sv_history.specs.Event.{PlainEvent, Open, Bytes, Took, Close, Input, External, Tick}
 use Rattle.sv_history.specs.History.{own_acts, IsLogOf}
 use Rattle.sv_laws.proofs.OneLog.{one_log}
 use Rattle.sv_laws.proofs.EveryLog.EachEvent.{settling_keeps}
@@ -48,9 +48,11 @@ use Rattle.sv_history.proofs.Projections.{of_own_act, device_acts_append, instru
 use Rattle.sv_laws.specs.Adding.{all_replies}
 use Rattle.sv_laws.specs.QueryAlone.{OneRead, UnitEnd, reported, held_answer, IsQuiet}
 use Rattle.sv_laws.proofs.EveryLog.Steps.{Rested, next_extends}
-use Rattle.sv_laws.proofs.Alone.Texts.{Left, Over, answered, ended_if_two_left, short_answer_fits, finish_due, finishing_shows_response, empty_due, finished_empty, over_zero_is_at_rest, nothing_due, over_parts, left_due, left_finished, finishing_shows_none}
+use Rattle.sv_laws.proofs.Alone.Texts.{Left, Over, answered, ended_if_two_left, short_answer_fits, finish_due, finishing_shows_response, empty_due, finished_empty, over_zero_is_at_rest, nothing_due, left_due, left_finished, finishing_shows_none, over_left}
 use Rattle.sv_laws.proofs.Alone.Turns.{whole, reads_whole}
 use Rattle.sv_laws.proofs.Alone.Phases.{Status, At, Told, ReadHasStatus, OthersCannotResume, InitiatedIfReadings, stays_initiated, unit_end_with_more_acts, one_read_or_not, inside, Alike, alike_scanned, alike_ticked, alike_channel, alike_piece, alike_taken, alike_other, alike_failed, others_left}
+use mathlib.Core.Bool.{and-false}
+use Rattle.sv_laws.proofs.Facts.{some_injective}
 
 -- ---- a log with more acts
 
@@ -95,11 +97,7 @@ fitting_answer_is_added answer acts fits = rw fits refl
 -- No read can be answered while there is no response, and the message has ended but isn't finished.
 pub unanswerable_without_response : (log : List Act) → response (exchange_acts (inside log)) ≡ []
     → has_ended (exchange_acts (inside log)) ≡ true → is_answerable (inside log) ≡ false
-unanswerable_without_response log none ended = rw (none, ended) (and_false _)
-  where
-    and_false : (b : Bool) → (b && false) ≡ false
-    and_false true = refl
-    and_false false = refl
+unanswerable_without_response log none ended = rw (none, ended) (and-false _)
 
 module _ (config : Config) (c lid xid most io_timeout lock_timeout flags term_char limit lines : ℕ) (what : Awaited)
     (message unit replies : List ℕ) (links : List LinkAct) (errors : List Code) (base : List InstrumentAct)
@@ -344,7 +342,7 @@ module _ (config : Config) (c lid xid most io_timeout lock_timeout flags term_ch
   read_state k log e fits over held told =
       let answer = held_answer what e.done in
       let bytes = answer ++ 10 ∷ [] in
-      let l = over_parts k bytes (exchange_acts (inside log)) over in
+      let l = over_left k bytes (exchange_acts (inside log)) over in
       let read : List InstrumentAct = Exchanged (ResponseRead (length bytes)) ∷ [] in
       let mine : of c (after_read answer log) ≡ Replied (reply_of answer) ∷ of c log =
       of_own_act c (Replied (reply_of answer))
@@ -354,9 +352,6 @@ module _ (config : Config) (c lid xid most io_timeout lock_timeout flags term_ch
       (response_read (exchange_acts (inside log)) (length bytes) ∙ ap (drop (length bytes)) over.shows
       ∙ drop_all (length bytes) bytes (omega arith)) held
       (rw (eq-eqb c c refl) refl, ap all_replies mine ∙ ap (λ (l : List ℕ). l ++ reply_of answer) told)
-
-  some_wait : (a b : Wait) → Some a ≡ Some b → a ≡ b
-  some_wait a b e = cc
 
   shows_resumes : (taken : Bool) (k polled : ℕ) (wait : Wait) (log new : List Act) (e : UnitEnd what base (inside log))
       → OneRead (term_of flags term_char) most (held_answer what e.done)
@@ -369,7 +364,7 @@ module _ (config : Config) (c lid xid most io_timeout lock_timeout flags term_ch
   shows_resumes true k polled wait log new e fits over held mine was for is linked others codes =
       let answer = held_answer what e.done in
       let there = is ∙ goes_on polled wait (core_call_in (pending_call (of c log))) answer log fits over.shows
-      (some_wait wait ForResponse (sym for ∙ mine.0)) mine.2 in
+      (some_injective wait ForResponse (sym for ∙ mine.0)) mine.2 in
       subst (Phase true) (sym there) (inl (record {
         state = read_state k log e fits over held mine.3;
         linked = linked;
@@ -442,19 +437,16 @@ module _ (config : Config) (c lid xid most io_timeout lock_timeout flags term_ch
   event_live taken polled (Open d role) log quiet v =
       live_alike taken log _ (alike_other c limit call replies links d (Opened role) log quiet) v
   event_live taken polled (Bytes d piece) log quiet v = live_alike taken log _ (alike_piece c limit call replies links d piece log) v
-  event_live taken polled (Turn d) log quiet v = absurd quiet
-  event_live taken polled (Refuse d) log quiet v = absurd quiet
   event_live taken polled (Took (Conn d) count) log quiet v = live_alike taken log _ (alike_taken c limit call replies links d count log) v
   event_live taken polled (Took (Intr d) count) log quiet v =
       live_alike taken log _ (alike_channel c limit call replies links (ChannelTaken d count) log) v
-  event_live taken polled (Close (Conn d)) log quiet v = absurd quiet
   event_live taken polled (Close (Intr d)) log quiet v =
       live_alike taken log _ (alike_channel c limit call replies links (ChannelClosed d) log) v
-  event_live taken polled (Dialed d ok) log quiet v = absurd quiet
   event_live taken polled (Input channel microvolts) log quiet v =
       live_alike taken log _ (alike_scanned c limit call replies links (InputTo channel microvolts) log) v
   event_live taken polled External log quiet v = triggered_live taken _ log v
   event_live taken polled Tick log quiet v = ticked_live taken _ log v
+  event_live taken polled _ log quiet v = absurd quiet
 
   event_phase : (taken : Bool) (polled : ℕ) (event : PlainEvent) (log : List Act) → IsQuiet c event → Phase taken log
       → Phase taken (own_acts config polled event log ++ log)

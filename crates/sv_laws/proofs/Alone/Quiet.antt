@@ -21,9 +21,9 @@ use Rattle.sv_instrument.specs.HeldUnit.{held_unit}
 use Rattle.sv_instrument.specs.Stimulus.{IsFired, where_scanning, or_nothing}
 use Rattle.sv_instrument.specs.Step.{is_answerable, is_held}
 use Rattle.sv_instrument.proofs.NextStep.{nothing_due}
-use Rattle.sv_history.specs.declared.event.Port.TheVariants.{Conn, Intr}
+use Rattle.sv_history.specs.declared.event.Port.TheVariants.{Conn}
 use Rattle.sv_history.specs.declared.event.Config.{Config}
-use Rattle.sv_history.specs.Event.{PlainEvent, Open, Bytes, Turn, Refuse, Took, Close, Dialed, Input, External, Tick}
+use Rattle.sv_history.specs.Event.{PlainEvent, Turn, Refuse, Took, Close, Dialed, External, Tick}
 use Rattle.sv_history.specs.Act.{Act, Applied, Ticked, OnDevice, of, device_acts, link_acts, wait_acts, instrument_acts, exchange_acts}
 use Rattle.sv_history.specs.Connection.{pending_call}
 use Rattle.sv_history.specs.CoreCall.{CoreCall}
@@ -96,14 +96,8 @@ module _ (config : Config) (acts : List ExchangeAct) (links : List LinkAct) (err
         append_cancel_right adds (Scanned (Trigger Immediate) ∷ []) (instrument_acts (device_acts log)) such.1 in
         let there : new ≡ OnDevice (Applied (Scanned (Trigger Immediate))) ∷ log =
         is ∙ ap (λ (l : List InstrumentAct). map OnDevice (map Applied l) ++ log) one in
-        subst (Same acts links errors) (sym there) (record {
-          exchange = s.exchange;
-          linked = s.linked;
-          held = s.held;
-          codes = s.codes;
-          none
-              = s.none;
-        })
+        subst (Same acts links errors) (sym there)
+        (record { exchange = s.exchange; linked = s.linked; held = s.held; codes = s.codes; none = s.none })
 
     timed_out : (error : ErrorCode) (d : ℕ) (call : Option CoreCall) (log : List Act) → Same acts links errors log
         → Same acts links errors (acts_of d (failure_effect error d call) ++ log)
@@ -146,42 +140,15 @@ module _ (config : Config) (acts : List ExchangeAct) (links : List LinkAct) (err
 
     pub event_same : (polled : ℕ) (event : PlainEvent) (log : List Act) → IsQuiet c event → Same acts links errors log
         → Same acts links errors (own_acts config polled event log ++ log)
-    event_same polled (Open d role) log quiet s = record {
-      exchange = s.exchange;
-      linked = s.linked;
-      held = s.held;
-      codes = s.codes;
-      none =
-          s.none;
-    }
-    event_same polled (Bytes d piece) log quiet s = record {
-      exchange = s.exchange;
-      linked = s.linked;
-      held = s.held;
-      codes = s.codes;
-      none
-          = s.none;
-    }
     event_same polled (Turn d) log quiet s = absurd quiet
     event_same polled (Refuse d) log quiet s = absurd quiet
-    event_same polled (Took (Conn d) count) log quiet s = record
-        { exchange = s.exchange; linked = s.linked; held = s.held; codes = s.codes; none = s.none }
-    event_same polled (Took (Intr d) count) log quiet s = record
-        { exchange = s.exchange; linked = s.linked; held = s.held; codes = s.codes; none = s.none }
     event_same polled (Close (Conn d)) log quiet s = absurd quiet
-    event_same polled (Close (Intr d)) log quiet s = record {
-      exchange = s.exchange;
-      linked = s.linked;
-      held = s.held;
-      codes = s.codes;
-      none
-          = s.none;
-    }
     event_same polled (Dialed d ok) log quiet s = absurd quiet
-    event_same polled (Input channel microvolts) log quiet s =
-        record { exchange = s.exchange; linked = s.linked; held = s.held; codes = s.codes; none = s.none }
     event_same polled External log quiet s = triggered _ log s
     event_same polled Tick log quiet s = ticked _ log s
+    event_same polled (Took (Conn d) count) log quiet s = record
+        { exchange = s.exchange; linked = s.linked; held = s.held; codes = s.codes; none = s.none }
+    event_same polled _ log quiet s = record { exchange = s.exchange; linked = s.linked; held = s.held; codes = s.codes; none = s.none }
 
     pub quiet_same : (past events : List PlainEvent) (was log : List Act) → IsLogOf config past was → Same acts links errors was
         → AllByRecursion (IsQuiet c) events → IsLogOf config (events ++ past) log → Same acts links errors log
@@ -189,12 +156,6 @@ module _ (config : Config) (acts : List ExchangeAct) (links : List LinkAct) (err
     quiet_same past (event ∷ events) was log is_was s quiet (before, polled, channel_log, is_event, is_before, hears, free, said, settles) =
         settling_keeps config (Same acts links errors) step_same settles.0 (own_acts config polled event before ++ before) log
         (event_same polled event before quiet.0 (quiet_same past events was before is_was s quiet.1 is_before)) settles.1
-
--- If a history has a log, then each earlier part of the history has a log too.
-pub earlier_log : (config : Config) (events past : List PlainEvent) (log : List Act) → IsLogOf config (events ++ past) log
-    → (was : List Act) × IsLogOf config past was
-earlier_log config [] past log is_log = (log, is_log)
-earlier_log config (event ∷ events) past log is_log = earlier_log config events past is_log.0 is_log.4
 
 -- ---- no call waits for the device
 

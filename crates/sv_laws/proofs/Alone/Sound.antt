@@ -131,16 +131,10 @@ replies_going None asked log new g (answer, says, is) =
     subst Going (sym is) (answering_going answer (done (after_query asked log)) (query_going asked log g))
 
 action_going : (what : Action) (log : List InstrumentAct) → Going log → Going (after_action what log)
-action_going action.ClearStatus log g = g
-action_going action.Reset log g = g
-action_going action.TellComplete log g = g
-action_going action.Wait log g = g
-action_going action.WaitAndTell log g = g
 action_going action.Trigger log g = unless_going (trigger_fault (effective_acts log) Bus) _ log g g
-action_going action.Preset log g = g
 action_going action.Initiate log g = unless_going (init_fault (effective_acts log)) _ log g g
-action_going action.Abort log g = g
 action_going action.Read log g = unless_going (read_fault (effective_acts log)) _ log g g
+action_going _ log g = g
 
 configure_going : (list : Option (List ℕ)) (log : List InstrumentAct) → Going log → Going (after_configure list log)
 configure_going None log g = g

@@ -154,7 +154,7 @@ finishing_shows_response lines part answer acts l = record {
   shows = response_finished (answered answer acts) ∙ rw (l.dropped, l.given) refl;
 }
 
-over_left : (lines : ℕ) (bytes : List ℕ) (acts : List ExchangeAct) → Over lines bytes acts → Left ([] ∷ replicate lines []) acts
+pub over_left : (lines : ℕ) (bytes : List ℕ) (acts : List ExchangeAct) → Over lines bytes acts → Left ([] ∷ replicate lines []) acts
 over_left lines bytes acts o = record {
   left = o.left;
   done = rw o.fresh refl;
@@ -181,9 +181,6 @@ pub over_zero_is_at_rest : (bytes : List ℕ) (acts : List ExchangeAct) → Over
 over_zero_is_at_rest bytes acts o = over_left 0 bytes acts o
 
 -- ---- once the response was read
-
-pub over_parts : (lines : ℕ) (bytes : List ℕ) (acts : List ExchangeAct) → Over lines bytes acts → Left ([] ∷ replicate lines []) acts
-over_parts lines bytes acts o = over_left lines bytes acts o
 
 pub left_finished : (lines : ℕ) (acts : List ExchangeAct) → Left ([] ∷ [] ∷ replicate lines []) acts
     → Left ([] ∷ replicate lines []) (Finished ∷ acts)

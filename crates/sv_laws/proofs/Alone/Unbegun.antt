@@ -22,9 +22,9 @@ use Rattle.sv_layers.specs.Act.{Act as InstrumentAct, Scanned}
 use Rattle.sv_layers.specs.Condition.{effective_acts}
 use Rattle.sv_instrument.specs.Stimulus.{or_reported, where_scanning, or_nothing}
 use Rattle.sv_instrument.specs.Step.{is_answerable}
-use Rattle.sv_history.specs.declared.event.Port.TheVariants.{Conn, Intr}
+use Rattle.sv_history.specs.declared.event.Port.TheVariants.{Conn}
 use Rattle.sv_history.specs.declared.event.Config.{Config}
-use Rattle.sv_history.specs.Event.{PlainEvent, Open, Bytes, Turn, Refuse, Took, Close, Dialed, Input, External, Tick}
+use Rattle.sv_history.specs.Event.{PlainEvent, Turn, Refuse, Took, Close, Dialed, External, Tick}
 use Rattle.sv_history.specs.Act.{Act, DeviceAct, CallTaken, PortClosed, Waited, Applied, Ticked, On, OnDevice, of, device_acts, link_acts, instrument_acts, exchange_acts}
 use Rattle.sv_history.specs.Connection.{pending_call, next_call}
 use Rattle.sv_history.specs.CallOutcome.{CallOutcome, only}
@@ -207,24 +207,20 @@ closed_so c log s =
 
 event_keeps_sound : (config : Config) (polled : ℕ) (event : PlainEvent) (log : List Act) → IsSoundLog log
     → IsSoundLog (own_acts config polled event log ++ log)
-event_keeps_sound config polled (Open d role) log s = s
-event_keeps_sound config polled (Bytes d piece) log s = s
 event_keeps_sound config polled (Turn d) log s = turn_keeps_sound config polled d (next_call (of d log)) (next_request (of d log)) log s
 event_keeps_sound config polled (Refuse d) log s =
     refuse_keeps IsSoundLog d (next_call (of d log)) (refusable (of d log)) log s (λ bytes call e f. s)
 event_keeps_sound config polled (Took (Conn d) count) log s = s
-event_keeps_sound config polled (Took (Intr d) count) log s = s
 event_keeps_sound config polled (Close (Conn d)) log s =
     subst IsSoundLog (sym (append_assoc (map OnDevice (close_acts d (device_acts log))) (On d PortClosed ∷ []) log)) (closed_so d log s)
-event_keeps_sound config polled (Close (Intr d)) log s = s
 event_keeps_sound config polled (Dialed d ok) log s =
     let call = core_call_in (pending_call (of d log)) in
     let does = λ (arguments : Arguments). leaving d (connect_outcome d ok arguments) in
     effect_keeps_sound d (effect_of d does call) log (tame_effect d does call
     (λ arguments. tame_leaving d (connect_outcome d ok arguments) (tame_connected d ok arguments))) s
-event_keeps_sound config polled (Input channel microvolts) log s = s
 event_keeps_sound config polled External log s = triggered_so _ log s
 event_keeps_sound config polled Tick log s = ticked_so _ log s
+event_keeps_sound config polled _ log s = s
 
 sound_log : (config : Config) (history : List PlainEvent) (log : List Act) → IsLogOf config history log
     → Sound (instrument_acts (device_acts log))

@@ -7,7 +7,7 @@ use Rattle.sv_exchange.specs.Exchange.{Overran}
 use Rattle.sv_layers.specs.Act.{Act as InstrumentAct, Exchanged, Reported, exchange_acts as exchanged}
 use Rattle.sv_history.specs.Act.{Act, ConnAct, DeviceAct, CallTaken, Replied, Applied, On, OnDevice, of, device_acts, instrument_acts}
 use Rattle.sv_history.specs.Connection.{pending_call}
-use Rattle.sv_history.proofs.Projections.{of_own_act, of_other_act}
+use Rattle.sv_history.proofs.Projections.{of_own_act, of_other_act, of_append}
 use Rattle.sv_laws.proofs.Cuts.SameExchange.{cut_write_has_same_text}
 use Rattle.sv_laws.proofs.Cuts.SameStatus.{SameStatus, same_status_refl, act_keeps_same_status, text_keeps_same_status, same_status_sym}
 use Rattle.sv_laws.proofs.Cuts.SameDevice.{Tells, tells_happened, accepts, tells_accepted, tells_also}
@@ -15,7 +15,6 @@ use Rattle.sv_laws.proofs.Cuts.SharedEvents.{acts_keep_same_calls}
 use Rattle.sv_laws.proofs.Cuts.SharedLogs.{SameShared, acts_keep_same_shared}
 use Rattle.sv_laws.proofs.Facts.{relation_of_equals}
 use Rattle.sv_laws.proofs.Cuts.KeptLogs.{IsKept}
-use Rattle.sv_laws.proofs.Cuts.NoCallTaken.{of_append}
 use Rattle.sv_laws.proofs.Cuts.BytesBehind.{AddsOnlyPieces, pieces_leave_device, pieces_leave_others, pieces_leave_pending_call}
 use Rattle.sv_laws.proofs.Cuts.Written.{log_with_write}
 

@@ -20,7 +20,7 @@ use Rattle.sv_history.specs.Resuming.{effect_of}
 use Rattle.sv_history.specs.Settling.{SettlesIn}
 use Rattle.sv_history.specs.History.{taken_acts}
 use Rattle.sv_laws.specs.Cuts.{without_pieces}
-use Rattle.sv_history.proofs.Projections.{of_own_act}
+use Rattle.sv_history.proofs.Projections.{of_own_act, of_append}
 use Rattle.sv_laws.proofs.Facts.{all_append}
 use Rattle.sv_laws.proofs.EveryLog.EachEvent.{settling_keeps, StepsKeep, steps_keep_by_effects, step_keeps, abort_keeps, turn_acts_in_order}
 
@@ -99,14 +99,6 @@ taken_acts_take_no_other config polled c bytes request found log =
     (acts_of c effect, refl, none_effect c effect (none_request config polled c request (device_acts log))))
 
 -- ---- the acts of a connection
-
-pub of_append : (c : ℕ) (adds log : List Act) → of c (adds ++ log) ≡ of c adds ++ of c log
-of_append c [] log = refl
-of_append c (OnDevice act ∷ adds) log = of_append c adds log
-of_append c (On d act ∷ adds) log = elim (cases_Bool (d == c)) [
-  | inl e ↦ rw e (ap (λ (l : List ConnAct). act ∷ l) (of_append c adds log))
-  | inr e ↦ rw e (of_append c adds log)
-]
 
 none_of : (c : ℕ) (adds : List Act) → AllByRecursion ActTakesNoCall adds → AllByRecursion TakesNoCall (of c adds)
 none_of c [] h = tt

@@ -26,6 +26,8 @@ use Rattle.sv_layers.proofs.Transitions.{Passes, NotCleared, changes, unchanged_
 use Rattle.sv_layers.proofs.LimitSummary.{any_of_equal_tests}
 use Rattle.sv_layers.proofs.EachRegister.{condition_same}
 use Rattle.sv_laws.proofs.Cuts.SameExchange.{SameExchange, same_exchange_refl, act_keeps_same_exchange, text_keeps_same_exchange, same_exchange_sym, response_same}
+use Rattle.sv_laws.proofs.Conformance.{lasts_master}
+use Rattle.sv_layers.proofs.SameEvents.{iff_sym}
 
 -- ---- two logs
 
@@ -225,10 +227,6 @@ never_completes bytes ended log h = elim h.1 [
   | inr waits ↦ absurd (let z : true ≡ false = sym h.0 ∙ (pending_over bytes ended log waits.0).0 in cc)
 ]
 
-lasts_master : (log : List Act) → Lasts log → Master log
-lasts_master (Polled ∷ log) h = absurd h
-lasts_master log h = h
-
 parts_accepted : (bytes : List ℕ) (ended : Bool) (log other : List Act) → SameParts log other → SameParts (accepted bytes ended ∷ log) other
 parts_accepted bytes ended log other v = assumption (
   (λ (name : RegisterName) (k : ℕ). stood_over name k bytes ended log ∙ v.since name k),
@@ -275,9 +273,6 @@ polled_same k log other v = either_congruent iff_refl (summary_bits_same k log o
 pub master_same : (k : ℕ) (log other : List Act) → SameStatus log other → MasterBit k log ↔ MasterBit k other
 master_same k log other v = either_congruent iff_refl (summary_bits_same k log other v.parts)
     (both_congruent (masters_same log other v.parts))
-
-iff_sym : {P Q : Type 0} → P ↔ Q → Q ↔ P
-iff_sym same = (same.1, same.0)
 
 pub same_status_sym : (log other : List Act) → SameStatus log other → SameStatus other log
 same_status_sym log other v = record {

@@ -135,8 +135,8 @@ refuse_keeps IsSo c _ _ log so does = so
 
 -- ---- a call that is executed, or leaves the queue
 
-left_call_is_gone : (c : ℕ) (acts : List WaitAct) → waits c (Left c ∷ acts) ≡ None
-left_call_is_gone c acts = rw (eq-eqb c c refl) refl
+pub left_is_not_suspended : (c : ℕ) (acts : List WaitAct) → waits c (Left c ∷ acts) ≡ None
+left_is_not_suspended c acts = rw (eq-eqb c c refl) refl
 
 done_by : (c : ℕ) (May : Type 0) (arguments : Arguments) (adds acts : List DeviceAct) → May → Each (IsActOfCall c arguments) adds acts
     → Each (IsActBy c May) adds acts
@@ -163,29 +163,29 @@ reply_keeps_role xid None own = refl
 pub fit_failed : (error : ErrorCode) (c : ℕ) (call : Option CoreCall) (log : List Act) → Fit log
     → Fit (acts_of c (failure_effect error c call) ++ log)
 fit_failed error c (Some call) log fit = fit_without_suspended c (failure_effect error c (Some call)) log fit (refl, tt) refl
-    (left_call_is_gone c (wait_acts (device_acts log)))
+    (left_is_not_suspended c (wait_acts (device_acts log)))
 fit_failed error c None log fit = fit_without_suspended c (failure_effect error c None) log fit (refl, tt) refl
-    (left_call_is_gone c (wait_acts (device_acts log)))
+    (left_is_not_suspended c (wait_acts (device_acts log)))
 
 fit_dialed : (c : ℕ) (ok : Bool) (call : CoreCall) (peer : Option Peer) (log : List Act) → Fit log
     → Fit (acts_of c (call_effect call.xid (leaving c (connect_outcome_for c ok call.arguments peer))) ++ log)
 fit_dialed c true call (Some peer) log fit =
     fit_without_suspended c (call_effect call.xid (leaving c (connect_outcome_for c true call.arguments (Some peer)))) log fit
-    (tt, (refl, tt)) refl
-    (left_call_is_gone c (wait_acts (device_acts log)))
+        (tt, (refl, tt)) refl
+    (left_is_not_suspended c (wait_acts (device_acts log)))
 fit_dialed c false call (Some peer) log fit =
     fit_without_suspended c (call_effect call.xid (leaving c (connect_outcome_for c false call.arguments (Some peer)))) log fit (refl, tt)
-    refl
-    (left_call_is_gone c (wait_acts (device_acts log)))
+        refl
+    (left_is_not_suspended c (wait_acts (device_acts log)))
 fit_dialed c ok call None log fit =
     fit_without_suspended c (call_effect call.xid (leaving c (connect_outcome_for c ok call.arguments None))) log fit (refl, tt) refl
-    (left_call_is_gone c (wait_acts (device_acts log)))
+    (left_is_not_suspended c (wait_acts (device_acts log)))
 
 fit_connected : (c : ℕ) (ok : Bool) (call : Option CoreCall) (log : List Act) → Fit log → Fit (acts_of c (connect_effect c ok call) ++ log)
 fit_connected c ok (Some call) log fit = rw (connect_outcome_by_peer c ok call.arguments)
     (fit_dialed c ok call (peer_named_by call.arguments) log fit)
 fit_connected c ok None log fit = fit_without_suspended c (connect_effect c ok None) log fit (refl, tt) refl
-    (left_call_is_gone c (wait_acts (device_acts log)))
+    (left_is_not_suspended c (wait_acts (device_acts log)))
 
 -- ---- a call that resumes
 
@@ -222,7 +222,7 @@ fit_continued config polled c wait call None log fit for known e =
     (done_by c (IsCore c log) call.arguments what.adds before (fit.held c wait for).0 done) (refl, tt))
     (reply_keeps_role call.xid what.result (of c log))
     (ap (λ (l : List DeviceAct). waits c (wait_acts l)) (append_assoc what.adds (Waited (Left c) ∷ []) (device_acts log))
-    ∙ ap (waits c) (call_acts_suspend_none c call.arguments what.adds before done) ∙ left_call_is_gone c (wait_acts (device_acts log)))
+    ∙ ap (waits c) (call_acts_suspend_none c call.arguments what.adds before done) ∙ left_is_not_suspended c (wait_acts (device_acts log)))
 
 fit_resumed : (config : Config) (polled c : ℕ) (wait : Wait) (log : List Act) → Fit log → waits c (wait_acts (device_acts log)) ≡ Some wait
     → Fit (acts_of c (resume_effect config polled c wait (core_call_in (pending_call (of c log))) (device_acts log)) ++ log)
@@ -404,7 +404,7 @@ fit_close c log fit =
           ap open_role (close_leaves_others c d log was.0) ∙ fit.core n d was.1;
       held = λ d. subst (λ (l : List WaitAct). SuspendedIsOnCore d (of d new) l) (sym calls) (elim (cases_eq d c) [
         | inl e ↦ subst (λ (n : ℕ). SuspendedIsOnCore n (of n new) (Left c ∷ wait_acts acts)) (sym e)
-            (none_suspended_is_on_core c (of c new) (Left c ∷ wait_acts acts) (left_call_is_gone c (wait_acts acts)))
+            (none_suspended_is_on_core c (of c new) (Left c ∷ wait_acts acts) (left_is_not_suspended c (wait_acts acts)))
         | inr ne ↦ same_call_stays_on_core d (of d log) (of d new) (wait_acts acts) (Left c ∷ wait_acts acts)
             (close_leaves_others c d log ne)
             (foreign_act_keeps_call d (Left c) (wait_acts acts) (wait_acts acts) (λ e. ne (sym e))

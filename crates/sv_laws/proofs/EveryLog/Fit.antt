@@ -11,7 +11,7 @@ use Rattle.sv_links.specs.Links.{Made, Destroyed, links_made, owner}
 use Rattle.sv_links.specs.Waiting.{WaitAct, Entered, waits, link}
 use Rattle.sv_links.specs.Channels.{SrqEnabled}
 use Rattle.sv_laws.proofs.LinksAlike.{owner_before_destroy, owner_before_made}
-use Rattle.sv_laws.proofs.CallsAlike.{SameCall, connection_of, foreign_act_keeps_call}
+use Rattle.sv_laws.proofs.CallsAlike.{SameCall, connection_of, foreign_act_keeps_call, same_call_refl}
 use Rattle.sv_history.specs.declared.event.Role.TheVariants.{Core}
 use Rattle.sv_history.specs.Act.{Act, ConnAct, DeviceAct, Linked, Waited, Channel, On, OnDevice, of, device_acts, link_acts, wait_acts}
 use Rattle.sv_history.specs.Connection.{open_role, pending_call}
@@ -76,9 +76,6 @@ by_suits c May (act ∷ adds) acts h = (one act (adds ++ acts) h.0, by_suits c M
     one (Waited (Entered conn named wait last)) acts h = (h.1, h.2)
     one (Channel (SrqEnabled lid conn handle)) acts h = h
     one _ acts h = tt
-
-same_call_refl : (c : ℕ) (acts : List WaitAct) → SameCall c acts acts
-same_call_refl c acts = record { wait = refl; until = refl; named = refl }
 
 -- Such acts leave the suspended calls of other connections as they are.
 pub acts_by_keep_other_calls : (c d : ℕ) (May : Type 0) (adds acts : List DeviceAct) → d ≢ c → Each (IsActBy c May) adds acts

@@ -1,8 +1,8 @@
 -- An invariant of the acts of the device, and what follows from it: which link holds the lock, and
 -- which links the suspended calls name.
-use Rattle.std.proofs.Common.{◌≡◌, ◌≢◌, ℕ, Bool, true, false, eqb, List, [], ◌∷◌, ◌++◌, Option, Some, None, refl, sym, ap, subst, ◌∙◌, inl, inr, ◌⊎◌, eq-eqb}
-use Rattle.std.specs.Prelude.{map, not, ◌&&◌, ◌||◌, ⊤, option_map}
-use Rattle.std.proofs.lemmas.Bool.{cases_Bool, cases_eq, eqb-true, ne_eqb}
+use Rattle.std.proofs.Common.{◌≡◌, ◌≢◌, ℕ, true, false, eqb, List, [], ◌∷◌, ◌++◌, Option, Some, None, refl, sym, ap, subst, ◌∙◌, inl, inr, ◌⊎◌, eq-eqb}
+use Rattle.std.specs.Prelude.{map, not, ⊤, option_map}
+use Rattle.std.proofs.lemmas.Bool.{cases_Bool, cases_eq, eqb-true, ne_eqb, or_cases, and_right}
 use Rattle.sv_logs.proofs.Each.{Each}
 use Rattle.sv_logs.proofs.Since.{both_true}
 use Rattle.sv_links.specs.declared.links.Link.{Link}
@@ -15,7 +15,7 @@ use Rattle.sv_links.proofs.Locks.{holder_is, lock_taken_when_free, lock_taken_ag
 use Rattle.sv_history.specs.Act.{DeviceAct, Linked, Waited, link_acts, wait_acts}
 use Rattle.sv_laws.specs.LockFair.{WaitsForLock}
 use Rattle.sv_laws.proofs.Facts.{some_injective, none_is_not_some, true_is_not_false}
-use Rattle.sv_laws.proofs.LinksAlike.{owner_made, owner_destroyed_other}
+use Rattle.sv_laws.proofs.LinksAlike.{owner_made, owner_destroyed_other, not_same}
 use Rattle.sv_laws.proofs.EveryLog.Fit.{AllSuit}
 use Rattle.sv_laws.proofs.EveryLog.Known.{link_numbers_rise, mapped_was_some}
 
@@ -109,13 +109,6 @@ only_holder_is_locked acts all keep =
 
 -- ---- the holder is a live link
 
-or_by : (a b : Bool) → (a || b) ≡ true → (a ≡ true) ⊎ (b ≡ true)
-or_by true b e = inl refl
-or_by false b e = inr e
-
-not_by : (a b : ℕ) → not (eqb a b) ≡ true → a ≢ b
-not_by a b e same = absurd (let z : not true ≡ true = rw (eq-eqb a b same) at e in cc)
-
 locked_link_is_live : (acts : List DeviceAct) → AllKeep acts → (n : ℕ) → is_locked n (link_acts acts) ≡ true
     → (d : ℕ) × (owner n (link_acts acts) ≡ Some d)
 locked_link_is_live [] keep n e = absurd cc
@@ -124,10 +117,10 @@ locked_link_is_live (Linked (Made lid conn) ∷ acts) keep n e =
 locked_link_is_live (Linked (Destroyed lid) ∷ acts) keep n e =
     let both = (both_true (not (eqb lid n)) (is_locked n (link_acts acts))).0 e in
     let was = locked_link_is_live acts keep.1 n both.1 in
-    (was.0, owner_destroyed_other n lid (link_acts acts) (not_by lid n both.0) ∙ was.1)
+    (was.0, owner_destroyed_other n lid (link_acts acts) (not_same lid n both.0) ∙ was.1)
 locked_link_is_live (Linked (Unlocked lid) ∷ acts) keep n e =
     locked_link_is_live acts keep.1 n ((both_true (not (eqb lid n)) (is_locked n (link_acts acts))).0 e).1
-locked_link_is_live (Linked (Locked lid) ∷ acts) keep n e = elim (or_by (eqb lid n) (is_locked n (link_acts acts)) e) [
+locked_link_is_live (Linked (Locked lid) ∷ acts) keep n e = elim (or_cases (eqb lid n) (is_locked n (link_acts acts)) e) [
   | inl same ↦ (keep.0.0.0, ap (λ (m : ℕ). owner m (link_acts acts)) (sym (eqb-true lid n same)) ∙ keep.0.0.1)
   | inr more ↦ locked_link_is_live acts keep.1 n more
 ]
@@ -167,10 +160,6 @@ named_link_is_live (_ ∷ acts) all keep d wait n w h = named_link_is_live acts 
 
 -- ---- a call that waits for the lock doesn't name a locked link
 
-and_off : (a b : Bool) → b ≡ false → (a && b) ≡ false
-and_off true b e = e
-and_off false b e = refl
-
 out_by : (n : ℕ) (o : Option ℕ) → is_locked_out o (Some n) ≡ true → is_this n o ≡ false
 out_by n (Some h) e = elim (cases_eq h n) [
   | inl same ↦ absurd (let z : not true ≡ true = rw (eq-eqb n h (sym same)) at e in cc)
@@ -187,9 +176,9 @@ waiting_names_no_locked : (acts : List DeviceAct) → AllSuit acts → AllKeep a
 waiting_names_no_locked [] all keep d n w h = absurd cc
 waiting_names_no_locked (Linked (Made lid conn) ∷ acts) all keep d n w h = waiting_names_no_locked acts all.1 keep.1 d n w h
 waiting_names_no_locked (Linked (Destroyed lid) ∷ acts) all keep d n w h =
-    and_off (not (eqb lid n)) _ (waiting_names_no_locked acts all.1 keep.1 d n w h)
+    and_right (not (eqb lid n)) _ (waiting_names_no_locked acts all.1 keep.1 d n w h)
 waiting_names_no_locked (Linked (Unlocked lid) ∷ acts) all keep d n w h =
-    and_off (not (eqb lid n)) _ (waiting_names_no_locked acts all.1 keep.1 d n w h)
+    and_right (not (eqb lid n)) _ (waiting_names_no_locked acts all.1 keep.1 d n w h)
 waiting_names_no_locked (Linked (Locked lid) ∷ acts) all keep d n w h =
     let owns = named_link_is_live acts all.1 keep.1 d Lock n w h in
     let ne : lid ≢ n = λ e.

@@ -1,6 +1,6 @@
 -- Steps that are due, one after the other: each adds acts to the log, and after the last one no
 -- step is due.
-use Rattle.std.proofs.Common.{◌≡◌, ℕ, zero, suc, List, [], ◌∷◌, ◌++◌, Some, None, sym, ap, subst, ◌∙◌, inl, inr, append_assoc}
+use Rattle.std.proofs.Common.{◌≡◌, ℕ, zero, suc, List, [], ◌∷◌, ◌++◌, sym, ap, subst, ◌∙◌, inl, inr, append_assoc}
 use Rattle.std.specs.Prelude.{map}
 use Rattle.sv_instrument.specs.Stimulus.{IsFired}
 use Rattle.sv_instrument.specs.Step.{IsStep}
@@ -9,6 +9,7 @@ use Rattle.sv_history.specs.Event.{PlainEvent}
 use Rattle.sv_history.specs.Act.{Act, OnDevice, Applied}
 use Rattle.sv_history.specs.Settling.{InstrumentDoes, Resumes, TimesOut, IsNext, IsSettled, SettlesIn}
 use Rattle.sv_history.specs.History.{IsLogOf}
+use Rattle.sv_history.proofs.StillSettled.{settling_ends_settled, empty_log_is_settled}
 
 -- ---- each step adds acts
 
@@ -31,16 +32,6 @@ settles_extends (suc n) config log new (middle, next, more) =
     extends_then log middle new (next_extends config log middle next) (settles_extends n config middle new more)
 
 -- ---- after the last step none is due
-
-settling_ends_settled : (n : ℕ) (config : Config) (log new : List Act) → SettlesIn n config log new → IsSettled config new
-settling_ends_settled zero config log new (none, same) = subst (λ (end : List Act). IsSettled config end) (sym same) none
-settling_ends_settled (suc n) config log new (middle, next, more) = settling_ends_settled n config middle new more
-
-empty_log_is_settled : (config : Config) → IsSettled config []
-empty_log_is_settled config new (inl fires) = absurd (let none = fires.1.0 in cc)
-empty_log_is_settled config new (inr (none, inl goes)) = absurd (let z : None ≡ Some goes.1 = goes.4 in cc)
-empty_log_is_settled config new (inr (none, inr (still, inl step))) = step.1
-empty_log_is_settled config new (inr (none, inr (still, inr (idle, gives)))) = absurd (let z : None ≡ Some gives.1 = gives.3 in cc)
 
 pub log_settled : (config : Config) (history : List PlainEvent) (log : List Act) → IsLogOf config history log → IsSettled config log
 log_settled config [] log (given, none) = subst (λ (end : List Act). IsSettled config end) (sym none) (empty_log_is_settled config)

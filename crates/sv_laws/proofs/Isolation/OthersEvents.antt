@@ -1,13 +1,13 @@
 -- While a link holds the lock, all acts of an event of another connection are foreign to the link's
 -- connection (`IsForeignAct`), and so are the acts with which a call of another connection ends.
-use Rattle.std.proofs.Common.{◌≡◌, ◌≢◌, ℕ, true, eqb, eq-eqb, List, [], ◌∷◌, ◌++◌, Option, Some, None, sym, ap, subst, inl, inr}
-use Rattle.std.specs.Prelude.{map, not, is_some, ◌&&◌}
+use Rattle.std.proofs.Common.{◌≡◌, ◌≢◌, ℕ, true, List, [], ◌∷◌, ◌++◌, Option, Some, None, sym, ap, subst, inl, inr}
+use Rattle.std.specs.Prelude.{map, is_some, ◌&&◌}
 use Rattle.std.proofs.lemmas.Bool.{cases_Bool}
 use Rattle.sv_logs.proofs.Each.{Each, each_join}
 use Rattle.sv_vxi.specs.declared.error_code.ErrorCode.TheVariants.{Abort}
 use Rattle.sv_links.specs.Links.{LinkAct, owner, holder, closing, is_this}
 use Rattle.sv_links.specs.Waiting.{Left, waits, link}
-use Rattle.sv_laws.proofs.LinksAlike.{IsForeignLink}
+use Rattle.sv_laws.proofs.LinksAlike.{IsForeignLink, not_same}
 use Rattle.sv_laws.proofs.Closed.{closing_is_foreign_to_others}
 use Rattle.sv_history.specs.declared.event.Config.{Config}
 use Rattle.sv_history.specs.declared.event.Port.TheVariants.{Conn, Intr}
@@ -103,24 +103,21 @@ foreign_close c d log fit ne =
 
 -- ---- an event
 
-foreign_number_differs : (d c : ℕ) → not (eqb d c) ≡ true → d ≢ c
-foreign_number_differs d c h same = absurd (let z : not true ≡ true = rw (eq-eqb d c same) at h in cc)
-
 pub foreign_event : (config : Config) (polled c lid : ℕ) (event : PlainEvent) (log : List Act) → Fit log
     → holder (link_acts (device_acts log)) ≡ Some lid → owner lid (link_acts (device_acts log)) ≡ Some c → is_foreign c event ≡ true
     → LeavesLinksAlone c event log → Each (IsForeignAct c) (own_acts config polled event log) log
-foreign_event config polled c lid (Open d role) log fit held mine other left_alone = (foreign_number_differs d c other, tt)
-foreign_event config polled c lid (Bytes d piece) log fit held mine other left_alone = (foreign_number_differs d c other, tt)
+foreign_event config polled c lid (Open d role) log fit held mine other left_alone = (not_same d c other, tt)
+foreign_event config polled c lid (Bytes d piece) log fit held mine other left_alone = (not_same d c other, tt)
 foreign_event config polled c lid (Turn d) log fit held mine other left_alone =
-    foreign_turn config polled c d lid (next_call (of d log)) (next_request (of d log)) log held mine (foreign_number_differs d c other)
-    left_alone.0
+    foreign_turn config polled c d lid (next_call (of d log)) (next_request (of d log)) log held mine (not_same d c other)
+        left_alone.0
 foreign_event config polled c lid (Refuse d) log fit held mine other left_alone =
-    each_refused d (others_acts_are_foreign c d (foreign_number_differs d c other)) (next_call (of d log)) (refusable (of d log)) log
-foreign_event config polled c lid (Took (Conn d) count) log fit held mine other left_alone = (foreign_number_differs d c other, tt)
-foreign_event config polled c lid (Took (Intr d) count) log fit held mine other left_alone = (foreign_number_differs d c other, tt)
+    each_refused d (others_acts_are_foreign c d (not_same d c other)) (next_call (of d log)) (refusable (of d log)) log
+foreign_event config polled c lid (Took (Conn d) count) log fit held mine other left_alone = (not_same d c other, tt)
+foreign_event config polled c lid (Took (Intr d) count) log fit held mine other left_alone = (not_same d c other, tt)
 foreign_event config polled c lid (Close (Conn d)) log fit held mine other left_alone =
-    foreign_close c d log fit (foreign_number_differs d c other)
-foreign_event config polled c lid (Close (Intr d)) log fit held mine other left_alone = (foreign_number_differs d c other, tt)
+    foreign_close c d log fit (not_same d c other)
+foreign_event config polled c lid (Close (Intr d)) log fit held mine other left_alone = (not_same d c other, tt)
 foreign_event config polled c lid (Dialed d ok) log fit held mine other left_alone =
-    each_connected d (others_acts_are_foreign c d (foreign_number_differs d c other)) ok (core_call_in (pending_call (of d log))) log
+    each_connected d (others_acts_are_foreign c d (not_same d c other)) ok (core_call_in (pending_call (of d log))) log
 foreign_event config polled c lid _ log fit held mine other left_alone = absurd cc

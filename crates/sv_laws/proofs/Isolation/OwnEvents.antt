@@ -1,8 +1,8 @@
 -- An event of the connection whose link holds the lock, or of no connection: it is refused in both
 -- logs or in neither, and adds the same acts to both.
-use Rattle.std.proofs.Common.{◌≡◌, ℕ, Bool, true, false, eqb, List, [], ◌∷◌, ◌++◌, Option, Some, None, refl, sym, ap, subst, ◌∙◌, inl, inr, append_assoc}
+use Rattle.std.proofs.Common.{◌≡◌, ℕ, Bool, true, false, eqb, List, [], ◌∷◌, ◌++◌, Option, Some, None, refl, sym, ap, subst, ◌∙◌, inl, append_assoc}
 use Rattle.std.specs.Prelude.{map, not, ℤ}
-use Rattle.std.proofs.lemmas.Bool.{cases_Bool, eqb-true}
+use Rattle.std.proofs.lemmas.Bool.{eqb-true, not-false}
 use Rattle.sv_logs.proofs.Each.{Each, each_join}
 use Rattle.sv_vxi.specs.declared.error_code.ErrorCode.{ErrorCode}
 use Rattle.sv_vxi.specs.Arguments.{Arguments, is_create_link}
@@ -39,10 +39,7 @@ use Rattle.sv_laws.proofs.Isolation.Alike.{View, Pair, IsOwn, IsOwnAct, HoldsAft
 use Rattle.sv_laws.proofs.SameOutcomes.{SameGround, admitted_same}
 
 own_number : (d c : ℕ) → not (eqb d c) ≡ false → d ≡ c
-own_number d c h = elim (cases_Bool (eqb d c)) [
-  | inl e ↦ eqb-true d c e
-  | inr e ↦ absurd (let z : not false ≡ false = rw e at h in cc)
-]
+own_number d c h = eqb-true d c (not-false (eqb d c) h)
 
 -- ---- the check that it fails
 

@@ -9,7 +9,7 @@ use Rattle.sv_vxi.specs.declared.arguments.LockWait.{LockWait}
 use Rattle.sv_vxi.specs.Arguments.{LinkCall, DeviceAbort, DeviceUnlock, DeviceEnableSrq, DestroyLink, Arguments, CreateLink, OnLink, CreateIntrChan, DestroyIntrChan, lock_wait, max_handle}
 use Rattle.sv_links.specs.Links.{owner, is_of, holder, is_locked_out, lids_left}
 use Rattle.sv_laws.proofs.Facts.{some_injective}
-use Rattle.sv_laws.proofs.LinksAlike.{owner_is_of}
+use Rattle.sv_laws.proofs.LinksAlike.{owner_is_of, other_owner}
 use Rattle.sv_history.specs.declared.event.Config.{Config}
 use Rattle.sv_history.specs.Act.{DeviceAct, link_acts}
 use Rattle.sv_history.specs.CoreCall.{lid_of, is_too_long}
@@ -58,9 +58,6 @@ locked_out_call_is_foreign config polled c d lid named call acts minds held mine
       ]
     ]
 
-own_other : (c d : ℕ) (found : Option ℕ) → d ≢ c → found ≡ Some d → is_of c found ≡ false
-own_other c d found ne is = rw is (ne_eqb d c ne)
-
 fault_or_waits : (config : Config) (polled c d : ℕ) (arguments : Arguments) (acts : List DeviceAct) (there : Bool)
     (host_addr host_port prog_family : ℕ) → d ≢ c
     → AreForeign config polled c d arguments acts (Some (channel_stop there host_addr host_port prog_family))
@@ -105,7 +102,7 @@ others_call_is_foreign config polled c d lid (OnLink (pos n) (DeviceEnableSrq tr
       | inl e ↦ elim (cases_Bool (nat_lt max_handle (length handle))) [
         | inl k ↦ rw (e, e, k) tt
         | inr k ↦
-            let other = own_other c d (owner n (link_acts acts)) ne (owner_is_of d (owner n (link_acts acts)) e) in
+            let other = other_owner c d (owner n (link_acts acts)) ne (owner_is_of d (owner n (link_acts acts)) e) in
             rw (e, e, k) ((ne, other), tt)
       ]
       | inr e ↦ rw e tt
@@ -113,17 +110,17 @@ others_call_is_foreign config polled c d lid (OnLink (pos n) (DeviceEnableSrq tr
 others_call_is_foreign config polled c d lid (OnLink (pos n) (DeviceEnableSrq false handle)) acts held mine ne =
     elim (cases_Bool (is_of d (owner n (link_acts acts)))) [
       | inl e ↦
-          let other = own_other c d (owner n (link_acts acts)) ne (owner_is_of d (owner n (link_acts acts)) e) in
+          let other = other_owner c d (owner n (link_acts acts)) ne (owner_is_of d (owner n (link_acts acts)) e) in
           rw (e, e) (other, tt)
       | inr e ↦ rw e tt
     ]
 others_call_is_foreign config polled c d lid (OnLink (pos n) DestroyLink) acts held mine ne =
     elim (cases_Bool (is_of d (owner n (link_acts acts)))) [
-      | inl e ↦
-          let other = own_other c d (owner n (link_acts acts)) ne (owner_is_of d (owner n (link_acts acts)) e) in
-          rw e (other, tt)
-      | inr e ↦ rw e tt
-    ]
+  | inl e ↦
+      let other = other_owner c d (owner n (link_acts acts)) ne (owner_is_of d (owner n (link_acts acts)) e) in
+      rw e (other, tt)
+  | inr e ↦ rw e tt
+]
 others_call_is_foreign config polled c d lid (OnLink (negsuc n) call) acts held mine ne = tt
 others_call_is_foreign config polled c d lid (CreateIntrChan host_addr host_port prog_num prog_vers prog_family) acts held mine ne =
     fault_or_waits config polled c d (CreateIntrChan host_addr host_port prog_num prog_vers prog_family) acts

@@ -14,6 +14,8 @@ use Rattle.sv_history.specs.Act.{ConnAct, CallTaken}
 use Rattle.sv_history.specs.Connection.{is_open, next_call, is_idle, is_overlong, is_faulted, room, stream, records_ended, took_no_call, is_busy}
 use Rattle.sv_server.specs.Connection.Representation.{Connection, IsConnection}
 use Rattle.sv_server.specs.Connection.Inside.NextCall.{kept_next}
+use mathlib.Core.Bool.{or_comm}
+use Rattle.std.proofs.NetLemmas.Options.{cond_none}
 
 -- ---- lists
 
@@ -83,20 +85,14 @@ fault_among [] (Header payload header) = refl
 fault_among [] (Data payload missing last) = refl
 fault_among [] TooLong = refl
 
-or_commutes : (a b : Bool) → (a || b) ≡ (b || a)
-or_commutes true true = refl
-or_commutes true false = refl
-or_commutes false true = refl
-or_commutes false false = refl
-
 -- A connection is faulted if its buffer returns a fault, or if it took a record that isn't a call.
 pub faulted_is : (kept : Connection) (acts : List ConnAct) → IsConnection kept acts
     → (is_fault (next_among kept.input.records kept.input.tail) || kept.faulted) ≡ is_faulted acts
 faulted_is kept acts is =
     let left : is_empty_list kept.input.records ≡ eqb (records_ended acts) (length (records_of (stream acts))) =
     ap is_empty_list (records_are kept acts is) ∙ drop_all_is_empty (records_of (stream acts)) (records_ended acts) (few_ended kept acts is)
-    in
-    or_commutes (is_fault (next_among kept.input.records kept.input.tail)) kept.faulted
+        in
+    or_comm (is_fault (next_among kept.input.records kept.input.tail)) kept.faulted
     ∙ ap (λ (b : Bool). b || is_fault (next_among kept.input.records kept.input.tail)) is.faulted
     ∙ ap (λ (b : Bool). took_no_call acts || b) (fault_among kept.input.records kept.input.tail
     ∙ ap (λ (b : Bool). ends_overlong kept.input.tail && b) left
@@ -127,10 +123,6 @@ no_room kept acts is shut =
 
 -- ---- a call that is taken
 
-some_from_cond : (b : Bool) (found : Option (List ℕ)) (call : List ℕ) → cond b None found ≡ Some call → found ≡ Some call
-some_from_cond true found call e = absurd cc
-some_from_cond false found call e = e
-
 pub took_call : (kept : Connection) (acts : List ConnAct) (call : List ℕ) → IsConnection kept acts → next_call acts ≡ Some call
     → IsConnection (record kept { busy = true }) (CallTaken call ∷ acts)
 took_call kept acts call is next = record {
@@ -140,7 +132,7 @@ took_call kept acts call is next = record {
   bounded = is.bounded;
   faulted = is.faulted;
   busy = refl;
-  call = λ busy. some_from_cond (kept.faulted || kept.busy) _ call (kept_next_is_next kept acts is ∙ next);
+  call = λ busy. (cond_none (kept.faulted || kept.busy) _ call (kept_next_is_next kept acts is ∙ next)).1;
 }
 
 -- No call is found exactly if the connection is idle.

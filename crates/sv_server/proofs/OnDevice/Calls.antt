@@ -1,4 +1,4 @@
--- What a write and a read add, where they are done.
+-- The result and the acts of a device_write and of a device_read that fails.
 use Rattle.std.proofs.Common.{◌≡◌, ℕ, ◌==◌, Bool, true, false, cond, List, ◌∷◌, ◌++◌, length, nat_lt, refl, sym, subst}
 use Rattle.std.specs.Int.{bit_at}
 use Rattle.std.specs.Prelude.{Option, Some, None}

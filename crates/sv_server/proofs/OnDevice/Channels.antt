@@ -1,8 +1,8 @@
 -- Which interrupt channels are open, what waits on them, and when a Took of a channel is refused.
 use Rattle.std.proofs.Common.{◌≡◌, ◌≢◌, ℕ, ◌<◌, ◌≤◌, not, Bool, true, false, cond, List, [], ◌∷◌, length, Option, Some, None, refl, sym, ap, subst, ◌∙◌, inl, inr, arith}
-use Rattle.std.specs.Prelude.{◌||◌, is_some, nat_lt}
+use Rattle.std.specs.Prelude.{is_some, nat_lt}
 use Rattle.std.specs.List.{concat}
-use Rattle.std.proofs.lemmas.Bool.{lt-ltb, le-ltb, ne_eqb, cases_lt}
+use Rattle.std.proofs.lemmas.Bool.{lt-ltb, le-ltb, ne_eqb, cases_lt, not-false, or_parts}
 use Rattle.sv_links.specs.declared.request.Peer.{Peer}
 use Rattle.sv_links.specs.Channels.{ChannelAct, ChannelTaken, is_channel_open, bytes_taken, calls, calls_left, waiting as channel_waiting}
 use Rattle.sv_links.specs.ChannelRepresentation.{AreChannels}
@@ -25,18 +25,8 @@ channels_of : (kept : KeptDevice) (config : Config) (acts : List DeviceAct) (cha
 channels_of kept config acts channel_log is tells =
     subst (λ (l : List ChannelAct). AreChannels kept.intr l) (channel_log_unique acts is.6.0 channel_log is.6.1 tells) is.6.2
 
--- Bytes wait only on an open channel.
-open_if_some_wait : (open_now : Bool) (bytes : List ℕ) → 0 < length (cond open_now bytes []) → open_now ≡ true
-open_if_some_wait true bytes some = refl
-open_if_some_wait false bytes some = absurd (omega arith)
-
 none_wait_if_shut : (open_now : Bool) (bytes : List ℕ) → open_now ≡ false → cond open_now bytes [] ≡ []
 none_wait_if_shut open_now bytes shut = ap (λ (b : Bool). cond b bytes []) shut
-
-pub channel_open_if_some_wait : (c : ℕ) (channel_log : List ChannelAct) → 0 < length (channel_waiting c channel_log)
-    → is_channel_open c channel_log ≡ true
-channel_open_if_some_wait c channel_log some = open_if_some_wait (is_channel_open c channel_log)
-    (concat (calls_left (bytes_taken c channel_log) (calls c channel_log))) some
 
 -- No channel with a number above 15 is open.
 beyond_shut : (kept : KeptDevice) (config : Config) (acts : List DeviceAct) (channel_log : List ChannelAct) (c : ℕ)
@@ -62,12 +52,8 @@ pub channel_shut_is : (c : ℕ) (log : List Act) (b : Bool) → c < 16 → has_c
 channel_shut_is c log b lt e = rw (le-ltb 15 c (omega arith), e) refl
 
 pub has_channel_if_open : (c : ℕ) (log : List Act) → is_channel_shut c log ≡ false → has_channel c (device_acts log) ≡ true
-has_channel_if_open c log unshut = neither (nat_lt 15 c) (has_channel c (device_acts log)) unshut
-  where
-    neither : (a b : Bool) → (a || not b) ≡ false → b ≡ true
-    neither a true e = refl
-    neither true false e = absurd cc
-    neither false false e = absurd cc
+has_channel_if_open c log unshut =
+    not-false (has_channel c (device_acts log)) (or_parts (nat_lt 15 c) (not (has_channel c (device_acts log))) unshut).1
 
 pub channel_beyond : (c : ℕ) (log : List Act) → 16 ≤ c → is_channel_shut c log ≡ true
 channel_beyond c log above = rw (lt-ltb 15 c (omega arith)) refl

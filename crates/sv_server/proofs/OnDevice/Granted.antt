@@ -1,4 +1,5 @@
--- What is known of a call by its arguments and by what stops it.
+-- What follows from a call's arguments and from what stops the call: its result, what it waits for,
+-- and whether a place and memory are reserved for its link.
 use Rattle.std.proofs.Common.{◌≡◌, ℕ, ◌<◌, ◌&&◌, Bool, true, false, cond, suc, List, [], ◌∷◌, nat_lt, Option, Some, None, refl, sym, ap, subst, ◌∙◌, arith}
 use Rattle.std.specs.Prelude.{ℤ, pos, negsuc, not, ◌||◌, is_none, is_some, option_map, Result, Ok, Err, IfOk, OnOk, OnErr, ◌==◌}
 use Rattle.sv_vxi.specs.declared.error_code.ErrorCode.TheVariants.{InvalidLink, ParameterError, IoTimeout, NotAccessible, NotSupported, OutOfResources, InvalidAddress}
@@ -28,11 +29,8 @@ use Rattle.sv_vxi.specs.Reading.{plain_call}
 use Rattle.sv_exchange.specs.Exchange.{has_ended, response, is_something}
 use Rattle.sv_instrument.specs.Step.{is_answerable}
 use Rattle.sv_instrument.specs.Representation.{Kept}
-
-pub both_true : (a b : Bool) → (a && b) ≡ true → (a ≡ true) × (b ≡ true)
-both_true true true e = (refl, refl)
-both_true true false e = absurd cc
-both_true false b e = absurd cc
+use Rattle.std.proofs.lemmas.Bool.{and_parts, or_right, or_left}
+use Rattle.std.proofs.lemmas.Option.{same_Some}
 
 pub if_ok : {A E : Type 0} (r : Result A E) (P Q : A → Type 0) → IfOk r P → ((a : A) → P a → Q a) → IfOk r Q
 if_ok (Ok a) P Q p then = then a p
@@ -52,31 +50,32 @@ on_err (Err e) P p = p
 
 -- ---- what may stop a create_link
 
-link_free : (named more asks locked : Bool) (timeout : ℕ)
+unstopped_link_has_place : (named more asks locked : Bool) (timeout : ℕ)
     → cond (not named) (Some (Fails NotAccessible)) (cond (not more) (Some (Fails OutOfResources))
     (cond (asks && locked) (Some (Awaits Lock (Some timeout))) None)) ≡ None
     → (more ≡ true) × (asks ≡ true → locked ≡ false)
-link_free false more asks locked timeout e = absurd cc
-link_free true false asks locked timeout e = absurd cc
-link_free true true true true timeout e = absurd cc
-link_free true true true false timeout e = (refl, λ _. refl)
-link_free true true false locked timeout e = (refl, λ z. absurd cc)
+unstopped_link_has_place false more asks locked timeout e = absurd cc
+unstopped_link_has_place true false asks locked timeout e = absurd cc
+unstopped_link_has_place true true true true timeout e = absurd cc
+unstopped_link_has_place true true true false timeout e = (refl, λ _. refl)
+unstopped_link_has_place true true false locked timeout e = (refl, λ z. absurd cc)
 
-link_waits : (named more asks locked : Bool) (timeout : ℕ) (wait : Wait) (until : Option ℕ)
+link_waits_for_lock : (named more asks locked : Bool) (timeout : ℕ) (wait : Wait) (until : Option ℕ)
     → cond (not named) (Some (Fails NotAccessible)) (cond (not more) (Some (Fails OutOfResources))
     (cond (asks && locked) (Some (Awaits Lock (Some timeout))) None)) ≡ Some (Awaits wait until)
     → (more ≡ true) × (wait ≡ Lock)
-link_waits false more asks locked timeout wait until e = absurd cc
-link_waits true false asks locked timeout wait until e = absurd cc
-link_waits true true true true timeout wait until e = (refl, cc)
-link_waits true true true false timeout wait until e = absurd cc
-link_waits true true false locked timeout wait until e = absurd cc
+link_waits_for_lock false more asks locked timeout wait until e = absurd cc
+link_waits_for_lock true false asks locked timeout wait until e = absurd cc
+link_waits_for_lock true true true true timeout wait until e = (refl, cc)
+link_waits_for_lock true true true false timeout wait until e = absurd cc
+link_waits_for_lock true true false locked timeout wait until e = absurd cc
 
--- one that nothing stops has its place, and finds the lock free where it asks for it
+-- A create_link that nothing stops has a place for its link and, if it asks for the lock, finds it
+-- free.
 pub granted_start : (c : ℕ) (arguments : Arguments) (kept : Device) (acts : List DeviceAct) → stop_of c arguments acts ≡ None
     → (is_create_link arguments ≡ true → may_make_more acts ≡ true → HasPlace kept acts) → IsGranted arguments kept acts
 granted_start c (CreateLink client_id lock_device lock_timeout device) kept acts free place =
-    let known = link_free _ (may_make_more acts) lock_device _ lock_timeout free in (place refl known.0, known.1)
+    let known = unstopped_link_has_place _ (may_make_more acts) lock_device _ lock_timeout free in (place refl known.0, known.1)
 granted_start c _ kept acts free place = tt
 
 -- ---- what a call waits for
@@ -93,35 +92,34 @@ channel_waits false host_addr host_port prog_family wait until e =
     by false true e = absurd cc
     by false false e = cc
 
-some_stop : (a b : Stop) → Some a ≡ Some b → a ≡ b
-some_stop a b e = cc
-
 lock_both : (wait : Wait) (b : Bool) → (is_lock (Some wait) && b) ≡ true → (wait ≡ Lock) × (b ≡ true)
 lock_both Lock b e = (refl, e)
 lock_both _ b e = absurd cc
 
--- so one that waits for the lock and names no link is a create_link, and may make a link
-pub lock_place : (c : ℕ) (arguments : Arguments) (acts : List DeviceAct) (wait : Wait) (until : Option ℕ)
+-- A call that waits for the lock and names no link is a create_link, and a link may still be made.
+pub lock_wait_is_create_link : (c : ℕ) (arguments : Arguments) (acts : List DeviceAct) (wait : Wait) (until : Option ℕ)
     → stop_of c arguments acts ≡ Some (Awaits wait until) → (is_lock (Some wait) && is_none (lid_of (link arguments))) ≡ true
     → (is_create_link arguments ≡ true) × (may_make_more acts ≡ true)
-lock_place c (CreateLink client_id lock_device lock_timeout device) acts wait until e both =
-    (refl, (link_waits _ (may_make_more acts) lock_device _ lock_timeout wait until e).0)
-lock_place c (OnLink (pos n) call) acts wait until e both = absurd (let z : false ≡ true = (lock_both wait false both).1 in cc)
-lock_place c (OnLink (negsuc n) call) acts wait until e both = absurd cc
-lock_place c (CreateIntrChan host_addr host_port prog_num prog_vers prog_family) acts wait until e both =
-    let dial = channel_waits (has_channel c acts) host_addr host_port prog_family wait until (some_stop _ _ e) in
+lock_wait_is_create_link c (CreateLink client_id lock_device lock_timeout device) acts wait until e both =
+    (refl, (link_waits_for_lock _ (may_make_more acts) lock_device _ lock_timeout wait until e).0)
+lock_wait_is_create_link c (OnLink (pos n) call) acts wait until e both =
+    absurd (let z : false ≡ true = (lock_both wait false both).1 in cc)
+lock_wait_is_create_link c (OnLink (negsuc n) call) acts wait until e both = absurd cc
+lock_wait_is_create_link c (CreateIntrChan host_addr host_port prog_num prog_vers prog_family) acts wait until e both =
+    let dial = channel_waits (has_channel c acts) host_addr host_port prog_family wait until (same_Some _ _ e) in
     absurd (let z : Lock ≡ Dial = sym (lock_both wait _ both).0 ∙ dial.1 in cc)
-lock_place c DestroyIntrChan acts wait until e both = absurd cc
+lock_wait_is_create_link c DestroyIntrChan acts wait until e both = absurd cc
 
--- and a create_link waits for the lock as such
-pub link_lock : (c : ℕ) (arguments : Arguments) (acts : List DeviceAct) (wait : Wait) (until : Option ℕ)
+-- Conversely, a suspended create_link waits for the lock and names no link.
+pub create_link_waits_for_lock : (c : ℕ) (arguments : Arguments) (acts : List DeviceAct) (wait : Wait) (until : Option ℕ)
     → stop_of c arguments acts ≡ Some (Awaits wait until) → is_create_link arguments ≡ true
     → (is_lock (Some wait) && is_none (lid_of (link arguments))) ≡ true
-link_lock c (CreateLink client_id lock_device lock_timeout device) acts wait until e makes =
-    rw (link_waits _ (may_make_more acts) lock_device _ lock_timeout wait until e).1 refl
-link_lock c _ acts wait until e makes = absurd (let z : false ≡ true = makes in cc)
+create_link_waits_for_lock c (CreateLink client_id lock_device lock_timeout device) acts wait until e makes =
+    rw (link_waits_for_lock _ (may_make_more acts) lock_device _ lock_timeout wait until e).1 refl
+create_link_waits_for_lock c _ acts wait until e makes = absurd (let z : false ≡ true = makes in cc)
 
--- a create_intr_chan waits for its peer, and no other call does; it finds no channel open
+-- Only create_intr_chan waits until its peer is connected, and then its connection has no interrupt
+-- channel.
 
 same_wait : (a b : Wait) (x y : Option ℕ) → Awaits a x ≡ Awaits b y → a ≡ b
 same_wait a b x y e = cc
@@ -158,24 +156,23 @@ dial_never true true out lock device until never e = cc
 dial_never true false true lock device until never e = lock_never lock until e
 dial_never true false false lock device until never e = never e
 
-pub dials : (c : ℕ) (arguments : Arguments) (acts : List DeviceAct) (until : Option ℕ) → stop_of c arguments acts ≡ Some (Awaits Dial until)
+pub dialing_has_no_channel : (c : ℕ) (arguments : Arguments) (acts : List DeviceAct) (until : Option ℕ)
+    → stop_of c arguments acts ≡ Some (Awaits Dial until)
     → (has_channel c acts ≡ false) × (is_create_link arguments ≡ false)
-dials c (CreateLink client_id lock_device lock_timeout device) acts until e =
-    absurd (let z : Dial ≡ Lock = (link_waits _ (may_make_more acts) lock_device _ lock_timeout Dial until e).1 in cc)
-dials c (CreateIntrChan host_addr host_port prog_num prog_vers prog_family) acts until e =
-    ((channel_waits (has_channel c acts) host_addr host_port prog_family Dial until (some_stop _ _ e)).0, refl)
-dials c (OnLink lid call) acts until e = absurd (dial_never (owns c (lid_of (Some lid)) acts) (is_too_long call) _ (lock_wait call)
+dialing_has_no_channel c (CreateLink client_id lock_device lock_timeout device) acts until e =
+    absurd (let z : Dial ≡ Lock = (link_waits_for_lock _ (may_make_more acts) lock_device _ lock_timeout Dial until e).1 in cc)
+dialing_has_no_channel c (CreateIntrChan host_addr host_port prog_num prog_vers prog_family) acts until e =
+    ((channel_waits (has_channel c acts) host_addr host_port prog_family Dial until (same_Some _ _ e)).0, refl)
+dialing_has_no_channel c (OnLink lid call) acts until e =
+    absurd (dial_never (owns c (lid_of (Some lid)) acts) (is_too_long call) _ (lock_wait call)
     (option_map (λ (wait : Wait × ℕ). Awaits wait.0 (Some wait.1)) (device_wait call acts)) until (device_never call acts until) e)
-dials c DestroyIntrChan acts until e = absurd cc
+dialing_has_no_channel c DestroyIntrChan acts until e = absurd cc
 
 -- ---- a call that is executed
 
-some_number : (a b : ℕ) → Some a ≡ Some b → a ≡ b
-some_number a b e = cc
-
--- The number by which a call names a link is that of the link.
+-- A link number that was read is the call's argument.
 pub link_numbered : (n : ℕ) (lid : ℤ) → Some n ≡ lid_of (Some lid) → lid ≡ pos n
-link_numbered n (pos m) e = ap pos (sym (some_number n m e))
+link_numbered n (pos m) e = ap pos (sym (same_Some n m e))
 link_numbered n (negsuc m) e = absurd cc
 
 -- A call that names a link by a negative number fails.
@@ -220,7 +217,6 @@ executed_is config polled c (admitted.CreateLink lock_device) arguments acts (cl
 executed_is config polled c (admitted.OnLink lid call) arguments acts is = rw is refl
 executed_is config polled c admitted.DestroyIntrChan arguments acts is = rw is refl
 
--- It makes a link if it is a create_link.
 pub makes_as : (call : Admitted) (arguments : Arguments) → IsCall call arguments → is_create_link arguments ≡ makes_link call
 makes_as (admitted.CreateLink lock_device) arguments (client_id, lock_timeout, device, is) = rw is refl
 makes_as (admitted.OnLink lid call) arguments is = rw is refl
@@ -262,10 +258,9 @@ stops_unlocked true None stop other e = refl
 stops_unlocked false (Some lock) stop other e = refl
 stops_unlocked false None stop other e = refl
 
--- A call that needn't wait is not made to.
-pub none_due : (wait : Option (Wait × ℕ)) → false ≡ is_some wait → wait ≡ None
-none_due None e = refl
-none_due (Some wait) e = absurd cc
+pub none_of_not_some : (wait : Option (Wait × ℕ)) → false ≡ is_some wait → wait ≡ None
+none_of_not_some None e = refl
+none_of_not_some (Some wait) e = absurd cc
 
 pub needs_no_wait : (c : ℕ) (call : Admitted) (arguments : Arguments) (acts : List DeviceAct) → IsCall call arguments
     → stop_of c arguments acts ≡ None → NeedsNoWait call acts
@@ -275,14 +270,13 @@ needs_no_wait c (admitted.OnLink lid call) arguments acts is free =
     (lock_wait (plain_call call)) (device_wait (plain_call call) acts) (rw is at free)
 needs_no_wait c admitted.DestroyIntrChan arguments acts is free = tt
 
--- So what a call needs is there.
 pub free_of : (call : Admitted) (arguments : Arguments) (kept : Device) (acts : List DeviceAct) → IsCall call arguments
     → IsGranted arguments kept acts → NeedsNoWait call acts → IsFree call kept acts
 free_of (admitted.CreateLink lock_device) arguments kept acts (client_id, lock_timeout, device, is) granted needs = rw is at granted
 free_of (admitted.OnLink lid call) arguments kept acts is granted needs = needs
 free_of admitted.DestroyIntrChan arguments kept acts is granted needs = tt
 
--- a call begins as what stops it says
+-- A function that begins a call correctly after acts with the known stop begins it correctly.
 pub admits_as : (stop : Option Stop) {E : Type 0} (result : Result Outcome E) (c : ℕ) (arguments : Arguments) (old new : Device)
     → ((config : Config) (acts : List DeviceAct) → IsDevice old config acts → stop_of c arguments acts ≡ stop)
     → AdmitsAt stop result c arguments old new → Admits result c arguments old new
@@ -294,9 +288,9 @@ admits_as stop {E} result c arguments old new is at = record {
   err = at.err;
 }
 
--- ---- a call that waited
+-- ---- a suspended call
 
--- what waited for the lock as a create_link has its place
+-- A create_link that leaves the queue of suspended calls gets the place reserved for it.
 pub granted_left : (arguments : Arguments) (kept : Device) (waiting : List Entry) (config : Config) (acts : List DeviceAct) (c : ℕ)
     → IsDevice kept config acts → waiting ≡ without c kept.waiting → MayMake arguments c kept acts
     → IsGranted arguments (record kept { waiting = waiting }) (Waited (Left c) ∷ acts)
@@ -304,71 +298,65 @@ granted_left (CreateLink client_id lock_device lock_timeout device) kept waiting
     rw left ((omega (arith, is.5.0, may.0), omega (arith, is.5.1, may.0)), λ asks. may.1)
 granted_left _ kept waiting config acts c is left may = tt
 
--- whether a call makes a link tells what it may
 pub may_make_link : (arguments : Arguments) (kept : Device) (acts : List DeviceAct) (c : ℕ) → (is_create_link arguments ≡ true
     → (creations (without c kept.waiting) < creations kept.waiting) × (is_locked_out (holder (link_acts acts)) None ≡ false))
     → MayMake arguments c kept acts
 may_make_link (CreateLink client_id lock_device lock_timeout device) kept acts c may = may refl
 may_make_link _ kept acts c may = tt
 
--- what isn't waited for once more
-pub rank_other : (wait : Wait) → wait_measure wait ≡ 1 → wait ≡ Lock → ⊥
-rank_other Lock e same = absurd cc
-rank_other _ e same = cc
+-- A wait whose measure is 1 isn't for the lock.
+pub measure_one_is_not_lock : (wait : Wait) → wait_measure wait ≡ 1 → wait ≡ Lock → ⊥
+measure_one_is_not_lock Lock e same = absurd cc
+measure_one_is_not_lock _ e same = cc
 
-pub not_lock : (wait : Wait) (b : Bool) → wait_measure wait ≡ 1 → (is_lock (Some wait) && b) ≡ true → ⊥
-not_lock Lock b e both = cc
-not_lock _ b e both = cc
+pub measure_one_is_no_lock_wait : (wait : Wait) (b : Bool) → wait_measure wait ≡ 1 → (is_lock (Some wait) && b) ≡ true → ⊥
+measure_one_is_no_lock_wait Lock b e both = cc
+measure_one_is_no_lock_wait _ b e both = cc
 
--- a lock that is free locks nobody out
-pub free_lock : (holder : Option ℕ) (lid : ℕ) → is_locked_out holder None ≡ false → is_locked_out holder (Some lid) ≡ false
-free_lock (Some other) lid e = absurd cc
-free_lock None lid e = refl
+pub free_lock_excludes_nobody : (holder : Option ℕ) (lid : ℕ) → is_locked_out holder None ≡ false → is_locked_out holder (Some lid) ≡ false
+free_lock_excludes_nobody (Some other) lid e = absurd cc
+free_lock_excludes_nobody None lid e = refl
 
--- a call that waits tells which link it names
-pub waits_told : (c lid : ℕ) (entry : Entry) (acts : List DeviceAct) → entry.conn ≡ c → IsEntry (wait_acts acts) entry
+-- The entry of a suspended call has the link that the log says the call names.
+pub entry_names_waiting_link : (c lid : ℕ) (entry : Entry) (acts : List DeviceAct) → entry.conn ≡ c → IsEntry (wait_acts acts) entry
     → is_this lid entry.lid ≡ (is_some (waits c (wait_acts acts)) && is_this lid (link_of_wait c (wait_acts acts)))
-waits_told c lid entry acts same is =
+entry_names_waiting_link c lid entry acts same is =
     subst (λ (d : ℕ). is_this lid entry.lid ≡ (is_some (waits d (wait_acts acts)) && is_this lid (link_of_wait d (wait_acts acts)))) same
     (ap (λ (l : Option ℕ). is_this lid l) (sym is.2)
     ∙ ap (λ (w : Option Wait). is_some w && is_this lid (link_of_wait entry.conn (wait_acts acts))) (sym is.0))
 
--- a create_link that waits is one, and so is a create_intr_chan
-one_waits : (c : ℕ) (named until : Option ℕ) → c < 16
+-- A suspended create_link counts as one link to be made, and a create_intr_chan as one connect.
+one_creation_or_dial : (c : ℕ) (named until : Option ℕ) → c < 16
     → (nat_lt 0 (creating (Entered c None Lock until ∷ [])) ≡ true) × (nat_lt 0 (dialing (Entered c named Dial until ∷ [])) ≡ true)
-one_waits (suc (suc (suc (suc (suc (suc (suc (suc (suc (suc (suc (suc (suc (suc (suc (suc n)))))))))))))))) named until lt = absurd
+one_creation_or_dial (suc (suc (suc (suc (suc (suc (suc (suc (suc (suc (suc (suc (suc (suc (suc (suc n)))))))))))))))) named until lt =
+    absurd
     (omega (arith, lt))
-one_waits _ named until lt = (refl, refl)
+one_creation_or_dial _ named until lt = (refl, refl)
 
--- ---- what wants memory
-
-either : (a b : Bool) → b ≡ true → (a || b) ≡ true
-either true b e = refl
-either false b e = e
-
-first : (a b : Bool) → a ≡ true → (a || b) ≡ true
-first true b e = refl
-first false b e = absurd cc
+-- ---- calls that need memory
 
 made_wants : (config : Config) (c : ℕ) (lock_device : Bool) (acts : List DeviceAct) → lids_left (link_acts acts) ≡ true
     → wants_memory (make_link config c lock_device acts).adds ≡ true
 made_wants config c true acts left = rw left refl
 made_wants config c false acts left = rw left refl
 
-pub start_wants : (config : Config) (polled c : ℕ) (arguments : Arguments) (acts : List DeviceAct) → stop_of c arguments acts ≡ None
+pub unstopped_link_needs_memory : (config : Config) (polled c : ℕ) (arguments : Arguments) (acts : List DeviceAct)
+    → stop_of c arguments acts ≡ None
     → is_create_link arguments ≡ true → wants_memory (admission config polled c arguments None acts).adds ≡ true
-start_wants config polled c (CreateLink client_id lock_device lock_timeout device) acts free makes =
-    made_wants config c lock_device acts (both_true _ (lids_left (link_acts acts))
-    (link_free _ (may_make_more acts) lock_device _ lock_timeout
+unstopped_link_needs_memory config polled c (CreateLink client_id lock_device lock_timeout device) acts free makes =
+    made_wants config c lock_device acts (and_parts _ (lids_left (link_acts acts))
+    (unstopped_link_has_place _ (may_make_more acts) lock_device _ lock_timeout
     free).0).1
-start_wants config polled c _ acts free makes = absurd (let z : false ≡ true = makes in cc)
+unstopped_link_needs_memory config polled c _ acts free makes = absurd (let z : false ≡ true = makes in cc)
 
-pub lock_wants : (c : ℕ) (arguments : Arguments) (acts : List DeviceAct) (wait : Wait) (until deadline : Option ℕ) → c < 16
+pub lock_wait_needs_memory : (c : ℕ) (arguments : Arguments) (acts : List DeviceAct) (wait : Wait) (until deadline : Option ℕ) → c < 16
     → stop_of c arguments acts ≡ Some (Awaits wait until) → is_create_link arguments ≡ true
     → wants_memory (Waited (Entered c (lid_of (link arguments)) wait deadline) ∷ []) ≡ true
-lock_wants c (CreateLink client_id lock_device lock_timeout device) acts wait until deadline lt e makes =
-    rw (link_waits _ (may_make_more acts) lock_device _ lock_timeout wait until e).1 (first _ _ (one_waits c None deadline lt).0)
-lock_wants c _ acts wait until deadline lt e makes = absurd (let z : false ≡ true = makes in cc)
+lock_wait_needs_memory c (CreateLink client_id lock_device lock_timeout device) acts wait until deadline lt e makes =
+    rw (link_waits_for_lock _ (may_make_more acts) lock_device _ lock_timeout wait until e).1
+        (or_left _ _ (one_creation_or_dial c None deadline lt).0)
+lock_wait_needs_memory c _ acts wait until deadline lt e makes = absurd (let z : false ≡ true = makes in cc)
 
-pub dial_wants : (c : ℕ) (named deadline : Option ℕ) → c < 16 → wants_memory (Waited (Entered c named Dial deadline) ∷ []) ≡ true
-dial_wants c named deadline lt = either (nat_lt 0 (creating (Entered c named Dial deadline ∷ []))) _ (one_waits c named deadline lt).1
+pub dial_needs_memory : (c : ℕ) (named deadline : Option ℕ) → c < 16 → wants_memory (Waited (Entered c named Dial deadline) ∷ []) ≡ true
+dial_needs_memory c named deadline lt = or_right (nat_lt 0 (creating (Entered c named Dial deadline ∷ []))) _
+    (one_creation_or_dial c named deadline lt).1

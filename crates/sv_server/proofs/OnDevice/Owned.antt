@@ -3,7 +3,7 @@
 use Rattle.std.proofs.Common.{◌≡◌, ◌≢◌, ℕ, ◌<◌, ◌≤◌, Bool, true, false, eqb, List, [], ◌∷◌, ◌++◌, length, Option, Some, refl, sym, ap, ◌∙◌, arith, inl, inr, eq-eqb}
 use Rattle.std.specs.Prelude.{◌==◌, not, map, filter, find, option_map, reverse, nat_lt}
 use Rattle.std.specs.List.{AllByRecursion, list_any}
-use Rattle.std.proofs.lemmas.Bool.{ne_eqb, cases_Bool, cases_eq, eqb-true}
+use Rattle.std.proofs.lemmas.Bool.{ne_eqb, cases_Bool, cases_eq, eqb-true, eqb-false, not-true}
 use mathlib.Core.List.{reverse_aux}
 use Rattle.sv_links.specs.declared.links.Link.{Link}
 use Rattle.sv_links.specs.declared.enabled.Enabled.{Enabled}
@@ -17,6 +17,7 @@ use Rattle.sv_links.specs.Limits.{max_links}
 use Rattle.sv_history.specs.Act.{DeviceAct, Linked, link_acts}
 use Rattle.sv_server.specs.Device.Representation.{AreOwned}
 use Rattle.sv_history.specs.Requests.{HearsOf}
+use Rattle.sv_links.proofs.Counted.{length_filter_le}
 
 all_passing : (P Q : Enabled → Type 0) (test : Enabled → Bool) (links : List Enabled)
     → ((link : Enabled) → test link ≡ true → P link → Q link) → AllByRecursion P links → AllByRecursion Q (filter test links)
@@ -74,15 +75,12 @@ owned_made links acts lid conn owned = all_implied (λ link. owner link.lid acts
     (λ link. owner link.lid (Made lid conn ∷ acts) ≡ Some link.conn) links
     (λ link h. owner_kept_by_append link.lid link.conn (live acts) (record { lid = lid; conn = conn } ∷ []) h) owned
 
-not_same : (a b : ℕ) → not (eqb a b) ≡ true → a ≢ b
-not_same a b e same = absurd (let z : not true ≡ true = rw (eq-eqb a b same) at e in cc)
-
 -- Destroying a link keeps the owners of the other links.
 pub owned_destroyed : (links : List Enabled) (acts : List LinkAct) (lid : ℕ) → AreOwned links acts
     → AreOwned (filter (λ other. not (other.lid == lid)) links) (Destroyed lid ∷ acts)
 owned_destroyed links acts lid owned = all_passing (λ link. owner link.lid acts ≡ Some link.conn)
     (λ link. owner link.lid (Destroyed lid ∷ acts) ≡ Some link.conn) (λ other. not (eqb other.lid lid)) links
-    (λ link e h. owner_other lid link.lid link.conn (live acts) (not_same link.lid lid e) h) owned
+    (λ link e h. owner_other lid link.lid link.conn (live acts) (eqb-false link.lid lid (not-true (eqb link.lid lid) e)) h) owned
 
 -- A link enables service requests, for the connection that owns it.
 pub owned_enabled : (links : List Enabled) (acts : List LinkAct) (lid conn : ℕ) (handle : List ℕ) → AreOwned links acts
@@ -196,18 +194,11 @@ tells_closed c acts channel_log tells = rw (closing_numbers c (link_acts acts))
 
 -- ---- how many links have service requests enabled
 
-filter_is_no_longer : (test : Link → Bool) (xs : List Link) → length (filter test xs) ≤ length xs
-filter_is_no_longer test [] = omega arith
-filter_is_no_longer test (x ∷ xs) = elim (cases_Bool (test x)) [
-  | inl e ↦ rw e (omega (arith, filter_is_no_longer test xs))
-  | inr e ↦ rw e (omega (arith, filter_is_no_longer test xs))
-]
-
 -- Filtering out a link that exists leaves fewer links.
 filter_is_shorter : (lid conn : ℕ) (xs : List Link) → owner_in lid xs ≡ Some conn → length (filter (other_than lid) xs) < length xs
 filter_is_shorter lid conn [] h = absurd cc
 filter_is_shorter lid conn (x ∷ xs) h = elim (cases_Bool (eqb x.lid lid)) [
-  | inl e ↦ rw e (omega (arith, filter_is_no_longer (other_than lid) xs))
+  | inl e ↦ rw e (omega (arith, length_filter_le (other_than lid) xs))
   | inr e ↦ rw e (omega (arith, filter_is_shorter lid conn xs (rw e at h)))
 ]
 

@@ -1,4 +1,4 @@
--- What all connections share, over acts of links and of calls that wait.
+-- The device keeps the state that its acts determine over each act of links and of suspended calls.
 use Rattle.std.proofs.Common.{◌≡◌, ◌≢◌, ℕ, ◌+◌, ◌≤◌, Bool, true, false, List, [], ◌∷◌, ◌++◌, length, Option, Some, None, refl, sym, ap, subst, ◌∙◌, inl, inr, arith, eq-eqb}
 use Rattle.std.specs.Prelude.{map, filter, reverse, not, ◌==◌, ◌&&◌, pos, nat_lt, option_map, slice_index_or, if◌then◌else◌, Result, Ok, Err}
 use Rattle.std.proofs.lemmas.Bool.{cases_Bool, cases_eq, ne_eqb}
@@ -34,9 +34,9 @@ use Rattle.sv_server.specs.Device.Inside.Outcome.{IsResult}
 use Rattle.sv_server.proofs.OnDevice.Effects.{device_linked}
 use Rattle.sv_server.proofs.OnDevice.Owned.{owned_made, owned_destroyed, owned_closed, closed_disabled, tells_closed}
 
--- ---- calls that wait
+-- ---- suspended calls
 
--- a create_intr_chan waits for its peer where it did, or begins to
+-- If a create_intr_chan waits for its peer after another act on the queue, it did so before.
 pub dials_left : (c d : ℕ) (acts : List WaitAct) → is_dialing d (Left c ∷ acts) ≡ true → (is_dialing d acts ≡ true) × (d ≢ c)
 dials_left c d acts dials = elim (cases_eq c d) [
   | inl e ↦ absurd (let z : false ≡ true = rw (eq-eqb c d e) at dials in cc)
@@ -127,19 +127,18 @@ device_again kept waiting config acts c wait deadline
 
 -- ---- links
 
--- the same channels are prepared
-pub ready_same : (old new : Channels) → new.channels ≡ old.channels → (c : ℕ) → IsReady old c → IsReady new c
-ready_same old new same c ready =
+pub same_channels_stay_ready : (old new : Channels) → new.channels ≡ old.channels → (c : ℕ) → IsReady old c → IsReady new c
+same_channels_stay_ready old new same c ready =
     λ other. ap (λ (xs : List Channel). is_prepared (slice_index_or xs c other).stage) same ∙ ready other
 
--- where the same was told, a link more or a lock changes nothing of those that ask
-told_as_before : (intr : Channels) (acts : List DeviceAct) (act : LinkAct) → AreTold intr acts
+-- An act of links that adds nothing to the channel log keeps the interrupt channels as they were.
+told_if_none_destroyed : (intr : Channels) (acts : List DeviceAct) (act : LinkAct) → AreTold intr acts
     → ((channel_log : List ChannelAct) → link_told act channel_log ≡ channel_log)
     → AreOwned intr.enabled (act ∷ link_acts acts) → AreTold intr (Linked act ∷ acts)
-told_as_before intr acts act (channel_log, tells, are, was) same owned =
+told_if_none_destroyed intr acts act (channel_log, tells, are, was) same owned =
     (channel_log, (channel_log, tells, sym (same channel_log)), are, owned)
 
--- those that ask are others where links are destroyed
+-- Destroying links disables their service requests.
 told_closed : (old intr : Channels) (acts : List DeviceAct) (c last : ℕ) → AreTold old acts → IsRising (live (link_acts acts)) last
     → ((lids : List ℕ)
     (channel_log : List ChannelAct) → AreChannels old channel_log → without_links lids old.enabled ≡ of_others c old.enabled
@@ -163,7 +162,7 @@ pub device_closed : (kept : Device) (links : Table) (intr : Channels) (config : 
 device_closed kept links intr config acts c is stands spare disables without same =
     device_linked kept links intr config acts (closing c (link_acts acts)) is stands
     (omega (arith, is.5.0, closing_adds_no_live c (link_acts acts))) (omega (arith, is.5.1, spare))
-    (told_closed kept.intr intr acts c kept.links.made is.6 is.0.rising disables without) (ready_same kept.intr intr same)
+    (told_closed kept.intr intr acts c kept.links.made is.6 is.0.rising disables without) (same_channels_stay_ready kept.intr intr same)
 
 told_destroyed : (old intr : Channels) (acts : List DeviceAct) (lid : ℕ) → AreTold old acts
     → ((channel_log : List ChannelAct) → AreChannels old channel_log → AreChannels intr (SrqDisabled lid ∷ channel_log))
@@ -182,23 +181,22 @@ pub device_destroyed : (kept : Device) (links : Table) (intr : Channels) (config
 device_destroyed kept links intr config acts lid is stands spare disables same =
     device_linked kept links intr config acts (Destroyed lid ∷ []) is stands
     (omega (arith, is.5.0, destroyed_adds_no_live lid (link_acts acts))) (omega (arith, is.5.1, spare))
-    (told_destroyed kept.intr intr acts lid is.6 disables) (ready_same kept.intr intr same)
+    (told_destroyed kept.intr intr acts lid is.6 disables) (same_channels_stay_ready kept.intr intr same)
 
 pub device_locked : (kept : Device) (links : Table) (config : Config) (acts : List DeviceAct) (lid : ℕ)
     → IsDevice kept config acts → IsTable links (Locked lid ∷ link_acts acts) → links.spare ≡ kept.links.spare
     → IsDevice (record kept { links = links }) config (Linked (Locked lid) ∷ acts)
 device_locked kept links config acts lid is stands spare =
     device_linked kept links kept.intr config acts (Locked lid ∷ []) is stands is.5.0 (omega (arith, is.5.1, spare))
-    (told_as_before kept.intr acts (Locked lid) is.6 (λ channel_log. refl) is.6.3) (λ c ready. ready)
+    (told_if_none_destroyed kept.intr acts (Locked lid) is.6 (λ channel_log. refl) is.6.3) (λ c ready. ready)
 
 pub device_unlocked : (kept : Device) (links : Table) (config : Config) (acts : List DeviceAct) (lid : ℕ)
     → IsDevice kept config acts → IsTable links (Unlocked lid ∷ link_acts acts) → links.spare ≡ kept.links.spare
     → IsDevice (record kept { links = links }) config (Linked (Unlocked lid) ∷ acts)
 device_unlocked kept links config acts lid is stands spare =
     device_linked kept links kept.intr config acts (Unlocked lid ∷ []) is stands is.5.0 (omega (arith, is.5.1, spare))
-    (told_as_before kept.intr acts (Unlocked lid) is.6 (λ channel_log. refl) is.6.3) (λ c ready. ready)
+    (told_if_none_destroyed kept.intr acts (Unlocked lid) is.6 (λ channel_log. refl) is.6.3) (λ c ready. ready)
 
--- a link for which there are a place and memory
 made_live : (lid c : ℕ) (acts : List LinkAct) → length (live (Made lid c ∷ acts)) ≡ length (live acts) + 1
 made_live lid c acts = length-append (live acts) (record { lid = lid; conn = c } ∷ [])
 
@@ -208,21 +206,22 @@ pub device_made : (kept : Device) (links : Table) (config : Config) (acts : List
 device_made kept links config acts lid c is place stands spare =
     device_linked kept links kept.intr config acts (Made lid c ∷ []) is stands
     (omega (arith, place.0, made_live lid c (link_acts acts))) (omega (arith, place.1, spare))
-    (told_as_before kept.intr acts (Made lid c) is.6 (λ channel_log. refl) (owned_made kept.intr.enabled (link_acts acts) lid c is.6.3))
+    (told_if_none_destroyed kept.intr acts (Made lid c) is.6 (λ channel_log. refl)
+        (owned_made kept.intr.enabled (link_acts acts) lid c is.6.3))
     (λ d ready. ready)
 
--- ---- the memory of links
+-- ---- more memory for links
 
 pub device_more : (kept : Device) (links : Table) (config : Config) (acts : List DeviceAct) → IsDevice kept config acts
     → IsTable links (link_acts acts) → kept.links.spare ≤ links.spare → IsDevice (record kept { links = links }) config acts
 device_more kept links config acts (before, instrument, set_up, clock, waiting, reserved, channel_log, ready) stands more =
     (stands, instrument, set_up, clock, waiting, (reserved.0, omega (arith, reserved.1, more)), channel_log, ready)
 
--- ---- nothing was recorded
+-- ---- a new device
 
-pub queue_none : (xs : List Entry) → IsQueue xs [] → xs ≡ []
-queue_none [] is = refl
-queue_none (x ∷ xs) is = absurd (let z : None ≡ Some x.wait = is.each.0.0 in cc)
+pub empty_log_empty_queue : (xs : List Entry) → IsQueue xs [] → xs ≡ []
+empty_log_empty_queue [] is = refl
+empty_log_empty_queue (x ∷ xs) is = absurd (let z : None ≡ Some x.wait = is.each.0.0 in cc)
 
 creations_none : (xs : List Entry) → xs ≡ [] → creations xs ≡ 0
 creations_none xs e = rw e refl
@@ -237,7 +236,7 @@ pub device_none : (links : Table) (waiting : List Entry) (intr : Channels) (inst
       clock = config.clock;
     }) config []
 device_none links waiting intr instrument config table queue are stands =
-    let zero = creations_none waiting (queue_none waiting queue) in (
+    let zero = creations_none waiting (empty_log_empty_queue waiting queue) in (
       table,
       stands,
       refl,
@@ -258,9 +257,9 @@ left_there false false may = absurd (may refl)
 pub lids_there : (acts : List LinkAct) → (may_make acts ≡ false → ⊥) → lids_left acts ≡ true
 lids_there acts may = left_there (nat_lt (length (live acts)) max_links) (lids_left acts) may
 
-pub told_as : (config : Config) (kept : Device) (channel_log : Outcome) (lid n : ℕ) → kept.config ≡ config → lid ≡ n
+pub link_result_is : (config : Config) (kept : Device) (channel_log : Outcome) (lid n : ℕ) → kept.config ≡ config → lid ≡ n
     → channel_log ≡ Link NoError (pos lid) kept.config.abort max_message → Link NoError (pos n) config.abort max_message ≡ channel_log
-told_as config kept channel_log lid n set_up number is =
+link_result_is config kept channel_log lid n set_up number is =
     ap (λ (k : ℕ). Link NoError (pos k) config.abort max_message) (sym number)
     ∙ ap (λ (k : Config). Link NoError (pos lid) k.abort max_message) (sym set_up)
     ∙ sym is
@@ -271,7 +270,7 @@ pub made_ends : (kept : Device) (links : Table) (config : Config) (acts : List D
     → channel_log ≡ Link NoError (pos lid) kept.config.abort max_message → IsResult (make_link config c false acts).result channel_log
     × IsDevice (record kept { links = links }) config ((make_link config c false acts).adds ++ acts)
 made_ends kept links config acts c lid channel_log is place left number table spare tells = rw left (
-  told_as config kept channel_log lid (links_made (link_acts acts) + 1) is.2 number tells,
+  link_result_is config kept channel_log lid (links_made (link_acts acts) + 1) is.2 number tells,
   subst (λ (n : ℕ). IsDevice (record kept { links = links }) config (Linked (Made n c) ∷ acts)) number
       (device_made kept links config acts lid c is place table spare),
 )
@@ -283,16 +282,16 @@ pub locked_ends : (kept : Device) (mid links : Table) (config : Config) (acts : 
     → IsResult (make_link config c true acts).result channel_log
     × IsDevice (record kept { links = links }) config ((make_link config c true acts).adds ++ acts)
 locked_ends kept mid links config acts c lid channel_log is place left number table locked spare same tells = rw left (
-  told_as config kept channel_log lid (links_made (link_acts acts) + 1) is.2 number tells,
+  link_result_is config kept channel_log lid (links_made (link_acts acts) + 1) is.2 number tells,
   subst (λ (n : ℕ). IsDevice (record kept { links = links }) config (Linked (Locked n) ∷ Linked (Made n c) ∷ acts)) number
       (device_locked (record kept { links = mid }) links config (Linked (Made lid c) ∷ acts) lid
       (device_made kept mid config acts lid c is place table spare) locked same),
 )
 
-abbrev pub told_so : ℕ → Result ℕ CreateRefused
-told_so lid = Ok lid
+abbrev pub ok_link_id : ℕ → Result ℕ CreateRefused
+ok_link_id lid = Ok lid
 
-pub not_refused : (lid : ℕ) → told_so lid ≡ Err OutOfResources → ⊥
+pub not_refused : (lid : ℕ) → ok_link_id lid ≡ Err OutOfResources → ⊥
 not_refused lid e = cc
 
 -- ---- the lock
@@ -305,7 +304,7 @@ pub not_false : (b : Bool) → false ≡ not b → b ≡ true
 not_false true e = refl
 not_false false e = absurd cc
 
--- a lock that was asked for was given, or nothing changed
+-- The call device_lock acquires the lock if no other link holds it; otherwise nothing changes.
 pub lock_ends : (config : Config) (acts : List DeviceAct) (kept : Device) (links : Table) (lid : ℕ) (got : Bool) → IsDevice kept config acts
     → got ≡ not (is_locked_out (holder (link_acts acts)) (Some lid)) → (got ≡ true → IsTable links (Locked lid ∷ link_acts acts))
     → links.spare ≡ kept.links.spare → (got ≡ false → links ≡ kept.links)
@@ -319,7 +318,7 @@ lock_ends config acts kept links lid false is granted stands spare same channel_
     let other : is_locked_out (holder (link_acts acts)) (Some lid) ≡ true = not_false _ granted in
     rw other (sym tells, subst (λ (t : Table). IsDevice (record kept { links = t }) config acts) (sym (same refl)) is)
 
--- and one that was to be freed was, or nothing changed
+-- The call device_unlock releases the lock if this link holds it; otherwise nothing changes.
 pub unlock_ends : (config : Config) (acts : List DeviceAct) (kept : Device) (links : Table) (lid : ℕ) (freed : Bool)
     → IsDevice kept config acts
     → freed ≡ is_this lid (holder (link_acts acts)) → (freed ≡ true → IsTable links (Unlocked lid ∷ link_acts acts))

@@ -1,8 +1,8 @@
 -- After the line of a port is written, its peer takes the bytes that the line shows. This Took is
 -- never refused.
-use Rattle.std.proofs.Common.{◌≡◌, ◌≢◌, ℕ, ◌<◌, ◌≤◌, ◌||◌, not, Bool, true, false, cond, List, [], ◌∷◌, ◌++◌, length, nat_lt, Some, None, refl, sym, ap, inl, inr, subst, ◌∙◌, arith}
+use Rattle.std.proofs.Common.{◌≡◌, ◌≢◌, ℕ, ◌<◌, ◌≤◌, ◌||◌, not, Bool, true, false, List, [], ◌∷◌, ◌++◌, length, nat_lt, Some, None, refl, sym, ap, inl, inr, subst, ◌∙◌, arith}
 use Rattle.std.specs.Prelude.{Option, Result, Ok, Err, IsErr, ⊤}
-use Rattle.std.proofs.lemmas.Bool.{le-ltb, cases_lt}
+use Rattle.std.proofs.lemmas.Bool.{le-ltb, cases_lt, cond-false}
 use Rattle.sv_history.specs.declared.event.Config.{Config}
 use Rattle.sv_history.specs.declared.event.Did.{Did}
 use Rattle.sv_history.specs.declared.event.Refused.{Refused}
@@ -18,8 +18,8 @@ use Rattle.sv_history.specs.PolledStatus.{IsPolled}
 use Rattle.sv_history.proofs.StillSettled.{still_settled, channel_settled}
 use Rattle.sv_server.proofs.OnServer.Steps.{polled_now}
 use Rattle.sv_history.proofs.Telling.{channel_open_by_channel_log}
-use Rattle.sv_server.proofs.OnDevice.Channels.{channel_open_if_some_wait, channel_within, channel_shut_is}
-use Rattle.sv_history.specs.Connection.{is_open, bytes_left, waiting, waiting_on}
+use Rattle.sv_server.proofs.OnDevice.Channels.{channel_within, channel_shut_is}
+use Rattle.sv_history.specs.Connection.{is_open, waiting, waiting_on}
 use Rattle.sv_history.specs.History.{refusal, took_refusal, own_acts, wants_memory, is_shut, is_channel_shut}
 use Rattle.sv_server.specs.Server.State.{State, Represents}
 use Rattle.sv_server.specs.Server.Inside.Acting.{Acts, IsRefusal}
@@ -29,17 +29,7 @@ use Rattle.sv_history.specs.Print.{with_took, port_line}
 use Rattle.sv_history.specs.Limits.{max_output}
 use Rattle.sv_print.specs.TakenByWriter.{IsFront, IsTakenByWriter}
 use Rattle.sv_server.specs.Replay.Inside.Showing.{StandsBy, ShowsPort, log_with_took, told_with_took}
-
-if_false : {A : Type 0} (b : Bool) (x y : A) → b ≡ false → cond b x y ≡ y
-if_false b x y e = ap (λ (c : Bool). cond c x y) e
-
--- Bytes wait only on an open connection.
-open_if_some_wait : (open_now : Bool) (bytes : List ℕ) → 0 < length (cond open_now bytes []) → open_now ≡ true
-open_if_some_wait true bytes some = refl
-open_if_some_wait false bytes some = absurd (omega arith)
-
-pub waits_open : (c : ℕ) (log : List Act) → 0 < length (waiting (of c log)) → is_open (of c log) ≡ true
-waits_open c log some = open_if_some_wait (is_open (of c log)) (bytes_left (of c log)) some
+use Rattle.sv_laws.proofs.NothingLost.{channel_open_if_some_wait, open_waiting}
 
 -- An open connection has a number up to 15.
 pub waits_within : (c : ℕ) (state : State) (config : Config) (log : List Act) → Represents state config log → is_open (of c log) ≡ true
@@ -52,19 +42,19 @@ waits_within c state config log rep o = elim (cases_lt c 16) [
 
 -- A Took of all bytes that wait isn't refused.
 took_of_all_allowed : (count : ℕ) (bytes : List ℕ) → count ≡ length bytes → took_refusal count bytes ≡ None
-took_of_all_allowed count bytes e = if_false (nat_lt (length bytes) count) _ _ (le-ltb (length bytes) count (omega arith))
+took_of_all_allowed count bytes e = cond-false (nat_lt (length bytes) count) _ _ (le-ltb (length bytes) count (omega arith))
 
 pub took_of_conn_allowed : (c count : ℕ) (config : Config) (channel_log : List ChannelAct) (log : List Act) → c ≤ 15
     → is_open (of c log) ≡ true → count ≡ length (waiting (of c log)) → refusal config channel_log (Took (Conn c) count) log ≡ None
 took_of_conn_allowed c count config channel_log log within o e =
     let shut : is_shut c log ≡ false = ap (λ (b : Bool). b || not (is_open (of c log))) (le-ltb 15 c within) ∙ ap not o in
-    if_false (is_shut c log) _ _ shut ∙ took_of_all_allowed count (waiting (of c log)) e
+    cond-false (is_shut c log) _ _ shut ∙ took_of_all_allowed count (waiting (of c log)) e
 
 took_of_channel_allowed : (c count : ℕ) (config : Config) (channel_log : List ChannelAct) (log : List Act) → c ≤ 15
     → has_channel c (device_acts log) ≡ true
     → count ≡ length (channel_waiting c channel_log) → refusal config channel_log (Took (Intr c) count) log ≡ None
 took_of_channel_allowed c count config channel_log log within there e =
-    if_false (is_channel_shut c log) _ _ (channel_shut_is c log true (omega arith) there)
+    cond-false (is_channel_shut c log) _ _ (channel_shut_is c log true (omega arith) there)
     ∙ took_of_all_allowed count (channel_waiting c channel_log) e
 
 -- So the Took is applied.
@@ -161,7 +151,7 @@ stands_after_took (Intr c) bytes config history channel_log log old new result (
     )
 stands_after_took (Conn c) bytes config history channel_log log old new result (is_log, rep, settled, tells) is some few acts =
     let some_wait : 0 < length (waiting (of c log)) = rw (← is) some in
-    let o = waits_open c log some_wait in
+    let o = open_waiting (of c log) some_wait in
     let within = waits_within c old config log rep o in
     let none = took_of_conn_allowed c (length bytes) config channel_log log within o (ap (λ (l : List ℕ). length l) is) in
     let (polled, said) = polled_now old.device config (device_acts log) rep.device in

@@ -1,7 +1,7 @@
 -- A device_abort that ends a suspended call adds no act of the device by itself, and this call was
 -- suspended.
 use Rattle.std.proofs.Common.{◌≡◌, ℕ, ◌&&◌, Bool, true, false, List, [], Option, Some, None, refl, sym, ap, ◌∙◌}
-use Rattle.std.specs.Prelude.{is_some, cond}
+use Rattle.std.specs.Prelude.{is_some}
 use Rattle.sv_links.specs.Links.{is_this}
 use Rattle.sv_links.specs.Waiting.{waits, link}
 use Rattle.sv_history.specs.declared.event.Config.{Config}
@@ -10,6 +10,7 @@ use Rattle.sv_history.specs.CoreCall.{lid_of}
 use Rattle.sv_history.specs.Request.{Request, AbortRequest}
 use Rattle.sv_history.specs.AbortChannel.{owner_of, if_waiting}
 use Rattle.sv_history.specs.Execution.{request_effect, aborts}
+use Rattle.std.proofs.lemmas.Option.{cond_some}
 
 some_waits : (b : Bool) (lid : ℕ) (named : Option ℕ) → (b && is_this lid named) ≡ true → b ≡ true
 some_waits true lid named e = refl
@@ -21,16 +22,12 @@ waiting_with c lid acts e none =
     let some = some_waits (is_some (waits c (wait_acts acts))) lid (link c (wait_acts acts)) e in
     let z : false ≡ true = sym (ap is_some none) ∙ some in cc
 
-some_from_cond : (b : Bool) (c d : ℕ) → cond b (Some c) None ≡ Some d → (b ≡ true) × (c ≡ d)
-some_from_cond true c d e = (refl, cc)
-some_from_cond false c d e = absurd cc
-
 where_aborted : (owner lid : Option ℕ) (acts : List DeviceAct) (d : ℕ) → if_waiting owner lid acts ≡ Some d
     → waits d (wait_acts acts) ≡ None → ⊥
 where_aborted None lid acts d e none = cc
 where_aborted (Some c) None acts d e none = cc
 where_aborted (Some c) (Some lid) acts d e none =
-    let (so, same) = some_from_cond (is_some (waits c (wait_acts acts)) && is_this lid (link c (wait_acts acts))) c d e in
+    let (so, same) = cond_some (is_some (waits c (wait_acts acts)) && is_this lid (link c (wait_acts acts))) c d e in
     waiting_with c lid acts so (ap (λ (n : ℕ). waits n (wait_acts acts)) same ∙ none)
 
 pub request_aborts : (config : Config) (polled c : ℕ) (request : Request) (acts : List DeviceAct) (d : ℕ) → aborts request acts ≡ Some d

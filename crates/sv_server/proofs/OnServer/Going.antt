@@ -30,6 +30,7 @@ use Rattle.sv_server.proofs.OnDevice.Effects.{acts_of_effect_without_own}
 use Rattle.sv_server.proofs.OnServer.Taken.{taken_after_leaving, taken_anew, holds_for_entry}
 use Rattle.sv_server.proofs.OnServer.Used.{unanswered_used}
 use Rattle.sv_server.proofs.OnServer.Logs.{stands_after_device_acts, stands_after_call_continues}
+use Rattle.std.proofs.lemmas.Option.{same_Some}
 
 -- ---- the suspended call of a connection
 
@@ -87,11 +88,8 @@ taken_after_resume c log call effect old new known (inl left) taken =
     rw left (taken_after_leaving c log (acts_of c effect ++ log) old (λ d ne. of_others_effect c d effect log ne) taken)
 taken_after_resume c log call effect old new known (inr (none, wait, deadline, is, other)) taken =
     rw is (taken_anew c wait deadline log (acts_of c effect ++ log) old (λ d. acts_of_effect_without_own c d effect log none)
-    (λ its e. let same : call ≡ its = one_call call its (sym known ∙ e) in
+    (λ its e. let same : call ≡ its = same_Some call its (sym known ∙ e) in
     ap (λ (l : List ℕ). creates_link (core_call l)) (sym same) ∙ other) taken)
-  where
-    one_call : (a b : List ℕ) → Some a ≡ Some b → a ≡ b
-    one_call a b e = cc
 
 pub stands_after_resume : (state : State) (config : Config) (log : List Act) (c : ℕ) (call : List ℕ) (effect : Effect) (kept : Connection)
     (device : KeptDevice)

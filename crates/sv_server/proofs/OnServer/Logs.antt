@@ -27,6 +27,7 @@ use Rattle.sv_server.proofs.OnDevice.Effects.{own_acts_after_taken, other_acts_a
 use Rattle.sv_history.specs.Queries.{IsUsed}
 use Rattle.sv_server.proofs.OnServer.Used.{nonempty_with_front, used_after_act, used_act, used_same}
 use Rattle.sv_server.proofs.OnServer.Taken.{taken_after_act, taken_after_leaving, taken_after_append}
+use mathlib.Core.Bool.{not-not}
 
 -- A stored connection has the state that its acts determine.
 pub connection_of : (state : State) (config : Config) (log : List Act) (c : ℕ) (kept : Connection) → Represents state config log → c < 16
@@ -41,15 +42,11 @@ is_open_by_role kept acts b is e = ap is_some (sym is.role) ∙ e
 pub shut_is : (c : ℕ) (log : List Act) (b : Bool) → c < 16 → is_open (of c log) ≡ b → is_shut c log ≡ not b
 shut_is c log b lt e = rw (le-ltb 15 c (omega arith), e) refl
 
-pub not_not : (b : Bool) → b ≡ not (not b)
-not_not true = refl
-not_not false = refl
-
 -- The same for every number. A connection above 15 is never open.
 pub open_known : (state : State) (config : Config) (log : List Act) (c : ℕ) (b : Bool) → Represents state config log
     → is_open (of c log) ≡ b → b ≡ not (is_shut c log)
 open_known state config log c b rep is = elim (cases_lt c 16) [
-  | inl below ↦ rw (shut_is c log b below is) (not_not b)
+  | inl below ↦ rw (shut_is c log b below is) (sym (not-not b))
   | inr above ↦
       let shut : is_open (of c log) ≡ false = ap is_open (rep.beyond c above) in
       rw (lt-ltb 15 c (omega arith)) (sym is ∙ shut)

@@ -1,5 +1,5 @@
 -- After an event and the steps that are due after it, the server stands for the longer history.
-use Rattle.std.proofs.Common.{◌≡◌, ℕ, zero, suc, ap, Bool, true, false, List, [], ◌∷◌, ◌++◌, None, Some, inl, inr, refl, sym, subst, ◌∙◌}
+use Rattle.std.proofs.Common.{◌≡◌, ℕ, zero, ap, Bool, true, false, List, ◌∷◌, ◌++◌, None, Some, refl, ◌∙◌}
 use Rattle.std.specs.Prelude.{Option, Result, Ok, Err, IsErr, IsErrAnd}
 use Rattle.sv_history.specs.declared.event.Config.{Config}
 use Rattle.sv_history.specs.declared.event.Did.{Did}
@@ -9,18 +9,14 @@ use Rattle.sv_history.specs.declared.event.Port.TheVariants.{Conn, Intr}
 use Rattle.sv_history.specs.Event.{PlainEvent, IsEvent, Open, Bytes, Took}
 use Rattle.sv_history.specs.Act.{Act, Opened, Piece, BytesTaken, device_acts}
 use Rattle.sv_history.specs.PolledStatus.{IsPolled}
-use Rattle.sv_history.specs.Settling.{IsSettled, SettlesIn}
+use Rattle.sv_history.specs.Settling.{IsSettled}
 use Rattle.sv_links.specs.Channels.{ChannelAct, ChannelTaken}
 use Rattle.sv_history.specs.Requests.{HearsOf}
 use Rattle.sv_history.specs.History.{own_acts, refusal, Answers}
 use Rattle.sv_server.specs.Server.State.{State, Represents, StandsFor}
 use Rattle.sv_server.specs.Server.Inside.Acting.{Acts, IsRefusal, Settled, is_quiet}
-use Rattle.sv_history.proofs.StillSettled.{still_settled, channel_settled}
+use Rattle.sv_history.proofs.StillSettled.{still_settled, channel_settled, settling_ends_settled}
 use Rattle.sv_server.proofs.OnServer.Steps.{polled_now, channel_log_exists}
-
-nothing_due : (n : ℕ) (config : Config) (log new : List Act) → SettlesIn n config log new → IsSettled config new
-nothing_due zero config log new (none, same) = subst (λ (end : List Act). IsSettled config end) (sym same) none
-nothing_due (suc n) config log new (middle, next, more) = nothing_due n config middle new more
 
 -- An event was applied, and all steps that are due after it were taken.
 pub stands_acted : (config : Config) (history : List PlainEvent) (event : PlainEvent) (old new : State) → (s : StandsFor old config history)
@@ -35,7 +31,7 @@ stands_acted config history event old new s is_event free settles =
       log = last;
       is_log = (s.log, polled, channel_log, is_event, s.is_log, tells, free channel_log tells, said, steps);
       represents = held;
-      settled = nothing_due steps.0 config (own_acts config polled event s.log ++ s.log) last steps.1;
+      settled = settling_ends_settled steps.0 config (own_acts config polled event s.log ++ s.log) last steps.1;
     }
 
 stands_after : (config : Config) (history : List PlainEvent) (event : PlainEvent) (old mid new : State) (did : Did)
@@ -79,13 +75,6 @@ stands_unless config history event old mid new did true quiet s is_event acts se
     rw (same refl) (stands_at_once config history event old mid did quiet s is_event acts)
 stands_unless config history event old mid new did false loud s is_event acts settles same =
     stands_after config history event old mid new did s is_event acts (λ k log rep. settles k log rep refl)
-
--- Before all events no step is due.
-pub none_due_at_start : (config : Config) → IsSettled config []
-none_due_at_start config new (inl fires) = absurd (let none = fires.1.0 in cc)
-none_due_at_start config new (inr (none, inl goes)) = absurd (let z : None ≡ Some goes.1 = goes.4 in cc)
-none_due_at_start config new (inr (none, inr (still, inl step))) = step.1
-none_due_at_start config new (inr (none, inr (still, inr (idle, gives)))) = absurd (let z : None ≡ Some gives.1 = gives.3 in cc)
 
 -- ---- refusals
 

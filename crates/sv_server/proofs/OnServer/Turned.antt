@@ -1,6 +1,7 @@
--- What a Turn of an open connection leaves.
+-- Turn on an open connection: the request that its next record holds, and the call that this may
+-- suspend.
 use Rattle.std.proofs.Common.{◌≡◌, ℕ, Bool, true, false, List, [], Option, Some, None, cond, nat_lt, refl, sym, ap, ◌∙◌, inl, inr}
-use Rattle.std.specs.Prelude.{not, Result, Ok, Err}
+use Rattle.std.specs.Prelude.{Result, Ok, Err}
 use Rattle.sv_exchange.specs.declared.read.Read.{Read}
 use Rattle.sv_exchange.specs.ReadGiven.{IsReadOf}
 use Rattle.sv_vxi.specs.declared.error_code.ErrorCode.TheVariants.{NoError}
@@ -32,12 +33,6 @@ use Rattle.sv_rpc.specs.declared.call.CallFault.{CallFault}
 use Rattle.sv_rpc.specs.declared.call.CallFault.TheVariants.{BadHeader, Version}
 use Rattle.sv_rpc.specs.Call.{PlainCall, call_at}
 
--- a test the other way round
-pub flipped : (b : Bool) → not b ≡ true → b ≡ false
-flipped true e = absurd cc
-flipped false e = refl
-
--- what is read of a response
 pub read_is : (read : Read) (bytes : List ℕ) (most : ℕ) (term : Option ℕ) → IsReadOf read bytes most term
     → ReadResult NoError (record { request_count = read.request_count; character = read.character; end = read.end }) read.bytes.now
     ≡ read_of bytes most term
@@ -47,43 +42,46 @@ if_none : (idle short : Bool) → short ≡ false → cond idle None (cond short
 if_none true short e = refl
 if_none false short e = rw e refl
 
--- a call of the core channel is asked for on the core channel alone
-decided_none : (xid : ℕ) (read : Result Arguments Garbage) (call : CoreCall) → abort_request xid read ≡ CoreRequest call → ⊥
-decided_none xid (Ok (OnLink lid on)) call e = cc
-decided_none xid _ call e = cc
+-- Only a record on the core channel is a core call.
+abort_is_no_core_call : (xid : ℕ) (read : Result Arguments Garbage) (call : CoreCall) → abort_request xid read ≡ CoreRequest call → ⊥
+abort_is_no_core_call xid (Ok (OnLink lid on)) call e = cc
+abort_is_no_core_call xid _ call e = cc
 
 core_unless : (role : Role) (header : PlainCall) (reply : Option Reply) (call : CoreCall)
     → request_unless_decided role header reply ≡ CoreRequest call → role ≡ Core
 core_unless role header (Some reply) call e = absurd (let z : Decided header.xid reply ≡ CoreRequest call = e in cc)
 core_unless Core header None call e = refl
-core_unless Abort header None call e = absurd (decided_none header.xid _ call e)
+core_unless Abort header None call e = absurd (abort_is_no_core_call header.xid _ call e)
 core_unless Portmap header None call e = absurd (let z : PortRequest header.xid header.args ≡ CoreRequest call = e in cc)
 
-core_alone : (role : Role) (read : Result PlainCall CallFault) (call : CoreCall) → request_of role read ≡ CoreRequest call → role ≡ Core
-core_alone role (Ok header) call e = core_unless role header (header_reply role header) call (sym (request_by_header role header) ∙ e)
-core_alone role (Err (Version xid)) call e = absurd (let z : Decided xid Mismatch ≡ CoreRequest call = e in cc)
-core_alone role (Err BadHeader) call e = absurd (let z : NoCall ≡ CoreRequest call = e in cc)
+core_call_has_core_role : (role : Role) (read : Result PlainCall CallFault) (call : CoreCall) → request_of role read ≡ CoreRequest call
+    → role ≡ Core
+core_call_has_core_role role (Ok header) call e = core_unless role header (header_reply role header) call
+    (sym (request_by_header role header) ∙ e)
+core_call_has_core_role role (Err (Version xid)) call e = absurd (let z : Decided xid Mismatch ≡ CoreRequest call = e in cc)
+core_call_has_core_role role (Err BadHeader) call e = absurd (let z : NoCall ≡ CoreRequest call = e in cc)
 
--- what waits is held as is said
-pub held_as : (outcome : Outcome) (c : ℕ) (role : Role) (bytes : List ℕ) (request : Request) (device : Device) (config : Config)
+-- If the request was suspended, the connection sends no reply, and the queue has the call's entry.
+pub suspended_sends_nothing : (outcome : Outcome) (c : ℕ) (role : Role) (bytes : List ℕ) (request : Request) (device : Device)
+    (config : Config)
     (acts : List DeviceAct) (effect : Effect) (old new : List Entry)
     → request ≡ request_of role (call_at bytes) → EndsAs outcome (xid_of request) device config acts effect
     → MayWait (IsSuspended outcome request) c (asks_for_link request) old new
     → MayWait (effect.own ≡ []) c (creates_link (core_call bytes)) old new
-held_as outcome c role bytes request device config acts effect old new asks ends (inl same) = inl same
-held_as outcome c role bytes request device config acts effect old new asks ends (inr ((is, call, core), behind)) =
+suspended_sends_nothing outcome c role bytes request device config acts effect old new asks ends (inl same) = inl same
+suspended_sends_nothing outcome c role bytes request device config acts effect old new asks ends (inr ((is, call, core), behind)) =
     let known = sym asks ∙ core in
     let read : core_call bytes ≡ Some call =
-    ap (λ (r : Role). core_call_of (request_of r (call_at bytes))) (sym (core_alone role (call_at bytes) call known))
+    ap (λ (r : Role). core_call_of (request_of r (call_at bytes))) (sym (core_call_has_core_role role (call_at bytes) call known))
     ∙ ap core_call_of known in
     inr ((rw is at ends).0, rw read (rw core at behind))
 
--- a Turn that finds room is not refused
-pub refusal_none : (acts : List ConnAct) → nat_lt (free acts) longest_reply ≡ false → turn_refusal acts ≡ None
-refusal_none acts roomy = if_none (is_idle acts) (nat_lt (free acts) longest_reply) roomy
+-- Turn isn't refused if the longest reply fits.
+pub turn_not_refused : (acts : List ConnAct) → nat_lt (free acts) longest_reply ≡ false → turn_refusal acts ≡ None
+turn_not_refused acts roomy = if_none (is_idle acts) (nat_lt (free acts) longest_reply) roomy
 
--- what its next call asks for
-pub asks_for : (acts : List ConnAct) (role : Role) (bytes : List ℕ) (request : Request) → open_role acts ≡ Some role
+-- The request that Turn executes is the one that the log determines for the next record.
+pub next_request_is : (acts : List ConnAct) (role : Role) (bytes : List ℕ) (request : Request) → open_role acts ≡ Some role
     → next_call acts ≡ Some bytes → request ≡ request_of role (call_at bytes) → next_request acts ≡ Some request
-asks_for acts role bytes request opened next is = ap (λ (r : Option Role). request_for r (next_call acts)) opened
+next_request_is acts role bytes request opened next is = ap (λ (r : Option Role). request_for r (next_call acts)) opened
     ∙ ap (λ (found : Option (List ℕ)). request_for (Some role) found) next ∙ ap (λ (r : Request). Some r) (sym is)

@@ -1,4 +1,4 @@
--- What a Turn leaves of the server.
+-- After Turn, the server has the state and gives the result that the log determines.
 use Rattle.std.proofs.Common.{◌≡◌, ℕ, ◌<◌, Bool, true, false, cond, List, [], ◌∷◌, ◌++◌, length, set, append_assoc, append-nil, Option, Some, None, refl, sym, ap, subst, ◌∙◌}
 use Rattle.std.specs.Prelude.{◌||◌, is_none, Ok, Err}
 use Rattle.sv_links.specs.declared.waiting.Entry.{Entry}
@@ -26,15 +26,15 @@ use Rattle.sv_server.proofs.OnServer.Aborting.{request_aborts}
 
 -- ---- a Turn that is refused
 
--- the acts of a record that was taken want memory where what it asks for does
+-- Taking a record needs memory if the effect of its request does.
 adds_of : (c : ℕ) (effect : Effect) (call : List ℕ) → device_acts (acts_of c effect ++ On c (CallTaken call) ∷ []) ≡ effect.adds
 adds_of c effect call = device_effect c effect (On c (CallTaken call) ∷ []) ∙ append-nil effect.adds
 
-taken_wants : (c : ℕ) (call : List ℕ) (effect : Effect) (aborted : Option ℕ) (log : List Act)
+taken_needs_memory : (c : ℕ) (call : List ℕ) (effect : Effect) (aborted : Option ℕ) (log : List Act)
     → ((d : ℕ) → aborted ≡ Some d → effect.adds ≡ []) → wants_memory effect.adds ≡ true
     → wants_memory (device_acts (taken_acts c call effect aborted log)) ≡ true
-taken_wants c call effect None log none wants = ap wants_memory (adds_of c effect call) ∙ wants
-taken_wants c call effect (Some d) log none wants =
+taken_needs_memory c call effect None log none wants = ap wants_memory (adds_of c effect call) ∙ wants
+taken_needs_memory c call effect (Some d) log none wants =
     absurd (let z : wants_memory [] ≡ true = ap wants_memory (sym (none d refl)) ∙ wants in cc)
 
 pub turn_refused : (config : Config) (c : ℕ) (log : List Act) (old : List Entry) (r : Refused) (kept : Connection) (device : KeptDevice)
@@ -42,7 +42,7 @@ pub turn_refused : (config : Config) (c : ℕ) (log : List Act) (old : List Entr
 turn_refused config c log old NoMemory kept device new open_now (none, call, request, (next, asks, wants)) = (
   λ channel_log tells. rw open_now none,
   λ polled said. rw (asks, next)
-      (taken_wants c call (request_effect config polled c request (device_acts log)) (aborts request (device_acts log)) log
+      (taken_needs_memory c call (request_effect config polled c request (device_acts log)) (aborts request (device_acts log)) log
       (λ d e. (request_aborts config polled c request (device_acts log) d e).0) (wants polled said)),
 )
 turn_refused config c log old _ kept device new open_now why = λ channel_log tells. rw open_now why
@@ -73,15 +73,15 @@ turn_idle state new config log c aborted kept device rep sixteen lt open_now (no
       (rw nothing at (ends config log mid (λ d e. absurd {0} (let z : None ≡ Some d = sym nothing ∙ e in cc)))),
 )
 
--- ---- a Turn that takes one
+-- ---- a Turn that takes a call
 
-idle_of : (a b : Bool) (found : Option (List ℕ)) (call : List ℕ) → cond (a || b) None found ≡ Some call → b ≡ false
-idle_of true b found call e = absurd cc
-idle_of false true found call e = absurd cc
-idle_of false false found call e = refl
+not_busy_of_found : (a b : Bool) (found : Option (List ℕ)) (call : List ℕ) → cond (a || b) None found ≡ Some call → b ≡ false
+not_busy_of_found true b found call e = absurd cc
+not_busy_of_found false true found call e = absurd cc
+not_busy_of_found false false found call e = refl
 
 pub not_busy : (c : ℕ) (log : List Act) (call : List ℕ) → next_call (of c log) ≡ Some call → is_busy (of c log) ≡ false
-not_busy c log call e = idle_of _ (is_busy (of c log)) _ call e
+not_busy c log call e = not_busy_of_found _ (is_busy (of c log)) _ call e
 
 turn_done : (state new : State) (config : Config) (log : List Act) (c : ℕ) (aborted : Option ℕ) (kept : Connection)
     (device : KeptDevice)

@@ -1,7 +1,7 @@
 -- How many connections were used, after acts of a connection or of the device.
-use Rattle.std.proofs.Common.{◌≡◌, ◌≢◌, ℕ, suc, ◌+◌, ◌<◌, ◌≤◌, Bool, true, false, List, [], ◌∷◌, ◌++◌, sym, ap, subst, ◌∙◌, arith, inl, inr, Some}
-use Rattle.std.specs.Prelude.{◌||◌, not, max, nat_lt}
-use Rattle.std.proofs.lemmas.Bool.{cases_eq}
+use Rattle.std.proofs.Common.{◌≡◌, ◌≢◌, ℕ, suc, ◌+◌, ◌<◌, ◌≤◌, true, false, List, [], ◌∷◌, ◌++◌, sym, ap, subst, ◌∙◌, arith, inl, inr, Some}
+use Rattle.std.specs.Prelude.{not, max, nat_lt}
+use Rattle.std.proofs.lemmas.Bool.{cases_eq, or_right}
 use Rattle.sv_history.specs.Act.{Act, ConnAct, On, of}
 use Rattle.sv_history.specs.Connection.{is_open, pending_call}
 use Rattle.sv_history.specs.History.{is_shut}
@@ -18,13 +18,9 @@ pub unanswered_used : (acts : List ConnAct) (call : List ℕ) → pending_call a
 unanswered_used [] call known none = absurd cc
 unanswered_used (act ∷ acts) call known none = absurd cc
 
-or_true : (a b : Bool) → b ≡ true → (a || b) ≡ true
-or_true true b e = cc
-or_true false b e = e
-
 pub unshut_used : (c : ℕ) (log : List Act) → is_shut c log ≡ false → of c log ≢ []
 unshut_used c log unshut none =
-    let shut : is_shut c log ≡ true = or_true (nat_lt 15 c) (not (is_open (of c log))) (ap (λ (l : List ConnAct). not (is_open l)) none) in
+    let shut : is_shut c log ≡ true = or_right (nat_lt 15 c) (not (is_open (of c log))) (ap (λ (l : List ConnAct). not (is_open l)) none) in
     let z : true ≡ false = sym shut ∙ unshut in absurd cc
 
 pub nonempty_with_front : (front acts : List ConnAct) → acts ≢ [] → front ++ acts ≢ []

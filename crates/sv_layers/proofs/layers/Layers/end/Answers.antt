@@ -8,12 +8,13 @@ use Rattle.sv_layers.specs.Act.{scan_acts}
 use Rattle.sv_layers.specs.Change.{act_of}
 use Rattle.sv_layers.specs.Condition.{effective_acts, summary}
 use Rattle.sv_layers.specs.Inside.LayerLogs.{after_begin, register_acts, layer_logs}
-use Rattle.sv_layers.proofs.Booleans.{same_bool, neither}
+use Rattle.sv_layers.proofs.Booleans.{same_bool}
 use Rattle.sv_layers.proofs.SameWords.{same_words}
 use Rattle.sv_layers.proofs.SameSummaries.{same_summary}
 use Rattle.sv_layers.proofs.LimitSummary.{summary_is}
 use Rattle.sv_layers.proofs.Followed.{untouched_words_kept, begun_scans, begun_stands, stands_after_direct_effect, questionable_is}
 use Rattle.sv_layers.proofs.layers.Layers.end.Goals as goal
+use Rattle.std.proofs.lemmas.Bool.{or_parts}
 
 pub returns-clause-stands : goal.returns-clause-stands
 returns-clause-stands g c = λ log act status_log same h.
@@ -38,7 +39,7 @@ returns-clause-stands g c = λ log act status_log same h.
     (c.summary_bit.ensures ∙ ap (scan.bit 9) stands) in
     let questionable = stands_after_direct_effect Questionable other act log _ _ word (same.0 Questionable) (c.change_register-3.ensures _ _
     (c.compare-3.ensures _ _ (begun_stands Questionable act log _ (j.registers Questionable)) (λ no.
-    let both = neither c.touched-touched.result.questionable c.differ.result no in
+    let both = or_parts c.touched-touched.result.questionable c.differ.result no in
     let moved = sym stands ∙ sym (c.differ.ensures both.1) ∙ stood in
     word ∙ ap (λ (w : ℕ). w + scan.bit 9 (summary Limit (act ∷ log))) (left.1 both.0)
     ∙ ap (λ (b : Bool). scan.questionable (effective_acts log) + scan.bit 9 b) moved ∙ sym (same_words Questionable log).0))) in

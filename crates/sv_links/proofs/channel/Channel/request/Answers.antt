@@ -1,12 +1,14 @@
-use Rattle.std.proofs.Common.{◌≡◌, ◌+◌, ◌-◌, [], ◌∷◌, length, refl, ap, arith}
+use Rattle.std.proofs.Common.{◌≡◌, ◌+◌, ◌-◌, [], ◌∷◌, length, refl, ap, arith, ℕ, ◌≤◌}
 use Rattle.std.proofs.lemmas.List.{length-append}
 use Rattle.sv_links.specs.Limits.{longest_call}
 use Rattle.sv_links.specs.Request.{request}
 use Rattle.sv_links.specs.ChannelRepresentation.{Channel}
-use Rattle.sv_links.proofs.Left.{sum_bounded, sum_push, all_push}
+use Rattle.sv_links.proofs.Left.{sum_bounded}
 use Rattle.sv_links.proofs.Requests.{request_is_short}
 use Rattle.sv_links.proofs.Sent.{is_queued_sent, open≢closed}
 use Rattle.sv_links.proofs.channel.Channel.request.Goals as goal
+use Rattle.sv_rpc.proofs.Cuts.{sum_push}
+use Rattle.sv_rpc.proofs.Steps.{all_push}
 
 pub put_request-requires-clause-room : goal.put_request-requires-clause-room
 put_request-requires-clause-room g c =
@@ -46,7 +48,7 @@ invariant_of-self g c =
         size_is,
         c.self.invariant.0,
       )),
-      rw c.push.ensures.items (all_push longest_call sizes size c.self.invariant.1 (omega (arith, size_is, short))),
+      rw c.push.ensures.items (all_push (λ (n : ℕ). n ≤ longest_call) sizes size c.self.invariant.1 (omega (arith, size_is, short))),
       rw c.push.ensures.items (omega (arith, length-append sizes (size ∷ []), c.if-len-ge-MAX_CALLS.false, c.len.ensures.value)),
       λ there. omega (arith, c.put_request.ensures.capacity, c.self.invariant.3 there),
     )

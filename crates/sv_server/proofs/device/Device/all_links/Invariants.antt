@@ -6,7 +6,7 @@ use Rattle.sv_history.specs.Act.{DeviceAct, link_acts}
 use Rattle.sv_server.specs.Device.Representation.{IsDevice}
 use Rattle.sv_server.proofs.device.Device.all_links.Given as goal
 
--- the links so far are the first of the live links, and `next` is the one behind them
+-- The links found so far are the first live ones, and `next` is the live link after them.
 abbrev pub invariant-loop : goal.invariant-loop
 invariant-loop g l = record {
   count : length l.found.items ≡ l.counter;

@@ -6,7 +6,7 @@ use Rattle.sv_history.specs.Requests.{HearsOf}
 use Rattle.sv_server.specs.Device.Representation.{IsDevice}
 use Rattle.sv_server.proofs.device.Device.asking_links.Given as goal
 
--- the links so far are the first that have service requests enabled
+-- The links found so far are the first ones with service requests enabled.
 abbrev pub invariant-loop-index : goal.invariant-loop-index
 invariant-loop-index g l = record {
   count : length l.found.items ≡ l.index;

@@ -3,7 +3,7 @@ use Rattle.std.proofs.lemmas.Bool.{le-ltb}
 use Rattle.sv_history.specs.Act.{link_acts}
 use Rattle.sv_links.specs.Links.{owner}
 use Rattle.sv_links.specs.Limits.{max_handle}
-use Rattle.sv_server.proofs.OnDevice.Parts.{ready_same}
+use Rattle.sv_server.proofs.OnDevice.Parts.{same_channels_stay_ready}
 use Rattle.sv_server.proofs.OnDevice.Channeled.{device_disabled, device_enabled, owner_is}
 use Rattle.sv_server.proofs.device.Device.enable_srq.Goals as goal
 
@@ -13,7 +13,7 @@ returns-then-not-enable-clause-ends g c = λ config acts old owns.
     rw (c.if-not-enable.true) (
       sym c.plain.ensures,
       device_disabled _ c.disable.new.self config acts c.args.lid is c.disable.ensures.stands
-          (ready_same c.self.inside.intr c.disable.new.self c.disable.ensures.ready),
+          (same_channels_stay_ready c.self.inside.intr c.disable.new.self c.disable.ensures.ready),
     )
 
 pub returns-clause-ends : goal.returns-clause-ends
@@ -24,5 +24,5 @@ returns-clause-ends g c = λ config acts old owns.
       sym c.plain-2.ensures,
       device_enabled _ c.enable.new.self config acts c.args.lid c.args.conn.number c.args.handle.now is
           (owner_is c.args.conn.number (owner c.args.lid (link_acts acts)) owns) (c.enable.ensures.stands short)
-          (ready_same c.self.inside.intr c.enable.new.self c.enable.ensures.ready),
+          (same_channels_stay_ready c.self.inside.intr c.enable.new.self c.enable.ensures.ready),
     )

@@ -3,7 +3,7 @@ use Rattle.sv_links.specs.ChannelRepresentation.{IsReady}
 use Rattle.sv_server.proofs.OnDevice.Raising.{Tolls}
 use Rattle.sv_server.proofs.device.Device.raise.Given as goal
 
--- so many requests were told, and all else is as it was
+-- The channels were sent one service request per round so far; all else is unchanged.
 abbrev pub invariant-loop : goal.invariant-loop
 invariant-loop g l = record {
   tolls : Tolls l.fn.self.intr l.self-inside.intr l.counter;

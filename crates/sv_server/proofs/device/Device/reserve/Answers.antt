@@ -1,5 +1,5 @@
 use Rattle.std.proofs.Common.{◌≡◌, ◌+◌, ◌<◌, ◌∙◌, length, sym, arith}
-use Rattle.std.proofs.lemmas.Bool.{ltb-true}
+use Rattle.std.proofs.lemmas.Bool.{ltb-true, and_parts}
 use Rattle.std.specs.Prelude.{nat_lt}
 use Rattle.sv_links.specs.Links.{live, lids_left}
 use Rattle.sv_links.specs.Waiting.{creating}
@@ -7,7 +7,7 @@ use Rattle.sv_links.specs.Queue.{creations}
 use Rattle.sv_links.specs.Limits.{max_links}
 use Rattle.sv_history.specs.Act.{link_acts, wait_acts}
 use Rattle.sv_server.proofs.OnDevice.Parts.{device_more}
-use Rattle.sv_server.proofs.OnDevice.Granted.{both_true, on_ok}
+use Rattle.sv_server.proofs.OnDevice.Granted.{on_ok}
 use Rattle.sv_server.proofs.device.Device.reserve.Goals as goal
 
 pub returns-clause-ok : goal.returns-clause-ok
@@ -20,6 +20,6 @@ returns-clause-ok g c = λ config acts old.
       more,
       λ makes may.
           let many = length (live (link_acts acts)) + creating (wait_acts acts) in
-          let few : many < max_links = ltb-true many max_links (both_true (nat_lt many max_links) (lids_left (link_acts acts)) may).0 in
+          let few : many < max_links = ltb-true many max_links (and_parts (nat_lt many max_links) (lids_left (link_acts acts)) may).0 in
           (omega (arith, few, count), omega (arith, room, c.creating.ensures.value)),
     ))

@@ -1,7 +1,7 @@
 use Rattle.std.proofs.Common.{refl, inr}
 use Rattle.sv_history.specs.Act.{wait_acts}
 use Rattle.sv_server.proofs.OnDevice.Parts.{device_again}
-use Rattle.sv_server.proofs.OnDevice.Granted.{rank_other}
+use Rattle.sv_server.proofs.OnDevice.Granted.{measure_one_is_not_lock}
 use Rattle.sv_server.proofs.device.Device.resume_after_lock.Goals as goal
 
 pub returns-in-Some-clause-resumes : goal.returns-in-Some-clause-resumes
@@ -11,7 +11,7 @@ returns-in-Some-clause-resumes g c = λ config polled acts known waits may.
       refl,
       device_again _ c.again.new.self config acts c.args.conn.number c.in-Some.wait c.deadline-deadline.result is
           (c.again.ensures.stands (wait_acts acts) is.4)
-          (c.again.ensures.fewer (rank_other c.in-Some.wait c.in-Some.ensures.measure)) c.in-Some.ensures.plain,
+          (c.again.ensures.fewer (measure_one_is_not_lock c.in-Some.wait c.in-Some.ensures.measure)) c.in-Some.ensures.plain,
     )
 
 pub returns-in-Some-clause-waiting : goal.returns-in-Some-clause-waiting

@@ -1,5 +1,5 @@
 use Rattle.std.proofs.Common.{rules, sym, inl, ◌∙◌}
-use Rattle.sv_server.proofs.OnDevice.Granted.{granted_start, start_wants, on_err, executed_is, makes_as, can_still, needs_no_wait, free_of}
+use Rattle.sv_server.proofs.OnDevice.Granted.{granted_start, unstopped_link_needs_memory, on_err, executed_is, makes_as, can_still, needs_no_wait, free_of}
 use Rattle.sv_server.proofs.device.Device.start.Goals as goal
 
 pub execute-requires : goal.execute-requires
@@ -9,7 +9,7 @@ pub returns-in_err-reserve : goal.returns-in_err-reserve
 returns-in_err-reserve g c = λ arguments is. record {
   does = λ config polled acts known. search (rules, c.from_residual.ensures);
   lacks = λ config polled acts known. on_err c.from_residual.result _
-      (λ at. rw at (start_wants config polled c.args.conn.number arguments acts
+      (λ at. rw at (unstopped_link_needs_memory config polled c.args.conn.number arguments acts
       at (makes_as c.args.call.now arguments is ∙ sym c.is_create_link.ensures ∙ c.in_err-reserve.ensures.err.1)));
   brief = search (rules, c.from_residual.ensures);
   err = search rules;

@@ -1,6 +1,6 @@
 use Rattle.std.proofs.Common.{rules, [], refl}
-use Rattle.sv_server.proofs.OnServer.Standing.{none_due_at_start}
 use Rattle.sv_server.proofs.server.Server.new.Goals as goal
+use Rattle.sv_history.proofs.StillSettled.{empty_log_is_settled}
 
 pub returns : goal.returns
 returns g c = record {
@@ -13,5 +13,5 @@ returns g c = record {
     device = c.in_ok-new.ensures.stands;
     taken = rw c.in_ok-new.ensures.waiting tt;
   };
-  settled = none_due_at_start c.args.config;
+  settled = empty_log_is_settled c.args.config;
 }

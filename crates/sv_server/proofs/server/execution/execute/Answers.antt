@@ -7,7 +7,7 @@ use Rattle.sv_history.specs.AbortChannel.{owner_of, if_waiting, abort_result}
 use Rattle.sv_history.specs.Act.{Replied}
 use Rattle.sv_history.specs.Effect.{result_reply}
 use Rattle.sv_server.specs.Connection.Inside.Requests.{plain_core_call}
-use Rattle.sv_server.proofs.OnServer.Calls.{outcome_ends, holds_as}
+use Rattle.sv_server.proofs.OnServer.Calls.{outcome_ends, suspended_was_asked}
 use Rattle.sv_server.proofs.server.execution.execute.Goals as goal
 
 pub returns-in-NoCall : goal.returns-in-NoCall
@@ -30,7 +30,7 @@ pub returns-in_ok-admit-in-Core : goal.returns-in_ok-admit-in-Core
 returns-in_ok-admit-in-Core g c = let call = plain_core_call c.in-Core.call in record {
   does = λ config polled acts known. rw c.in-Core.is
       (let so = c.in_ok-admit-in-Core.ensures.does config polled acts known tt in
-      (outcome_ends _ call.xid _ config acts _ so.0, holds_as _ c.args.conn.number call _ _ so.1, refl));
+      (outcome_ends _ call.xid _ config acts _ so.0, suspended_was_asked _ c.args.conn.number call _ _ so.1, refl));
   lacks = λ config polled acts known. tt;
   brief = c.in_ok-admit-in-Core.ensures.brief;
   err = tt;
