@@ -21,7 +21,7 @@ pub fn drop_front<A: Allocator>(bytes: &mut Vec<u8, A>, count: usize)
 {
     if count == bytes.len() {
         bytes.clear();
-    } else {
+    } else if count > 0 {
         bytes.drain(..count);
     }
 }

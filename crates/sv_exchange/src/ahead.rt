@@ -1,13 +1,11 @@
 //! The next unit of a message, read while the bytes of the message come.
 
-ghost use Rattle.std.specs.Prelude.{◌≡◌, ◌+◌, ◌-◌, ◌^◌, ◌<◌, ℕ, List, [], false, length, MatchOption, Some, slice_get};
-ghost use Rattle.sv_lexer.specs.Unit.{IsLexed};
+ghost use Rattle.std.specs.Prelude.{◌≡◌, ◌+◌, ◌-◌, ◌^◌, ◌<◌, [], false, length, MatchOption};
 ghost use Rattle.sv_exchange.specs.Exchange.{units};
 ghost use Rattle.sv_exchange.specs.FirstUnit.{IsFirst};
 ghost use Rattle.sv_exchange.specs.Ahead.{IsBegun, IsLooked, behind_semicolon, behind_space};
 
-use sv_errors::Code;
-use sv_lexer::{Partial, Unit};
+use sv_lexer::Partial;
 use sv_text::is_space;
 
 /// The next unit of a message (IEEE 488.2, 7.3.2 and 7.4.1). The text is read up to the semicolon
@@ -16,14 +14,14 @@ use sv_text::is_space;
 pub(crate) struct Ahead {
     /// Where the unit begins, and where it ends without the white space after it. Before the unit
     /// has begun, both are the number of bytes read.
-    start: usize,
-    end: usize,
+    pub(crate) start: usize,
+    pub(crate) end: usize,
     /// How many bytes of the text were read.
     looked: usize,
     /// Whether a semicolon came after the unit.
     closed: bool,
     /// The progress of reading the bytes of the unit one by one.
-    partial: Partial,
+    pub(crate) partial: Partial,
 }
 
 impl Ahead {
@@ -68,22 +66,6 @@ impl Ahead {
         } else {
             None
         }
-    }
-
-    /// Where the unit begins. Before the unit has begun, this is the number of bytes read.
-    pub(crate) fn start(&self) -> usize
-        ensures { result ≡ self.now.start }
-    {
-        self.start
-    }
-
-    /// The unit with its header and parameters, or the error of the unit.
-    pub(crate) fn lexed<'a>(&self, text: &'a [u8]) -> Result<Unit<'a>, Code>
-        requires { IsLooked self.now text.now }
-        ensures { (unit : List ℕ) → slice_get (units text.now) 0 ≡ Some unit
-            → IsLexed result unit }
-    {
-        self.partial.finish(&text[self.start..self.end])
     }
 
     /// Reads the bytes that weren't read yet, but only up to the semicolon after the unit.

@@ -1,6 +1,6 @@
 //! Message exchange: program messages come in, and responses go out.
 
-ghost use Rattle.std.specs.Prelude.{◌≡◌, ℕ, ◌+◌, ◌*◌, ◌<◌, ◌≤◌, ◌==◌, Bool, true, false, not, ◌||◌, List, [], ◌∷◌, ◌++◌, Option, Some, None, option_map, length, take, drop, nat_lt, vec_len, vec_capacity, IsTrue, IfOk, if◌then◌else◌};
+ghost use Rattle.std.specs.Prelude.{◌≡◌, ℕ, ◌+◌, ◌*◌, ◌<◌, ◌≤◌, ◌==◌, Bool, true, false, not, ◌||◌, List, [], ◌∷◌, Option, Some, None, option_map, length, take, drop, nat_lt, vec_capacity, IsTrue, IfOk, if◌then◌else◌};
 ghost use Rattle.sv_lexer.specs.Unit.{IsLexed};
 ghost use Rattle.sv_exchange.specs.Exchange.{ExchangeAct, Accepted, TextDropped, Overran, UnitDone, UnitDue, Answered, AnswersDropped, Finished, Interrupted, ResponseRead, OverrunDue, InterruptDue, FinishDue, due, has_ended, is_long, message, next_unit, answers, joined_answers, response, fits_response, is_something};
 ghost use Rattle.sv_exchange.specs.Limits.{max_message, max_response};
@@ -142,7 +142,7 @@ impl<A: Allocator> Exchange<A> {
         ensures stands { (acts : List ExchangeAct) → StandsFor self.old acts
             → StandsFor self.new (Accepted bytes.now ended ∷ acts) }
     {
-        drop_done(&mut self.text, self.cursor);
+        drop_front(&mut self.text, self.cursor);
         let before = self.text.len();
         append(&mut self.text, bytes);
         let cut = first_message(bytes, ended);
@@ -207,7 +207,7 @@ impl<A: Allocator> Exchange<A> {
         ensures { (acts : List ExchangeAct) (unit : List ℕ) → StandsFor self.now acts
             → next_unit acts ≡ Some unit → IsPlaceOf result unit acts }
     {
-        (self.executed + self.ahead.start()) as u16
+        (self.executed + self.ahead.start) as u16
     }
 
     /// How many bytes of a message came that hasn't ended yet; `None` if the current message has
@@ -255,7 +255,9 @@ impl<A: Allocator> Exchange<A> {
         requires { IsUnitDue (next_of self.now) }
         ensures { (unit : List ℕ) → next_of self.now ≡ UnitDue unit → IsLexed result unit }
     {
-        self.ahead.lexed(&self.text[self.cursor..self.end])
+        let message = &self.text[self.cursor..self.end];
+        let ahead = &self.ahead;
+        ahead.partial.finish(&message[ahead.start..ahead.end])
     }
 
     /// Removes the unit that is due, which was executed, from the current message.
@@ -313,7 +315,7 @@ impl<A: Allocator> Exchange<A> {
         ensures stands { (acts : List ExchangeAct) → StandsFor self.old acts
             → StandsFor self.new (Finished ∷ acts) }
     {
-        end_response(&mut self.response, self.answering);
+        let has_answers = self.answering;
         let cut = first_message(&self.text[self.next_start..], self.end_pending);
         self.cursor = self.next_start;
         self.executed = 0;
@@ -326,6 +328,9 @@ impl<A: Allocator> Exchange<A> {
         self.overrun_reported = false;
         self.answers_dropped = false;
         self.answering = false;
+        if has_answers {
+            self.response.push_reserved(b'\n');
+        }
     }
 
     /// Adds an answer after the answers of the message's earlier units, separated by a semicolon
@@ -453,17 +458,6 @@ impl<A: Allocator> Exchange<A> {
     }
 }
 
-/// Drops the first `count` bytes, because the units in these bytes were executed.
-fn drop_done<A: Allocator>(bytes: &mut Vec<u8, A>, count: usize)
-    requires { count ≤ vec_len bytes.old }
-    ensures items { bytes.new.items ≡ drop count bytes.old.items }
-    ensures capacity { vec_capacity bytes.new ≡ vec_capacity bytes.old }
-{
-    if count > 0 {
-        drop_front(bytes, count);
-    }
-}
-
 /// If `joins` is true, appends a semicolon and the answer to `bytes`, which has the earlier answers
 /// of the message. Otherwise replaces `bytes` with the answer.
 fn put_answer<A: Allocator>(bytes: &mut Vec<u8, A>, joins: bool, answer: &[u8])
@@ -477,17 +471,4 @@ fn put_answer<A: Allocator>(bytes: &mut Vec<u8, A>, joins: bool, answer: &[u8])
         bytes.clear();
     }
     append(bytes, answer);
-}
-
-/// Ends a response: if `answers` is true, `bytes` are the joined answers of a message, and a new
-/// line is appended to them. If `answers` is false, nothing changes.
-fn end_response<A: Allocator>(bytes: &mut Vec<u8, A>, answers: bool)
-    requires { IsTrue answers → vec_len bytes.old < vec_capacity bytes.old }
-    ensures items { bytes.new.items
-        ≡ (if answers then bytes.old.items ++ 10 ∷ [] else bytes.old.items) }
-    ensures capacity { vec_capacity bytes.old ≤ vec_capacity bytes.new }
-{
-    if answers {
-        bytes.push_reserved(b'\n');
-    }
 }

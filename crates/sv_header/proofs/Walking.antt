@@ -1,5 +1,6 @@
 -- Steps of the walk: the command that it finds at a node, below it, or at a later sibling.
-use Rattle.std.proofs.Common.{◌≡◌, ℕ, zero, suc, ◌<◌, ◌≤◌, Bool, true, false, List, [], ◌∷◌, length, take, drop, Option, Some, None, is_some, sym, ap, ◌∙◌, subst, inl, inr, arith, length-take, length-drop}
+use Rattle.std.proofs.Common.{◌≡◌, ℕ, zero, suc, ◌<◌, ◌≤◌, Bool, true, false, List, [], ◌∷◌, length, take, drop, Option, Some, None, is_some, refl, sym, ap, ◌∙◌, subst, inl, inr, arith, length-take, length-drop}
+use Rattle.std.specs.Bool.{then_some}
 use Rattle.sv_header.specs.declared.command.CommandId.{CommandId}
 use Rattle.sv_header.specs.declared.left.Mnemonics.{Mnemonics}
 use Rattle.sv_header.specs.declared.branch.Branch.{Branch}
@@ -141,6 +142,12 @@ found_at_later_sibling query (node ∷ behind) branch children siblings left the
     let few_behind : length siblings ≤ fuel = omega (arith, fewer.1) in
     λ command h. none_found_at_siblings fuel query node behind branch children siblings left there absent command p w v (a fuel few command)
     (b fuel few command) (c fuel few_behind command) h
+
+-- All mnemonics remain at a node exactly if a header can omit this node.
+pub all_if_optional : (left : Mnemonics) (node : Part) (optional : Bool) (all : Option Mnemonics) → node.optional ≡ optional
+    → all ≡ then_some optional left → IsAllOf (left_of left) node all
+all_if_optional left node true all is all_is = subst (IsAllOf (left_of left) node) (sym all_is) (is, refl)
+all_if_optional left node false all is all_is = subst (IsAllOf (left_of left) node) (sym all_is) is
 
 -- If the node itself names no command for these mnemonics, the result is the one for the nodes
 -- below.

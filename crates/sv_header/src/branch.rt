@@ -24,14 +24,6 @@ pub(crate) struct Branch {
 }
 
 impl Branch {
-    /// Returns the command of the header that ends at this node: with a question mark if `query` is
-    /// true, else without a question mark.
-    fn command(&self, query: bool) -> Option<CommandId>
-        ensures { result ≡ command_of query self.now }
-    {
-        if query { self.query } else { self.plain }
-    }
-
     /// Returns the command of a header that ends at this node; `None` if mnemonics of the header
     /// remain in `left`, or if no command has a header that ends here.
     pub(crate) fn ending(&self, left: &Mnemonics<'_>, query: bool) -> Option<CommandId>
@@ -39,7 +31,7 @@ impl Branch {
             (λ command. Ends (left_of left.now) (command_of query self.now) command) }
     {
         match left.first {
-            None => self.command(query),
+            None => { if query { self.query } else { self.plain } }
             Some(_) => None,
         }
     }

@@ -44,11 +44,4 @@ impl<'a> Mnemonics<'a> {
             sent: behind,
         }
     }
-
-    /// Returns all mnemonics but the first.
-    pub(crate) fn others(&self) -> Mnemonics<'a>
-        ensures { left_of result ≡ self.now.kept.now ++ sent_of self.now.sent }
-    {
-        Mnemonics::new(self.kept, self.sent)
-    }
 }

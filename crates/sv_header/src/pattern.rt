@@ -1,9 +1,7 @@
 //! A node of a header pattern, and which mnemonics fit the node.
 
-ghost use Rattle.std.specs.Prelude.{◌↔◌, IsTrue};
-ghost use Rattle.sv_header.specs.Pattern.{IsForm};
 ghost use Rattle.sv_header.specs.Plain.{part, left_of};
-ghost use Rattle.sv_header.specs.Inside.Walk.{IsBehind, IsAllOf};
+ghost use Rattle.sv_header.specs.Inside.Walk.{IsBehind};
 
 use crate::left::Mnemonics;
 
@@ -19,31 +17,16 @@ pub(crate) struct Node {
 }
 
 impl Node {
-    /// Whether a mnemonic is the short or the long form of this node, in upper or lower case.
-    fn takes(&self, mnemonic: &[u8]) -> bool
-        ensures { IsTrue result ↔ IsForm mnemonic.now (part self.now) }
-    {
-        mnemonic.eq_ignore_ascii_case(self.short) || mnemonic.eq_ignore_ascii_case(self.long)
-    }
-
     /// Returns the mnemonics of `left` after the first one, if the first one is a form of this
     /// node; else `None`.
     pub(crate) fn behind<'a>(&self, left: &Mnemonics<'a>) -> Option<Mnemonics<'a>>
         ensures { IsBehind (left_of left.now) (part self.now) result }
     {
         let first = left.first?;
-        if self.takes(first) {
-            Some(left.others())
+        if first.eq_ignore_ascii_case(self.short) || first.eq_ignore_ascii_case(self.long) {
+            Some(Mnemonics::new(left.kept, left.sent))
         } else {
             None
         }
-    }
-
-    /// Returns all mnemonics of `left` if this node is optional, so that a header can omit it; else
-    /// `None`.
-    pub(crate) fn absent<'a>(&self, left: &Mnemonics<'a>) -> Option<Mnemonics<'a>>
-        ensures { IsAllOf (left_of left.now) (part self.now) result }
-    {
-        if self.optional { Some(*left) } else { None }
     }
 }

@@ -4,7 +4,6 @@ ghost use Rattle.std.specs.Prelude.{◌≡◌, MatchResult};
 ghost use Rattle.sv_errors.specs.declared.code.Code.TheVariants.{UndefinedHeader};
 ghost use Rattle.sv_header.specs.declared.command.CommandId.{CommandId as Command};
 ghost use Rattle.sv_header.specs.Resolve.{Resolves};
-ghost use Rattle.sv_header.specs.Inside.Tree.{tree_rows, rows_with};
 
 use crate::branch::Branch;
 use crate::command::CommandId;
@@ -61,15 +60,8 @@ impl<A: Allocator> Table<A> {
             × ((command : Command) → Resolves path.now header.now command → ⊥)) }
     {
         let sent = Sent::new(path, header);
-        walk(&sent.mnemonics, sent.query, self.roots(sent.common)).ok_or(Code::UndefinedHeader)
-    }
-
-    /// Returns the nodes at the root and all nodes below them: those of common commands if `common`
-    /// is true, else those of all other commands.
-    fn roots(&self, common: bool) -> &[Branch]
-        ensures { tree_rows common result.now ≡ rows_with common }
-    {
         let (commons, others) = self.branches.split_at(COMMON_NODES);
-        if common { commons } else { others }
+        let roots = if sent.common { commons } else { others };
+        walk(&sent.mnemonics, sent.query, roots).ok_or(Code::UndefinedHeader)
     }
 }

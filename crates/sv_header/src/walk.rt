@@ -23,7 +23,8 @@ pub(crate) fn walk(left: &Mnemonics<'_>, query: bool, branches: &[Branch]) -> Op
     if there.is_some() {
         return there;
     }
-    let absent = below(branch.node.absent(left), query, branch, children);
+    let all = branch.node.optional.then_some(*left);
+    let absent = below(all, query, branch, children);
     if absent.is_some() {
         return absent;
     }

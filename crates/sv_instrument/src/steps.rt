@@ -2,7 +2,7 @@
 
 ghost use Rattle.std.specs.Prelude.{◌≡◌, ◌<◌, List, ◌∷◌, Some, None, OnSome, IfNone};
 ghost use Rattle.sv_errors.specs.declared.code.Code.TheVariants.{InputBufferOverrun};
-ghost use Rattle.sv_exchange.specs.Exchange.{Overran, Finished, OverrunDue, InterruptDue, FinishDue};
+ghost use Rattle.sv_exchange.specs.Exchange.{Overran, OverrunDue, InterruptDue};
 ghost use Rattle.sv_exchange.specs.Contents.{IsUnitDue, next_of};
 ghost use Rattle.sv_layers.specs.Act.{Act, Exchanged, Reported};
 ghost use Rattle.sv_instrument.specs.Stimulus.{IsFired};
@@ -94,7 +94,10 @@ impl<A: Allocator> Instrument<A> {
             Next::Overrun => self.overran(),
             Next::Interrupt => self.interrupt(),
             Next::Unit(_text) => self.start(),
-            Next::Finish => self.finish(),
+            Next::Finish => {
+                self.path = Path::root();
+                self.layers.finish();
+            }
         }
         true
     }
@@ -139,17 +142,5 @@ impl<A: Allocator> Instrument<A> {
             &mut self.layers,
             &mut self.answer,
         );
-    }
-
-    /// Finishes the message that has ended: its answers become the response.
-    fn finish(&mut self)
-        requires free { self.old.held ≡ None }
-        requires due { next_of self.old.layers.exchange ≡ FinishDue }
-        ensures runs { (start log : List Act) → Runs start self.old log
-            → Runs start self.new (Exchanged Finished ∷ log) }
-        ensures measure { instrument_measure self.new < instrument_measure self.old }
-    {
-        self.path = Path::root();
-        self.layers.finish();
     }
 }

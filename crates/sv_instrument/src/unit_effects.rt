@@ -1,8 +1,8 @@
 //! How a unit ends, how its answer is added, and how it is held: it waits for the end of the
 //! measurement.
 
-ghost use Rattle.std.specs.Prelude.{◌≡◌, ◌≤◌, List, ◌∷◌, None, IsTrue};
-ghost use Rattle.sv_exchange.specs.Contents.{IsUnitDue, next_of, may_respond, exchange_measure};
+ghost use Rattle.std.specs.Prelude.{◌≡◌, List, ◌∷◌, None};
+ghost use Rattle.sv_exchange.specs.Contents.{IsUnitDue, next_of};
 ghost use Rattle.sv_layers.specs.Act.{Act, Held as HeldAct};
 ghost use Rattle.sv_layers.specs.Change.{act_of};
 ghost use Rattle.sv_instrument.specs.CommandEffect.{done as done_of, after_answering};
@@ -46,20 +46,8 @@ pub(crate) fn hold<A: Allocator>(layers: &mut Layers<A>, awaited: Awaited) -> Op
     Some(awaited)
 }
 
-/// Adds an answer to the answers of the message, if there is room for it; else drops all answers of
-/// the message, and reports -430.
-fn respond<A: Allocator>(layers: &mut Layers<A>, text: &[u8])
-    requires { IsTrue (may_respond layers.old.exchange) }
-    ensures counts { (start log : List Act) → Counts start layers.old log
-        → Counts start layers.new (after_answering text.now log) }
-    ensures measure { exchange_measure layers.new.exchange ≤ exchange_measure layers.old.exchange }
-{
-    if !layers.respond(text) {
-        layers.apply(Change::Report(Code::QueryDeadlocked));
-    }
-}
-
-/// Ends the unit that is due, and adds its answer to the answers of the message.
+/// Ends the unit that is due, and adds its answer to the answers of the message, if there is room
+/// for it; else drops all answers of the message, and reports -430.
 pub(crate) fn reply<A: Allocator>(layers: &mut Layers<A>, text: &[u8])
     requires { IsUnitDue (next_of layers.old.exchange) }
     ensures behaves { (start log : List Act) → Counts start layers.old log
@@ -67,5 +55,7 @@ pub(crate) fn reply<A: Allocator>(layers: &mut Layers<A>, text: &[u8])
     ensures advances { Advances layers.old layers.new None }
 {
     layers.done();
-    respond(layers, text);
+    if !layers.respond(text) {
+        layers.apply(Change::Report(Code::QueryDeadlocked));
+    }
 }

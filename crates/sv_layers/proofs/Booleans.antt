@@ -1,7 +1,8 @@
 -- Lemmas about booleans and one-bit words.
-use Rattle.std.proofs.Common.{◌≡◌, ℕ, suc, ◌^◌, Bool, true, false, cond, List, [], ◌∷◌, length, refl, sym, nat_lt, arith}
-use Rattle.std.specs.Prelude.{◌↔◌, not, ◌&&◌}
+use Rattle.std.proofs.Common.{◌≡◌, ℕ, suc, ◌*◌, ◌%◌, ◌^◌, Bool, true, false, cond, List, [], ◌∷◌, length, refl, sym, nat_lt, arith}
+use Rattle.std.specs.Prelude.{◌↔◌, not, ◌&&◌, ◌||◌}
 use Rattle.std.proofs.lemmas.Bool.{lt-ltb, and_parts, and_from}
+use Rattle.std.specs.Bool.{beq}
 use Rattle.std.specs.Int.{from_bool}
 use Rattle.sv_exchange.specs.Exchange.{is_something}
 use Rattle.sv_scan.specs.Condition.{bit}
@@ -19,6 +20,18 @@ cond_is_bit k false = refl
 pub from_bool_is_bit : (b : Bool) → from_bool b ≡ bit 0 b
 from_bool_is_bit true = refl
 from_bool_is_bit false = refl
+
+-- A boolean, shifted to bit 9 of a word.
+pub shifted_bit : (b : Bool) → from_bool b * 2 ^ 9 % 2 ^ 16 ≡ bit 9 b
+shifted_bit true = refl
+shifted_bit false = refl
+
+-- Two booleans are the same unless they are unequal.
+pub same_unless_unequal : (a b : Bool) → not (beq a b) ≡ false → a ≡ b
+same_unless_unequal true true same = refl
+same_unless_unequal true false same = absurd cc
+same_unless_unequal false true same = absurd cc
+same_unless_unequal false false same = refl
 
 pub nonempty_by_length : (places : List ℕ) → nat_lt 0 (length places) ≡ is_something places
 nonempty_by_length [] = refl

@@ -6,7 +6,8 @@ use Rattle.sv_scan.specs.declared.acts.ScanAct.{ScanAct}
 use Rattle.sv_scan.specs.declared.acts.ScanAct.TheVariants.{Reset}
 use Rattle.sv_scan.specs.Scan.{state}
 use Rattle.sv_scan.specs.Counted.{effective, is_idle as idle_state}
-use Rattle.sv_layers.specs.Act.{Act, Purged, Scanned, Cleared, OpcAsked}
+use Rattle.sv_layers.specs.declared.change.StatusChange.TheVariants.{EnableService}
+use Rattle.sv_layers.specs.Act.{Act, Purged, Scanned, Cleared, OpcAsked, StatusChanged}
 use Rattle.sv_layers.specs.Condition.{is_idle}
 use Rattle.sv_layers.specs.Standard.{IsAsked, IsPending, Completes, cancels}
 use Rattle.sv_layers.specs.Inside.LayerLogs.{LayerLogs, after_begin, resets, idles, layer_logs}
@@ -29,6 +30,7 @@ begun_waits Purged log at = (step_ended (λ e. absurd cc) (λ e. absurd cc), λ 
 begun_waits (Scanned act) log at = (scanned_waits act log at.waits, λ asked. absurd asked)
 begun_waits Cleared log at = (step_ended (λ e. absurd cc) (λ e. absurd cc), λ asked. absurd asked)
 begun_waits OpcAsked log at = (step_kept refl ((λ e. inl tt), (λ h. refl)), λ asked. refl)
+begun_waits (StatusChanged (EnableService mask)) log at = (step_same refl (λ none. none) iff_refl, λ asked. refl)
 begun_waits _ log at = (step_same refl (λ none. none) iff_refl, λ asked. refl)
 
 -- The first part of an act decides whether a measurement is under way after the act.

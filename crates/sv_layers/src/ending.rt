@@ -6,11 +6,10 @@ ghost use Rattle.sv_status.specs.declared.standard_event.StandardAct.{StandardAc
 ghost use Rattle.sv_status.specs.declared.status_byte.StatusAct.{StatusAct};
 ghost use Rattle.sv_status.specs.Register.{condition, StandsFor as Registers};
 ghost use Rattle.sv_status.specs.StandardEvent.{StandsFor as Standards};
-ghost use Rattle.sv_scan.specs.Condition.{bit};
 ghost use Rattle.sv_layers.specs.Act.{Act};
 ghost use Rattle.sv_layers.specs.Change.{act_of};
 ghost use Rattle.sv_layers.specs.Filter.{is_same as same_register};
-ghost use Rattle.sv_layers.specs.Inside.LayerLogs.{LayerLogs, EndsAs, after_begin, after_complete, own, register_act, own_standard, layer_logs};
+ghost use Rattle.sv_layers.specs.Inside.LayerLogs.{EndsAs, after_begin, own, register_act, own_standard, layer_logs};
 ghost use Rattle.sv_layers.specs.Inside.Representation.{Represents};
 
 use crate::change::{Change, RegisterChange, StatusChange};
@@ -22,8 +21,8 @@ use sv_status::{Register, RegisterName, StandardEvent};
 /// The bit of operation complete in the standard events.
 const COMPLETE: u8 = 1 << 0;
 
-/// The bit of a nested register's summary in the condition of the register above it.
-const SUMMARY: u16 = 1 << 9;
+/// The number of the bit of a nested register's summary in the condition of the register above it.
+const SUMMARY: u32 = 9;
 
 impl<A: Allocator> Layers<A> {
     /// Ends a change, which was already applied to the layer that it belongs to: updates one status
@@ -31,7 +30,8 @@ impl<A: Allocator> Layers<A> {
     /// of the condition bits first pass the register's filters as they were before the change. Then
     /// the change takes its direct effect on the register, such as setting a filter or clearing
     /// events. A nested register is updated before the register whose condition has the nested
-    /// register's summary.
+    /// register's summary. If an `*OPC` is pending and no measurement is under way, the operation
+    /// complete bit is set before the change takes its direct effect on the standard events.
     pub(crate) fn end(&mut self, change: &Change)
         ensures stands { (log : List Act) (act : Act) (status_log : List StatusAct)
             → EndsAs (act_of change.now) act
@@ -49,43 +49,15 @@ impl<A: Allocator> Layers<A> {
         compare(&mut self.limit, touched.limit, now.limit);
         change_register(&mut self.limit, RegisterName::Limit, change);
         let stands = self.limit.summary();
-        let moved = touched.questionable | differ(stood, stands);
-        let word = now.questionable | summary_bit(stands);
+        let moved = touched.questionable | (stood != stands);
+        let word = now.questionable | (u16::from(stands) << SUMMARY);
         compare(&mut self.questionable, moved, word);
         change_register(&mut self.questionable, RegisterName::Questionable, change);
-        self.complete();
-        change_standard(&mut self.standard, change);
-    }
-
-    /// Sets the operation complete bit of the standard events if an `*OPC` is pending and no
-    /// measurement is under way.
-    fn complete(&mut self)
-        ensures stands { (at : LayerLogs) (status_log : List StatusAct)
-            → Represents self.old at status_log
-            → Represents self.new (after_complete at) status_log }
-        ensures exchange { self.new.exchange ≡ self.old.exchange }
-        ensures scanner { self.new.scanner ≡ self.old.scanner }
-        ensures requests { self.new.requests ≡ self.old.requests }
-    {
         let idle = self.scanner.state().is_idle();
         self.standard.occur(mask_if(COMPLETE, self.waits & idle));
         self.waits &= !idle;
+        change_standard(&mut self.standard, change);
     }
-}
-
-/// Whether exactly one of the two is true.
-fn differ(first: bool, second: bool) -> bool
-    ensures { result ≡ false → first ≡ second }
-{
-    if first { !second } else { second }
-}
-
-/// Returns a value with only bit 9 set if `stands`, the summary of a nested register, is true; else
-/// 0.
-fn summary_bit(stands: bool) -> u16
-    ensures { result ≡ bit 9 stands }
-{
-    if stands { SUMMARY } else { 0 }
 }
 
 /// Sets the condition of a register to `word`, if `touched` says that the condition might have

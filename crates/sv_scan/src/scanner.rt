@@ -7,7 +7,7 @@ ghost use Rattle.sv_scan.specs.declared.setting.State.TheVariants.{Waiting, Scan
 ghost use Rattle.sv_scan.specs.Setting.{is_possible as may_have};
 ghost use Rattle.sv_scan.specs.Scan.{state as state_of, readings as readings_of, last_reading as last_of, is_complete as completes, is_bounded};
 ghost use Rattle.sv_scan.specs.Counted.{effective, setting_fault, init_fault, trigger_fault, read_fault, is_scanning as scans};
-ghost use Rattle.sv_scan.specs.Condition.{operation, questionable, limit, is_outside as lies_outside};
+ghost use Rattle.sv_scan.specs.Condition.{operation, questionable, limit};
 ghost use Rattle.sv_scan.specs.Answered.{refused_by};
 ghost use Rattle.sv_scan.specs.Touched.{nothing};
 ghost use Rattle.sv_errors.specs.Limits.{is_channel as is_there, most_readings};
@@ -22,7 +22,7 @@ use crate::setting::{Reading, Setting, State};
 use crate::settings::Settings;
 use crate::state::{is_complete, is_same, state_in};
 use crate::touched::Touched;
-use crate::words::{Conditions, limit_word, operation_word, questionable_word};
+use crate::words::{Conditions, OVERLOAD, limit_word, mask_if, operation_word};
 use std::alloc::{AllocError, Allocator, Global};
 use std::marker::Model;
 use sv_errors::{CHANNELS, Code, Layer, MOST_READINGS, Source, is_channel};
@@ -309,15 +309,6 @@ impl<A: Allocator> Scanner<A> {
         self.readings.last().copied()
     }
 
-    /// Whether the live input of the monitored channel is outside the limits.
-    fn is_outside(&self) -> bool
-        ensures { (acts : List ScanAct) → StandsFor self.now acts
-            → result ≡ lies_outside (effective acts) }
-    {
-        let live = voltage(&self.inputs, self.settings.monitor);
-        live < self.settings.lower || self.settings.upper < live
-    }
-
     /// The condition words of the status registers, as they are now.
     pub fn conditions(&self) -> Conditions
         ensures operation { (acts : List ScanAct) → StandsFor self.now acts
@@ -328,14 +319,16 @@ impl<A: Allocator> Scanner<A> {
             → result.limit ≡ limit (effective acts) }
     {
         let last = self.last_reading();
+        let live = voltage(&self.inputs, self.settings.monitor);
+        let outside = live < self.settings.lower || self.settings.upper < live;
         Conditions {
             operation: operation_word(self.state()),
-            questionable: questionable_word(is_overload(last)),
+            questionable: mask_if(OVERLOAD, is_overload(last)),
             limit: limit_word(
                 self.settings.limits,
                 is_below(last, self.settings.lower),
                 is_above(last, self.settings.upper),
-                self.is_outside(),
+                outside,
             ),
         }
     }

@@ -13,7 +13,7 @@ const WAITING: u16 = 1 << 5;
 /// Bit of the operation register: a measurement is under way.
 const ACQUIRING: u16 = 1 << 8;
 /// Bit of the questionable register: the last reading is an overload.
-const OVERLOAD: u16 = 1 << 0;
+pub(crate) const OVERLOAD: u16 = 1 << 0;
 /// Bit of the register of limits: the last reading is below the lower limit.
 const BELOW: u16 = 1 << 0;
 /// Bit of the register of limits: the last reading is above the upper limit.
@@ -47,14 +47,6 @@ pub(crate) fn operation_word(state: State) -> u16
     }
 }
 
-/// The scanner's part of the condition word of the questionable register: bit 0 is `overload`,
-/// whether the last reading is an overload.
-pub(crate) fn questionable_word(overload: bool) -> u16
-    ensures { result ≡ bit 0 overload }
-{
-    mask_if(OVERLOAD, overload)
-}
-
 /// The condition word of the register of limits; 0 if the limits are off. If they are on: bit 0 is
 /// `below`, whether the last reading is below the lower limit; bit 1 is `above`, whether it is
 /// above the upper limit; bit 2 is `outside`, whether the live input of the monitored channel is
@@ -71,7 +63,7 @@ pub(crate) fn limit_word(limits: bool, below: bool, above: bool, outside: bool) 
 }
 
 /// `mask` if `holds` is true, else 0.
-fn mask_if(mask: u16, holds: bool) -> u16
+pub(crate) fn mask_if(mask: u16, holds: bool) -> u16
     ensures { result ≡ (if holds then mask else 0) }
 {
     if holds { mask } else { 0 }

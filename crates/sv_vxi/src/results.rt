@@ -4,7 +4,7 @@ ghost use Rattle.std.specs.Prelude.{◌≡◌, ◌<◌, ◌≤◌, ◌^◌, [], 
 ghost use Rattle.sv_xdr.specs.Spelling.{spelling};
 ghost use Rattle.sv_xdr.specs.Writer.{WritesEach, Stays};
 ghost use Rattle.sv_vxi.specs.ErrorCode.{unless_error as unless_failed};
-ghost use Rattle.sv_vxi.specs.Results.{Link, Size, Read, Status, Plain, Data, plain_result, result_fields, data_of};
+ghost use Rattle.sv_vxi.specs.Results.{Link, Plain, Data, plain_result, result_fields, data_of};
 
 use crate::error_code::ErrorCode;
 use crate::reason::Reason;
@@ -96,6 +96,7 @@ fn data_unless_error(error: ErrorCode, bytes: &[u8]) -> &[u8]
 /// `TooLong` if the data are longer than the 4,294,967,295 bytes that a length field can express;
 /// nothing is written then. Else `NoRoom` if a field of the result doesn't fit; the fields before
 /// that field stay written.
+#[tactic(auto, using(sv_xdr::proofs::Appended::each_piece))]
 pub fn write_result(writer: &mut Writer<'_>, outcome: &VxiResult<'_>) -> Result<(), XdrFault>
     ensures same_buffer { writer.new.out.ghost_name ≡ writer.old.out.ghost_name }
     ensures writes { length (data_of (plain_result outcome.now)) < 2 ^ 32
@@ -114,13 +115,23 @@ pub fn write_result(writer: &mut Writer<'_>, outcome: &VxiResult<'_>) -> Result<
             abort_port,
             max_recv_size,
         } => write_link(writer, error, lid, abort_port, max_recv_size),
-        VxiResult::Size { error, size } => write_number(writer, error, size),
+        VxiResult::Size { error, size } => {
+            writer.i32(error.number())?;
+            writer.u32(unless_error(error, size, 0))
+        }
         VxiResult::Read {
             error,
             reason,
             bytes,
-        } => write_read(writer, error, reason, bytes),
-        VxiResult::Status { error, stb } => write_number(writer, error, u32::from(stb)),
+        } => {
+            writer.i32(error.number())?;
+            writer.i32(unless_error(error, reason.number(), 0))?;
+            writer.opaque(data_unless_error(error, bytes))
+        }
+        VxiResult::Status { error, stb } => {
+            writer.i32(error.number())?;
+            writer.u32(u32::from(unless_error(error, stb, 0)))
+        }
         VxiResult::Plain { error } => write_error(writer, error),
         VxiResult::Data { error, bytes } => write_data(writer, error, bytes),
     }
@@ -153,35 +164,6 @@ fn write_link(
     writer.i32(unless_error(error, lid, 0))?;
     writer.u32(u32::from(unless_error(error, abort_port, 0)))?;
     writer.u32(unless_error(error, max_recv_size, 0))
-}
-
-/// Writes a result that consists of an error and a number.
-#[tactic(auto, using(sv_xdr::proofs::Appended::each_piece))]
-fn write_number(writer: &mut Writer<'_>, error: ErrorCode, number: u32) -> Result<(), XdrFault>
-    ensures same_buffer { writer.new.out.ghost_name ≡ writer.old.out.ghost_name }
-    ensures writes { WritesEach (map spelling (result_fields (Size error number))) result writer.old
-        writer.new }
-{
-    writer.i32(error.number())?;
-    writer.u32(unless_error(error, number, 0))
-}
-
-/// Writes the result of device_read.
-#[tactic(auto, using(sv_xdr::proofs::Appended::each_piece))]
-fn write_read(
-    writer: &mut Writer<'_>,
-    error: ErrorCode,
-    reason: Reason,
-    bytes: &[u8],
-) -> Result<(), XdrFault>
-    ensures same_buffer { writer.new.out.ghost_name ≡ writer.old.out.ghost_name }
-    ensures writes { length (data_of (Read error reason bytes.now)) < 2 ^ 32
-        → WritesEach (map spelling (result_fields (Read error reason bytes.now))) result writer.old
-        writer.new }
-{
-    writer.i32(error.number())?;
-    writer.i32(unless_error(error, reason.number(), 0))?;
-    writer.opaque(data_unless_error(error, bytes))
 }
 
 /// Writes a result that consists of an error.

@@ -1,5 +1,5 @@
 -- A field is read from bytes exactly if the bytes begin with its encoding.
-use Rattle.std.proofs.Common.{◌≡◌, ℕ, ◌+◌, ◌%◌, ◌<◌, ◌≤◌, ◌^◌, Bool, true, false, cond, eqb, ltb, List, [], ◌∷◌, ◌++◌, length, take, drop, get_or, Result, Ok, Err, refl, sym, ap, subst, ◌∙◌, append_assoc, arith, inl, inr, rules, eq-eqb}
+use Rattle.std.proofs.Common.{◌≡◌, ℕ, ◌+◌, ◌%◌, ◌<◌, ◌≤◌, ◌==◌, ◌^◌, Bool, true, false, cond, eqb, ltb, List, [], ◌∷◌, ◌++◌, length, take, drop, get_or, Result, Ok, Err, refl, sym, ap, subst, ◌∙◌, append_assoc, arith, inl, inr, rules, eq-eqb}
 use Rattle.std.specs.List.{AllByRecursion, list_all}
 use Rattle.std.proofs.lemmas.Int.{ints, of_z-to_z}
 use Rattle.std.proofs.lemmas.Bool.Decides.{nat_tests}
@@ -75,6 +75,13 @@ padded_takes n bytes text after e =
       text_length,
       parts ∙ ap (λ (x : List ℕ). x ++ (pad ++ drop (n + pad_len n) bytes)) text_is ∙ ap (λ (x : List ℕ). text ++ (pad ++ x)) after_is,
     )
+
+pub padded_of_parts : (size pad : ℕ) (bytes text rest zeros after : List ℕ) → pad ≡ pad_len size → size + pad ≤ length bytes
+    → text ≡ take size bytes → rest ≡ drop size bytes → zeros ≡ take pad rest → after ≡ drop pad rest
+    → list_all (λ byte. byte == 0) zeros ≡ true → padded_at size bytes ≡ Ok (text, after)
+unfolding padded_at
+padded_of_parts size pad bytes text rest zeros after pad_is fits front back zeros_are after_is all =
+    rw (front, after_is, back, drop-drop pad size bytes, ← pad_is, le-ltb (length bytes) (size + pad) fits, ← back, ← zeros_are, all) refl
 
 -- Encoded data with their padding are read.
 pub padded_reads : (text pad after : List ℕ) → IsPad (length text) pad → padded_at (length text) (text ++ (pad ++ after)) ≡ Ok (text, after)

@@ -1,7 +1,6 @@
 //! Reading fields from left to right.
 
-ghost use Rattle.std.specs.Prelude.{◌≡◌, ◌==◌, ◌<◌, ◌≤◌, ◌^◌, ℕ, ℤ, Bool, List, length, IfOk, IsOkAnd};
-ghost use Rattle.std.specs.List.{list_all};
+ghost use Rattle.std.specs.Prelude.{◌≡◌, ◌<◌, ◌≤◌, ◌^◌, ℕ, ℤ, Bool, List, length, IfOk, IsOkAnd};
 ghost use Rattle.sv_xdr.specs.Spelling.{Begins, Unsigned, Signed, Boolean, Opaque, pad_len as pad_len_of};
 ghost use Rattle.sv_xdr.specs.Reader.{IsRead, unsigned_at, signed_at, boolean_at, opaque_at, padded_at};
 
@@ -136,18 +135,12 @@ impl<'a> Reader<'a> {
         }
         let (text, after) = self.rest.split_at(size);
         let (zeros, after) = after.split_at(pad);
-        if !are_zeros(zeros) {
+        if !zeros.iter().all(|byte| *byte == 0) {
             return Err(XdrFault::BadPad);
         }
         *self = Reader { rest: after };
         Ok(text)
     }
-}
-
-fn are_zeros(bytes: &[u8]) -> bool
-    ensures { result ≡ list_all (λ byte. byte == 0) bytes.now }
-{
-    bytes.iter().all(|byte| *byte == 0)
 }
 
 /// How many bytes pad `size` bytes to a multiple of four.

@@ -9,8 +9,8 @@ overflow_cast-result g c =
     let order = c.self.invariant.0.order in
     let size = rest_size c.self.inside.text.items c.self.inside.cursor c.self.inside.end order.0 (omega (arith, order)) in
     let within = unit_within c.self.inside.ahead _ c.self.invariant.1.begun in
-    omega (arith, c.start.ensures, within, size, order, c.self.invariant.2)
+    omega (arith, within, size, order, c.self.invariant.2)
 
 pub returns : goal.returns
-returns g c = rw (← c.self.view_is, c.start.ensures)
+returns g c = rw (← c.self.view_is)
     (λ acts unit s next. place_is _ acts unit c.self.inside.ahead c.self.invariant.1 s next)

@@ -1,9 +1,10 @@
-use Rattle.std.proofs.Common.{◌∙◌, sym, ap, refl}
+use Rattle.std.proofs.Common.{◌∙◌, sym, ap, refl, rules}
 use Rattle.sv_exchange.specs.Exchange.{InterruptDue, OverrunDue, FinishDue}
 use Rattle.sv_exchange.specs.Contents.{next_of}
 use Rattle.sv_layers.specs.Act.{exchange_acts}
-use Rattle.sv_instrument.proofs.Counting.{runs_at_start}
+use Rattle.sv_instrument.proofs.Counting.{counts, runs_at_start}
 use Rattle.sv_instrument.proofs.NextStep.{step_of, start_is_due_step, nothing_due, none_due_if_nothing_due}
+use Rattle.sv_instrument.proofs.Paths.{finished_path}
 use Rattle.sv_instrument.proofs.instrument.Instrument.next_step.Goals as goal
 
 pub returns-in-Nothing : goal.returns-in-Nothing
@@ -53,8 +54,14 @@ returns-in-Finish g c = (
   λ log h.
       let s = rw (← c.self.view_is) at h in
       let is = c.in-Finish.ensures.answer (exchange_acts log) (c.exchange.ensures.stands log s.layers.stands) in
-      (_, step_of log _ _ FinishDue (sym c.requires ∙ h.held) is refl, c.finish.ensures.runs log log (runs_at_start h)),
-  c.finish.ensures.measure,
+      let runs = rw (← c.self.view_is) at (runs_at_start h) in
+      let path = finished_path log (sym c.requires ∙ h.held) in
+      (
+        _,
+        step_of log _ _ FinishDue (sym c.requires ∙ h.held) is refl,
+        record { layers = counts c.finish.ensures.applied runs.layers; held = runs.held; path = rw c.root-self-inside.ensures path },
+      ),
+  search rules,
 )
 
 pub overran-requires-clause-free : goal.overran-requires-clause-free
@@ -72,11 +79,8 @@ interrupt-requires-clause-due g c = rw (← c.self.view_is) (ap next_of (sym c.e
 pub start-requires-clause-free : goal.start-requires-clause-free
 start-requires-clause-free g c = c.requires
 
-pub finish-requires-clause-free : goal.finish-requires-clause-free
-finish-requires-clause-free g c = c.requires
-
-pub finish-requires-clause-due : goal.finish-requires-clause-due
-finish-requires-clause-due g c = rw (← c.self.view_is) (ap next_of (sym c.exchange.ensures.value) ∙ sym c.in-Finish.ensures.value)
+pub finish-requires : goal.finish-requires
+finish-requires g c = rw (← c.self.view_is) (ap next_of (sym c.exchange.ensures.value) ∙ sym c.in-Finish.ensures.value)
 
 pub start-requires-clause-due : goal.start-requires-clause-due
 start-requires-clause-due g c = rw (← c.self.view_is) (_, ap next_of (sym c.exchange.ensures.value) ∙ sym c.in-Unit.ensures.value)

@@ -1,14 +1,17 @@
-use Rattle.std.proofs.Common.{◌≡◌, ℕ, ◌+◌, Bool, ◌∷◌, List, refl, ◌∙◌, ap, sym, subst}
+use Rattle.std.proofs.Common.{◌≡◌, ℕ, ◌+◌, ◌*◌, ◌%◌, ◌^◌, ◌&&◌, not, Bool, ◌∷◌, List, refl, ◌∙◌, ap, sym, subst}
 use Rattle.sv_status.specs.declared.register_name.RegisterName.TheVariants.{Operation, Questionable, Limit}
 use Rattle.sv_status.specs.declared.standard_event.StandardAct.{StandardAct}
+use Rattle.sv_status.specs.declared.standard_event.StandardAct.TheVariants.{Occur}
 use Rattle.sv_status.specs.StandardEvent.{StandsFor as Standards}
+use Rattle.sv_scan.specs.declared.setting.State.{State}
+use Rattle.sv_scan.specs.Counted.{is_idle}
 use Rattle.sv_scan.specs.Condition as scan
 use Rattle.sv_logs.proofs.Since.{iff_transitive}
 use Rattle.sv_layers.specs.Act.{scan_acts}
 use Rattle.sv_layers.specs.Change.{act_of}
 use Rattle.sv_layers.specs.Condition.{effective_acts, summary}
-use Rattle.sv_layers.specs.Inside.LayerLogs.{after_begin, register_acts, layer_logs}
-use Rattle.sv_layers.proofs.Booleans.{same_bool}
+use Rattle.sv_layers.specs.Inside.LayerLogs.{after_begin, idles, layer_logs}
+use Rattle.sv_layers.proofs.Booleans.{same_bool, neither, cond_is_bit, shifted_bit, same_unless_unequal}
 use Rattle.sv_layers.proofs.SameWords.{same_words}
 use Rattle.sv_layers.proofs.SameSummaries.{same_summary}
 use Rattle.sv_layers.proofs.LimitSummary.{summary_is}
@@ -36,33 +39,29 @@ returns-clause-stands g c = λ log act status_log same h.
     let stands : c.summary-stands.result ≡ summary Limit (act ∷ log) = same_bool _ _ (c.summary-stands.ensures _ _ limit)
     (iff_transitive (summary_is Limit (λ place. refl) (act ∷ log)) (let is = same_summary Limit (act ∷ log) in (is.1, is.0))) in
     let word = questionable_is _ _ (effective_acts (act ∷ log)) (summary Limit (act ∷ log)) questions
-    (c.summary_bit.ensures ∙ ap (scan.bit 9) stands) in
+    (ap (λ (w : ℕ). w * 2 ^ 9 % 2 ^ 16) c.from.ensures ∙ shifted_bit c.summary-stands.result ∙ ap (scan.bit 9) stands) in
     let questionable = stands_after_direct_effect Questionable other act log _ _ word (same.0 Questionable) (c.change_register-3.ensures _ _
     (c.compare-3.ensures _ _ (begun_stands Questionable act log _ (j.registers Questionable)) (λ no.
-    let both = or_parts c.touched-touched.result.questionable c.differ.result no in
-    let moved = sym stands ∙ sym (c.differ.ensures both.1) ∙ stood in
+    let both = neither c.touched-touched.result.questionable _ no in
+    let moved = sym stands ∙ sym (same_unless_unequal c.summary-stood.result c.summary-stands.result both.1) ∙ stood in
     word ∙ ap (λ (w : ℕ). w + scan.bit 9 (summary Limit (act ∷ log))) (left.1 both.0)
     ∙ ap (λ (b : Bool). scan.questionable (effective_acts log) + scan.bit 9 b) moved ∙ sym (same_words Questionable log).0))) in
-    let k = rw (← c.self-2.view_is) at (c.complete.ensures.stands (record (after_begin act (layer_logs log)) {
-      registers = λ name. register_acts name (layer_logs (act ∷ log));
-    }) status_log (record {
+    let begun = after_begin act (layer_logs log) in
+    let idle : c.is_idle-idle.result ≡ idles begun =
+    c.is_idle-idle.ensures ∙ ap (λ (s : State). is_idle s) (c.state.ensures.answer begun.scanner j.scanner) in
+    let complete : c.mask_if.result ≡ scan.bit 0 (begun.waits && idles begun) =
+    c.mask_if.ensures ∙ cond_is_bit 0 (c.self.inside.waits && c.is_idle-idle.result)
+    ∙ ap (λ (b : Bool). scan.bit 0 (b && c.is_idle-idle.result)) j.waits ∙ ap (λ (b : Bool). scan.bit 0 (begun.waits && b)) idle in
+    let occurred = subst (λ (w : ℕ). Standards c.occur.new.self (Occur w ∷ begun.standard)) complete
+        (c.occur.ensures begun.standard j.standard) in
+    record {
       exchange = j.exchange;
       errors = j.errors;
       registers = elim [ Operation ↦ operation | Questionable ↦ questionable | Limit ↦ limit ];
-      standard = j.standard;
+      standard = subst (λ (acts : List StandardAct). Standards c.change_standard.new.standard acts) (same.1 _)
+          (c.change_standard.ensures _ occurred);
       status = j.status;
       scanner = j.scanner;
       service = j.service;
-      waits = j.waits;
-    })) in
-    record {
-      exchange = k.exchange;
-      errors = k.errors;
-      registers = k.registers;
-      standard = subst (λ (acts : List StandardAct). Standards c.change_standard.new.standard acts) (same.1 _)
-          (c.change_standard.ensures _ k.standard);
-      status = k.status;
-      scanner = k.scanner;
-      service = k.service;
-      waits = k.waits;
+      waits = ap (λ (b : Bool). b && not c.is_idle-idle.result) j.waits ∙ ap (λ (b : Bool). begun.waits && not b) idle;
     }
