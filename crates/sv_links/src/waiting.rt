@@ -206,6 +206,7 @@ impl<A: Allocator> Waiting<A> {
     /// The oldest call that can resume; `None` if no call can. `holder` is the link that holds the
     /// lock. `can_write` says whether the device accepts a write now. `can_read` says whether the
     /// device answers a read now.
+    #[inline(always)]
     pub fn oldest_able(&self, holder: Option<u32>, can_write: bool, can_read: bool) -> Option<Entry>
         ensures answer { (acts : List WaitAct) → IsQueue self.now acts
             → IsOldest acts (IsAble holder can_write can_read acts)

@@ -16,6 +16,7 @@ use std::io::Write;
 use sv_server::{Event, ReplayFault, Server};
 
 /// Applies an event, and writes what the replay prints for it. `number` is the number of the line.
+#[inline(always)]
 fn apply<A: Allocator, W: Write>(
     server: &mut Server<A>,
     event: Event<'_>,

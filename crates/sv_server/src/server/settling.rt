@@ -222,6 +222,7 @@ impl<A: Allocator> Server<A> {
     }
 
     /// Takes the steps that are due after an event, unless `quiet` is true.
+    #[inline(always)]
     pub(crate) fn settle_unless(&mut self, quiet: bool)
         ensures settled { (config : Config) (log : List Act) → Represents self.old config log
             → quiet ≡ false → Settled config log self.new }
@@ -234,6 +235,7 @@ impl<A: Allocator> Server<A> {
     }
 
     /// Takes steps until no step is due.
+    #[inline(always)]
     pub(crate) fn settle(&mut self)
         ensures { (config : Config) (log : List Act) → Represents self.old config log
             → Settled config log self.new }
