@@ -1,4 +1,4 @@
--- The result of connecting an interrupt channel, by the peer that the call names.
+-- What create_intr_chan returns once the peer that it names was dialed, with or without success.
 use Rattle.std.proofs.Common.{◌≡◌, ℕ, Bool, true, false, [], ◌∷◌, Option, Some, None, refl}
 use Rattle.sv_vxi.specs.declared.error_code.ErrorCode.TheVariants.{NoError, NotEstablished}
 use Rattle.sv_vxi.specs.Arguments.{Arguments, CreateIntrChan}

@@ -1,4 +1,5 @@
--- The logs of message exchange, error queue and scanner are their acts of the instrument's log.
+-- The log of a layer (message exchange, error queue, scanner) holds exactly the acts of the
+-- instrument's log that are the layer's.
 use Rattle.std.proofs.Common.{◌≡◌, List, [], ◌∷◌, refl, ap}
 use Rattle.sv_errors.specs.declared.error_queue.QueueAct.{QueueAct}
 use Rattle.sv_errors.specs.declared.error_queue.QueueAct.TheVariants as queue

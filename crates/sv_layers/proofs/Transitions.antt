@@ -1,5 +1,4 @@
--- The search's test for a transition that passes its filter agrees with the definition of a
--- register.
+-- The search of an event register tests transitions exactly as the definition of the register says.
 use Rattle.std.proofs.Common.{◌≡◌, ℕ, Bool, true, false, List, refl, ◌⊎◌, arith, eq-eqb}
 use Rattle.std.specs.Prelude.{◌↔◌, not, ◌&&◌, ◌||◌}
 use Rattle.std.specs.Int.{bit_at}

@@ -1,4 +1,4 @@
--- Trailing white space is removed from the back; these lemmas compute it from the front.
+-- What is left of a text without its trailing white space, found from its first byte on.
 use Rattle.std.proofs.Common.{◌≡◌, ℕ, suc, ◌+◌, Bool, true, false, not, ◌&&◌, cond, List, [], ◌∷◌, ◌++◌, take, drop, refl, sym, ap, ◌∙◌, arith}
 use Rattle.std.specs.Prelude.{reverse}
 use Rattle.std.specs.List.{list_all, position_or_len}

@@ -1,4 +1,5 @@
--- A property that each act of a list has, given the acts before it: joining two lists keeps it.
+-- A property of each act of a list, given the acts before it. If two lists have it, so has the
+-- joined list.
 use Rattle.std.proofs.Common.{List, [], ◌∷◌, ◌++◌, sym, subst, append_assoc}
 use Rattle.std.specs.Prelude.{⊤}
 

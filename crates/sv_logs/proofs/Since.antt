@@ -1,5 +1,5 @@
--- `Since`: the newest act with a property, if every act after it has another. How one more act
--- changes the answer.
+-- `Since`: one property holds at some place of a log, and another one there and ever since. How one
+-- more act changes this.
 use Rattle.std.proofs.Common.{◌≡◌, ℕ, zero, suc, ◌≤◌, Bool, true, false, refl, List, [], ◌∷◌, length, drop, sym, subst, arith, ◌⊎◌, inl, inr}
 use Rattle.std.specs.Prelude.{◌↔◌, ◌&&◌, ◌||◌}
 use Rattle.std.proofs.lemmas.List.{drop_all}

@@ -1,4 +1,5 @@
--- Steps for all numbers below a bound: one more step, and an equal bound.
+-- A sweep takes one step for each number below a bound. One step more, and the same for a bound that
+-- is equal.
 use Rattle.std.proofs.Common.{◌≡◌, ℕ, suc, subst, sym, rules, refl, zero, List, [], ◌∷◌, drop, Some, ◌<◌, ◌≤◌, inl, inr, arith}
 use Rattle.std.proofs.Math.Nat.{eq-or-lt_of_le}
 use Rattle.std.specs.List.{slice_get}

@@ -1,5 +1,5 @@
--- The answers of the server's queries allow each event that the driver makes from an answer of its
--- wire, so the server applies it.
+-- Each event that the driver makes from an answer of its wire is one that the server's queries allow.
+-- So the server applies it.
 use Rattle.std.proofs.Common.{◌≡◌, ℕ, ◌<◌, ◌≤◌, Bool, true, false, List, [], ◌∷◌, length, Option, Some, None, Result, Ok, Err, refl, sym, ap, subst, ◌∙◌, arith, le-ltb}
 use Rattle.std.specs.Prelude.{min, not, ◌||◌}
 use Rattle.sv_links.specs.Channels.{ChannelAct, waiting as channel_waiting}

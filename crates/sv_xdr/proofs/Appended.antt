@@ -1,4 +1,4 @@
--- Two writes append their bytes in this order.
+-- Two writes, one after the other, append their bytes in the order of the writes.
 use Rattle.std.proofs.Common.{◌≡◌, ℕ, ◌+◌, List, [], ◌∷◌, ◌++◌, length, take, refl, sym, ap, ◌∙◌, append_assoc, arith, Result, Ok, Err}
 use Rattle.std.proofs.lemmas.List.{take_at, length-append, length-take, append-nil}
 use Rattle.std.specs.List.{concat}

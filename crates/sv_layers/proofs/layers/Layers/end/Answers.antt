@@ -11,7 +11,7 @@ use Rattle.sv_layers.specs.Act.{scan_acts}
 use Rattle.sv_layers.specs.Change.{act_of}
 use Rattle.sv_layers.specs.Condition.{effective_acts, summary}
 use Rattle.sv_layers.specs.Inside.LayerLogs.{after_begin, idles, layer_logs}
-use Rattle.sv_layers.proofs.Booleans.{same_bool, neither, cond_is_bit, shifted_bit, same_unless_unequal}
+use Rattle.sv_layers.proofs.Booleans.{same_bool, cond_is_bit, shifted_bit, same_unless_unequal}
 use Rattle.sv_layers.proofs.SameWords.{same_words}
 use Rattle.sv_layers.proofs.SameSummaries.{same_summary}
 use Rattle.sv_layers.proofs.LimitSummary.{summary_is}
@@ -42,7 +42,7 @@ returns-clause-stands g c = λ log act status_log same h.
     (ap (λ (w : ℕ). w * 2 ^ 9 % 2 ^ 16) c.from.ensures ∙ shifted_bit c.summary-stands.result ∙ ap (scan.bit 9) stands) in
     let questionable = stands_after_direct_effect Questionable other act log _ _ word (same.0 Questionable) (c.change_register-3.ensures _ _
     (c.compare-3.ensures _ _ (begun_stands Questionable act log _ (j.registers Questionable)) (λ no.
-    let both = neither c.touched-touched.result.questionable _ no in
+    let both = or_parts c.touched-touched.result.questionable _ no in
     let moved = sym stands ∙ sym (same_unless_unequal c.summary-stood.result c.summary-stands.result both.1) ∙ stood in
     word ∙ ap (λ (w : ℕ). w + scan.bit 9 (summary Limit (act ∷ log))) (left.1 both.0)
     ∙ ap (λ (b : Bool). scan.questionable (effective_acts log) + scan.bit 9 b) moved ∙ sym (same_words Questionable log).0))) in

@@ -1,7 +1,7 @@
 use Rattle.std.proofs.Common.{refl, ◌≡◌, None, slice_index_or}
 use Rattle.sv_serve.specs.DriverView.{driver_view}
 use Rattle.sv_serve.specs.Steps.{dialed_of}
-use Rattle.sv_serve.proofs.driver.Driver.call.Goals as goal
+use Rattle.sv_serve.proofs.driver.Driver.connect.Goals as goal
 
 pub returns : goal.returns
 returns g c = λ first config history stands.
