@@ -1,4 +1,4 @@
-//! The program scanvolt.
+//! The main function of the program scanvolt, which replays, explains and serves.
 #![tactic(auto)]
 
 mod serving;

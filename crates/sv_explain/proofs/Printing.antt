@@ -17,9 +17,10 @@ use Rattle.sv_explain.specs.Inside.Names.{texts_of}
 
 -- The pieces in which the line of a value is printed.
 pub value_line_text : (owner name text : List ℕ)
-    → 61 ∷ 32 ∷ (owner ++ ((name ++ 32 ∷ []) ++ (text ++ 10 ∷ []))) ≡ value_line (owner ++ name) text
+    → (61 ∷ 32 ∷ (owner ++ (name ++ 32 ∷ []))) ++ (text ++ 10 ∷ []) ≡ value_line (owner ++ name) text
 value_line_text owner name text = ap (λ (l : List ℕ). 61 ∷ 32 ∷ l)
-    (ap (λ (l : List ℕ). owner ++ l) (append_assoc name (32 ∷ []) (text ++ 10 ∷ []))
+    (append_assoc owner (name ++ 32 ∷ []) (text ++ 10 ∷ [])
+    ∙ ap (λ (l : List ℕ). owner ++ l) (append_assoc name (32 ∷ []) (text ++ 10 ∷ []))
     ∙ sym (append_assoc owner name (32 ∷ (text ++ 10 ∷ []))))
 
 -- The pieces in which the line of a link is printed.

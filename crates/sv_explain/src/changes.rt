@@ -186,9 +186,11 @@ fn put_lock<W: Write>(writer: &mut W, failed: &mut bool, old: Option<u32>, new: 
         (lines_of [] (codes "lock" ∷ []) (number_or_word none old ∷ [])
         (number_or_word none new ∷ [])) }
 {
-    let before = [number_or_word(Word::None, old)];
-    let now = [number_or_word(Word::None, new)];
-    put_values(writer, failed, Owner::Instrument, &[b"lock"], &before, &now)
+    if old != new {
+        let before = [number_or_word(Word::None, old)];
+        let now = [number_or_word(Word::None, new)];
+        put_values(writer, failed, Owner::Instrument, &[b"lock"], &before, &now)
+    }
 }
 
 impl LinksShown {

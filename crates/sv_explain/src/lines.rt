@@ -1,17 +1,21 @@
 //! The lines of values that changed.
 
-ghost use Rattle.std.specs.Prelude.{◌++◌, ◌∷◌, [], map, codes, decimal, if◌then◌else◌};
+ghost use Rattle.std.specs.Prelude.{◌≡◌, ◌++◌, ◌∷◌, [], map, codes, decimal, if◌then◌else◌};
 ghost use Rattle.std.specs.List.{concat};
 ghost use Rattle.std.specs.Fmt.{signed_decimal};
+ghost use Rattle.sv_print.specs.Parts.{part_text, parts_text};
 ghost use Rattle.sv_print.specs.Printed.{Prints};
 ghost use Rattle.sv_explain.specs.Value.{same_value, value_text};
 ghost use Rattle.sv_explain.specs.Lines.{lines_of, numbers_line, numbers_text, value_line};
 ghost use Rattle.sv_explain.specs.Inside.Names.{owner_text, texts_of};
 
-use crate::text::put_text;
+use crate::text::{NOTHING, SPACE, value_parts};
 use crate::value::Value;
 use std::io::Write;
-use sv_print::{Part, put};
+use sv_print::{Part, put, put_two};
+
+/// What stands between the number of a connection and the name of its value.
+const DOT: Part<'static> = Part::Bytes(b".");
 
 /// Whose value a line shows. It stands before the value's name.
 #[derive(Clone, Copy)]
@@ -30,35 +34,29 @@ pub(crate) enum Owner {
     Channel(u8),
 }
 
-/// Writes what stands before the name of a value: a `=`, and whose value it is.
-fn put_owner<W: Write>(writer: &mut W, failed: &mut bool, owner: Owner)
-    ensures { Prints (W.contents writer.old) failed.old (W.contents writer.new) failed.new
-        (codes "= " ++ owner_text owner) }
+/// The parts of what stands before a value: a `=`, whose value it is, its name, and a space. A part
+/// that isn't needed is empty.
+#[inline(always)]
+fn name_parts<'a>(owner: Owner, name: &'a [u8]) -> [Part<'a>; 5]
+    ensures { parts_text result ≡ codes "= " ++ (owner_text owner ++ (name.now ++ 32 ∷ [])) }
 {
+    let name = Part::Bytes(name);
     match owner {
-        Owner::Instrument => put(writer, failed, &[Part::Bytes(b"= ")]),
-        Owner::Operation => put(writer, failed, &[Part::Bytes(b"= oper.")]),
-        Owner::Questionable => put(writer, failed, &[Part::Bytes(b"= ques.")]),
-        Owner::Limit => put(writer, failed, &[Part::Bytes(b"= lim.")]),
-        Owner::Conn(conn) => put_numbered(writer, failed, b"= c", conn),
-        Owner::Channel(conn) => put_numbered(writer, failed, b"= i", conn),
+        Owner::Instrument => [Part::Bytes(b"= "), name, SPACE, NOTHING, NOTHING],
+        Owner::Operation => [Part::Bytes(b"= oper."), name, SPACE, NOTHING, NOTHING],
+        Owner::Questionable => [Part::Bytes(b"= ques."), name, SPACE, NOTHING, NOTHING],
+        Owner::Limit => [Part::Bytes(b"= lim."), name, SPACE, NOTHING, NOTHING],
+        Owner::Conn(conn) => [Part::Bytes(b"= c"), numbered(conn), DOT, name, SPACE],
+        Owner::Channel(conn) => [Part::Bytes(b"= i"), numbered(conn), DOT, name, SPACE],
     }
 }
 
-/// Writes these bytes, the number of a connection, and a dot.
-fn put_numbered<W: Write>(writer: &mut W, failed: &mut bool, start: &[u8], conn: u8)
-    ensures { Prints (W.contents writer.old) failed.old (W.contents writer.new) failed.new
-        (start.now ++ (decimal conn ++ 46 ∷ [])) }
+/// The number of a connection, as a part.
+#[inline(always)]
+fn numbered(conn: u8) -> Part<'static>
+    ensures { part_text result ≡ decimal conn }
 {
-    put(
-        writer,
-        failed,
-        &[
-            Part::Bytes(start),
-            Part::Number(u64::from(conn)),
-            Part::Bytes(b"."),
-        ],
-    )
+    Part::Number(u64::from(conn))
 }
 
 /// Writes the line of a value.
@@ -66,9 +64,8 @@ fn put_line<W: Write>(writer: &mut W, failed: &mut bool, owner: Owner, name: &[u
     ensures { Prints (W.contents writer.old) failed.old (W.contents writer.new) failed.new
         (value_line (owner_text owner ++ name.now) (value_text value)) }
 {
-    put_owner(writer, failed, owner);
-    put(writer, failed, &[Part::Bytes(name), Part::Bytes(b" ")]);
-    put_text(writer, failed, value)
+    let (before, text) = (name_parts(owner, name), value_parts(value));
+    put_two(writer, failed, &before, &text)
 }
 
 /// Writes the line of a value, if the value changed.

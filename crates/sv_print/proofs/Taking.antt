@@ -86,6 +86,15 @@ module _ {X : Type 0} (f : X → List ℕ) where
   texts_more xs i d h = ap concat (map_more f xs i d h) ∙ concat-append (map f (take i xs)) (f (slice_index_or xs i d) ∷ [])
       ∙ ap (λ (l : List ℕ). concat (map f (take i xs)) ++ l) (append-nil (f (slice_index_or xs i d)))
 
+  -- The texts of the elements so far, after some text; and the text of the next one appended to
+  -- them.
+  pub texts_appended : (xs : List X) (i : ℕ) (d : X) (start old new : List ℕ) → i < length xs
+      → old ≡ start ++ concat (map f (take i xs)) → new ≡ old ++ f (slice_index_or xs i d)
+      → new ≡ start ++ concat (map f (take (i + 1) xs))
+  texts_appended xs i d start old new h e is = is ∙ ap (λ (l : List ℕ). l ++ f (slice_index_or xs i d)) e
+      ∙ append_assoc start (concat (map f (take i xs))) (f (slice_index_or xs i d))
+      ∙ ap (λ (l : List ℕ). start ++ l) (sym (texts_more xs i d h))
+
   -- All texts: those before an element, its own, and those after it.
   pub texts_cut : (xs : List X) (i : ℕ) (d : X) → i < length xs
       → concat (map f xs) ≡ (concat (map f (take i xs)) ++ f (slice_index_or xs i d)) ++ concat (map f (drop (i + 1) xs))

@@ -4,5 +4,5 @@
 mod parts;
 mod writing;
 
-pub use parts::{Part, put, put_parts};
+pub use parts::{Part, put, put_parts, put_two};
 pub use writing::WriteFault;

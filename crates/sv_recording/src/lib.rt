@@ -1,4 +1,5 @@
-//! Recordings of a driver: of the calls of its wire, or of the events that its server applies.
+//! Records what the server's driver does: the calls of its wire, or the events that its server
+//! applies.
 //!
 //! The laws of `sv_driver_laws` are about a trace: the calls of the methods of a driver's wire,
 //! with their answers. If a [`Recorder`] is the wire, the trace is the list of calls that it

@@ -1,6 +1,6 @@
-//! Scripts and scenarios. A script is replayed: its lines are read, the events that the lines
-//! describe are applied to a server, and the replies are printed. A scenario is only read: it is a
-//! list of what happens to a server, and when.
+//! Replays and explains scripts, and reads scenarios. A script is the text of a list of events:
+//! its lines are read, the events are applied to a server, and the replies are printed. A scenario
+//! is only read: it is a list of what happens to a server, and when.
 #![tactic(auto)]
 
 mod entry;

@@ -1,5 +1,5 @@
-//! A driver connects a server with its sockets. In a sweep it serves each socket once, through a
-//! wire, and applies the wire's answers to the server.
+//! The server's driver: it moves bytes and time between a server and its sockets (the wire), sweep
+//! by sweep. In a sweep it serves each socket once, and applies the wire's answers to the server.
 #![tactic(auto)]
 
 mod accepting;

@@ -286,7 +286,7 @@ def lines_like(repository: Repository, pattern: str, wanted: str) -> int:
 
 
 def crate_page(sources: Sources) -> Iterator[str]:
-    yield "# The crates\n\n| Crate | What it is | Stands on | Clauses | Of laws | Mutants | Rows or tests |"
+    yield "# The crates\n\n| Crate | What it is | Uses | Clauses of functions | Clauses of laws | Mutants | Rows |"
     yield "|---|---|---|---|---|---|---|"
     order = list(sources.order)
     repository = sources.repository

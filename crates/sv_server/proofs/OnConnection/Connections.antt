@@ -91,7 +91,7 @@ pub faulted_is : (kept : Connection) (acts : List ConnAct) → IsConnection kept
 faulted_is kept acts is =
     let left : is_empty_list kept.input.records ≡ eqb (records_ended acts) (length (records_of (stream acts))) =
     ap is_empty_list (records_are kept acts is) ∙ drop_all_is_empty (records_of (stream acts)) (records_ended acts) (few_ended kept acts is)
-        in
+    in
     or_comm (is_fault (next_among kept.input.records kept.input.tail)) kept.faulted
     ∙ ap (λ (b : Bool). b || is_fault (next_among kept.input.records kept.input.tail)) is.faulted
     ∙ ap (λ (b : Bool). took_no_call acts || b) (fault_among kept.input.records kept.input.tail

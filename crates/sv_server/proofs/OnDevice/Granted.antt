@@ -354,7 +354,7 @@ pub lock_wait_needs_memory : (c : ℕ) (arguments : Arguments) (acts : List Devi
     → wants_memory (Waited (Entered c (lid_of (link arguments)) wait deadline) ∷ []) ≡ true
 lock_wait_needs_memory c (CreateLink client_id lock_device lock_timeout device) acts wait until deadline lt e makes =
     rw (link_waits_for_lock _ (may_make_more acts) lock_device _ lock_timeout wait until e).1
-        (or_left _ _ (one_creation_or_dial c None deadline lt).0)
+    (or_left _ _ (one_creation_or_dial c None deadline lt).0)
 lock_wait_needs_memory c _ acts wait until deadline lt e makes = absurd (let z : false ≡ true = makes in cc)
 
 pub dial_needs_memory : (c : ℕ) (named deadline : Option ℕ) → c < 16 → wants_memory (Waited (Entered c named Dial deadline) ∷ []) ≡ true

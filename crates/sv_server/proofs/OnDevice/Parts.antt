@@ -207,7 +207,7 @@ device_made kept links config acts lid c is place stands spare =
     device_linked kept links kept.intr config acts (Made lid c ∷ []) is stands
     (omega (arith, place.0, made_live lid c (link_acts acts))) (omega (arith, place.1, spare))
     (told_if_none_destroyed kept.intr acts (Made lid c) is.6 (λ channel_log. refl)
-        (owned_made kept.intr.enabled (link_acts acts) lid c is.6.3))
+    (owned_made kept.intr.enabled (link_acts acts) lid c is.6.3))
     (λ d ready. ready)
 
 -- ---- more memory for links

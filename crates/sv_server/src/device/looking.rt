@@ -46,13 +46,13 @@ impl<A: Allocator> Device<A> {
         self.links.holder()
     }
 
-    /// The links, by rising number.
-    pub fn all_links(&self) -> ArrayVec<Listed, MOST_LINKS>
+    /// Makes `found` the list of the links, by rising number.
+    pub fn list_links(&self, found: &mut ArrayVec<Listed, MOST_LINKS>)
         ensures { (config : Config) (acts : List DeviceAct) → IsDevice self.now config acts
-            → result.items
+            → found.new.items
             ≡ map (λ link. record { lid = link.lid; conn = link.conn }) (live (link_acts acts)) }
     {
-        let mut found = ArrayVec::new();
+        found.clear();
         let mut next = self.first_link();
         for _ in 0..MOST_LINKS {
             match next {
@@ -63,10 +63,9 @@ impl<A: Allocator> Device<A> {
                     });
                     next = self.links.after(link.lid);
                 }
-                None => return found,
+                None => return,
             }
         }
-        found
     }
 
     /// The link with the lowest number; `None` if there is no link. No history gives a link number
@@ -81,21 +80,20 @@ impl<A: Allocator> Device<A> {
         }
     }
 
-    /// The links that have service requests enabled, by rising number.
-    pub fn asking_links(&self) -> ArrayVec<Listed, MOST_LINKS>
+    /// Makes `found` the list of the links that have service requests enabled, by rising number.
+    pub fn list_asking_links(&self, found: &mut ArrayVec<Listed, MOST_LINKS>)
         ensures { (config : Config) (acts : List DeviceAct) (channel_log : List ChannelAct)
-            → IsDevice self.now config acts → HearsOf acts channel_log → result.items
+            → IsDevice self.now config acts → HearsOf acts channel_log → found.new.items
             ≡ map (λ link. record { lid = link.lid; conn = link.conn })
             (enabled_links channel_log) }
     {
-        let mut found = ArrayVec::new();
+        found.clear();
         for index in 0..32 {
             match self.intr.enabled_link(index) {
                 Some((lid, conn)) => found.push(Listed { lid, conn }),
-                None => return found,
+                None => return,
             }
         }
-        found
     }
 
     /// The suspended call of a connection; `None` if the connection has none.

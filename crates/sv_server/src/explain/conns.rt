@@ -75,18 +75,17 @@ fn put_in(conns: &mut ArrayVec<ConnShown, CONNECTIONS>, conn: Conn, new: ConnSho
 }
 
 impl<A: Allocator> Server<A> {
-    /// What is told of the connections.
-    pub(crate) fn conns_shown(&self) -> ArrayVec<ConnShown, CONNECTIONS>
+    /// Makes `found` what is told of the connections.
+    pub(crate) fn list_conns(&self, found: &mut ArrayVec<ConnShown, CONNECTIONS>)
         ensures { (config : Config) (log : List Act) → Represents self.now config log
-            → AreConns result.items log }
+            → AreConns found.new.items log }
     {
-        let mut found = ArrayVec::new();
+        found.clear();
         for number in 0..self.conns_to_tell() {
             if let Some(conn) = Conn::new(number) {
-                put_in(&mut found, conn, self.conn_shown(conn));
+                put_in(found, conn, self.conn_shown(conn));
             }
         }
-        found
     }
 
     /// Writes what changed of the connections, and updates `shown`.

@@ -86,16 +86,15 @@ pub(crate) fn settings_shown<A: Allocator>(scanner: &Scanner<A>) -> SettingsShow
     }
 }
 
-/// The channels of the scan list.
-pub(crate) fn list_shown<A: Allocator>(scanner: &Scanner<A>) -> ArrayVec<i16, 128>
+/// Makes `found` the channels of the scan list.
+pub(crate) fn list_channels<A: Allocator>(scanner: &Scanner<A>, found: &mut ArrayVec<i16, 128>)
     ensures { (acts : List ScanAct) → Scans scanner.now acts
-        → result.items ≡ map pos (scan_list (effective acts)) }
+        → found.new.items ≡ map pos (scan_list (effective acts)) }
 {
-    let mut found = ArrayVec::new();
+    found.clear();
     for channel in scanner.list() {
         found.push(i16::from(*channel));
     }
-    found
 }
 
 /// The word of a state of the trigger system.
@@ -165,19 +164,18 @@ pub(crate) fn message_shown<A: Allocator>(instrument: &Instrument<A>) -> Message
     }
 }
 
-/// The numbers of the errors in a queue, the oldest first.
-pub(crate) fn errors_shown<A: Allocator>(queue: &ErrorQueue<A>) -> ArrayVec<i16, 64>
+/// Makes `found` the numbers of the errors in a queue, the oldest first.
+pub(crate) fn list_errors<A: Allocator>(queue: &ErrorQueue<A>, found: &mut ArrayVec<i16, 64>)
     ensures { (acts : List QueueAct) → Queues queue.now acts
-        → result.items ≡ map number_of (queue_codes acts) }
+        → found.new.items ≡ map number_of (queue_codes acts) }
 {
-    let mut found = ArrayVec::new();
+    found.clear();
     for index in 0..queue.count() {
         match queue.entry(index) {
             Some(code) => found.push(code.number()),
-            None => return found,
+            None => return,
         }
     }
-    found
 }
 
 impl<A: Allocator> Server<A> {
@@ -186,53 +184,32 @@ impl<A: Allocator> Server<A> {
         ensures { (config : Config) (log : List Act) → Represents self.now config log
             → IsShown result log }
     {
-        Shown {
-            conns: self.conns_shown(),
-            links: self.links_shown(),
-            scanner: self.scanner_shown(),
-            exchange: self.exchange_shown(),
-            statuses: self.statuses_shown(),
-        }
-    }
-
-    /// What is told of the links and the lock.
-    #[inline(always)]
-    pub(crate) fn links_shown(&self) -> LinksShown
-        ensures { (config : Config) (log : List Act) → Represents self.now config log
-            → AreLinks result (device_acts log) }
-    {
-        LinksShown {
-            links: self.device.all_links(),
-            lock: self.device.lock_holder(),
-            asking: self.device.asking_links(),
-        }
-    }
-
-    /// What is told of the scanner.
-    #[inline(always)]
-    pub(crate) fn scanner_shown(&self) -> ScannerShown
-        ensures { (config : Config) (log : List Act) → Represents self.now config log
-            → IsScanner result (instrument_acts (device_acts log)) }
-    {
-        let scanner = self.device.instrument().layers().scanner();
-        ScannerShown {
-            settings: settings_shown(scanner),
-            list: list_shown(scanner),
-            measurement: measurement_shown(scanner),
-        }
-    }
-
-    /// What is told of message exchange and of the errors.
-    #[inline(always)]
-    pub(crate) fn exchange_shown(&self) -> ExchangeShown
-        ensures { (config : Config) (log : List Act) → Represents self.now config log
-            → IsExchange result (instrument_acts (device_acts log)) }
-    {
         let instrument = self.device.instrument();
-        ExchangeShown {
-            message: message_shown(instrument),
-            errors: errors_shown(instrument.layers().errors()),
-        }
+        let scanner = instrument.layers().scanner();
+        let mut shown = Shown {
+            conns: ArrayVec::new(),
+            links: LinksShown {
+                links: ArrayVec::new(),
+                lock: self.device.lock_holder(),
+                asking: ArrayVec::new(),
+            },
+            scanner: ScannerShown {
+                settings: settings_shown(scanner),
+                list: ArrayVec::new(),
+                measurement: measurement_shown(scanner),
+            },
+            exchange: ExchangeShown {
+                message: message_shown(instrument),
+                errors: ArrayVec::new(),
+            },
+            statuses: self.statuses_shown(),
+        };
+        self.list_conns(&mut shown.conns);
+        self.device.list_links(&mut shown.links.links);
+        self.device.list_asking_links(&mut shown.links.asking);
+        list_channels(scanner, &mut shown.scanner.list);
+        list_errors(instrument.layers().errors(), &mut shown.exchange.errors);
+        shown
     }
 
     /// What is told of the status registers and of the status byte.

@@ -9,9 +9,10 @@ ghost use Rattle.sv_explain.specs.Changes.{changes, all_links_lines, scanner_lin
 ghost use Rattle.sv_server.specs.Server.State.{Represents};
 
 use crate::explain::shown::{
-    errors_shown, list_shown, measurement_shown, message_shown, settings_shown,
+    list_channels, list_errors, measurement_shown, message_shown, settings_shown,
 };
 use crate::server::Server;
+use arrayvec::ArrayVec;
 use std::alloc::Allocator;
 use std::io::Write;
 use sv_explain::{ExchangeShown, LinksShown, ScannerShown, Shown, StatusesShown, put_statuses};
@@ -38,7 +39,9 @@ impl<A: Allocator> Server<A> {
             × Prints (W.contents writer.old) failed.old (W.contents writer.new) failed.new
             (all_links_lines shown.old shown.new) }
     {
-        let (links, asking) = (self.device.all_links(), self.device.asking_links());
+        let (mut links, mut asking) = (ArrayVec::new(), ArrayVec::new());
+        self.device.list_links(&mut links);
+        self.device.list_asking_links(&mut asking);
         shown.update(links, self.device.lock_holder(), asking, writer, failed);
     }
 
@@ -50,8 +53,10 @@ impl<A: Allocator> Server<A> {
             (scanner_lines shown.old shown.new) }
     {
         let scanner = self.device.instrument().layers().scanner();
-        let (settings, list) = (settings_shown(scanner), list_shown(scanner));
-        shown.update(settings, list, measurement_shown(scanner), writer, failed);
+        let (settings, measurement) = (settings_shown(scanner), measurement_shown(scanner));
+        let mut list = ArrayVec::new();
+        list_channels(scanner, &mut list);
+        shown.update(settings, list, measurement, writer, failed);
     }
 
     /// Writes what changed of message exchange and of the errors, and updates `shown`.
@@ -62,7 +67,8 @@ impl<A: Allocator> Server<A> {
             (exchange_lines shown.old shown.new) }
     {
         let instrument = self.device.instrument();
-        let errors = errors_shown(instrument.layers().errors());
+        let mut errors = ArrayVec::new();
+        list_errors(instrument.layers().errors(), &mut errors);
         shown.update(message_shown(instrument), errors, writer, failed);
     }
 

@@ -108,6 +108,7 @@ impl<A: Allocator> Server<A> {
     }
 
     /// Applies an immediate trigger, if a trigger is due. Returns whether a trigger was applied.
+    #[inline(always)]
     fn fire(&mut self) -> bool
         ensures steps { (config : Config) (log : List Act) → Represents self.old config log
             → TakesStep (λ config. InstrumentDoes IsFired) result config log self.old self.new }
@@ -121,6 +122,7 @@ impl<A: Allocator> Server<A> {
     }
 
     /// Takes a step of message exchange, if such a step is due. Returns whether a step was taken.
+    #[inline(always)]
     fn exchange(&mut self) -> bool
         ensures steps { (config : Config) (log : List Act) → Represents self.old config log
             → TakesStep (λ config. InstrumentDoes IsStep) result config log self.old self.new }
@@ -136,6 +138,7 @@ impl<A: Allocator> Server<A> {
     }
 
     /// Resumes the oldest suspended call that can resume. Returns whether there was such a call.
+    #[inline(always)]
     fn resume_oldest(&mut self) -> bool
         ensures steps { (config : Config) (log : List Act) → Represents self.old config log
             → TakesStep Resumes result config log self.old self.new }
@@ -156,6 +159,7 @@ impl<A: Allocator> Server<A> {
 
     /// Times out the oldest suspended call whose deadline has come. Returns whether there was such
     /// a call.
+    #[inline(always)]
     fn give_up_oldest(&mut self) -> bool
         ensures steps { (config : Config) (log : List Act) → Represents self.old config log
             → TakesStep TimesOut result config log self.old self.new }
@@ -206,6 +210,7 @@ impl<A: Allocator> Server<A> {
 
     /// Takes the steps that are due, up to and including the first step in which a call resumes or
     /// times out. Returns whether a call resumed or timed out.
+    #[inline(always)]
     fn settle_to_call(&mut self) -> bool
         ensures goes { (config : Config) (log : List Act) → Represents self.old config log
             → GoesTo config log (λ mid. result ≡ false → IsSettled config mid) self.new }

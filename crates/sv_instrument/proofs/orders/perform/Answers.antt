@@ -1,7 +1,6 @@
 use Rattle.std.proofs.Common.{arith, ap}
 use Rattle.sv_exchange.specs.Contents.{exchange_measure}
 use Rattle.sv_instrument.proofs.Units.{behaves_apart, configured_apart}
-use Rattle.sv_instrument.proofs.orders.perform.Goals.{in-Apply}
 use Rattle.sv_instrument.proofs.orders.perform.Goals as goal
 
 pub returns-in-Do-clause-behaves : goal.returns-in-Do-clause-behaves
@@ -55,6 +54,4 @@ returns-in-Configure-clause-advances g c = record {
 }
 
 pub returns-clause-behaves : goal.returns-clause-behaves
-returns-clause-behaves g c = λ start log h.
-    let b = c.carry_out.ensures.behaves start log h in
-    elim c.match-order.branch [ in-Apply w ↦ rw w.in-Apply.is (rw w.change-is at b) ]
+returns-clause-behaves g c = λ start log h. rw c.in-Apply.is (c.carry_out.ensures.behaves start log h)

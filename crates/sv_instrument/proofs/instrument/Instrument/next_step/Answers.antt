@@ -80,7 +80,7 @@ pub start-requires-clause-free : goal.start-requires-clause-free
 start-requires-clause-free g c = c.requires
 
 pub finish-requires : goal.finish-requires
-finish-requires g c = rw (← c.self.view_is) (ap next_of (sym c.exchange.ensures.value) ∙ sym c.in-Finish.ensures.value)
+finish-requires g c = ap next_of (sym c.exchange.ensures.value) ∙ sym c.in-Finish.ensures.value
 
 pub start-requires-clause-due : goal.start-requires-clause-due
 start-requires-clause-due g c = rw (← c.self.view_is) (_, ap next_of (sym c.exchange.ensures.value) ∙ sym c.in-Unit.ensures.value)

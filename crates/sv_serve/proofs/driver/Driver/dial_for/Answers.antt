@@ -12,7 +12,7 @@ returns-in-Some-None g c = λ first config history stands wants.
     let (h1, s1, p1) = c.connect_result.ensures _ config h0 s0 still in (
       h1,
       s1,
-      dials_for_as g.W.Wire.hears c.args.conn c.args.wanted c.args.dials (Some c.in-Some-None.dial) None config
+      dials_for_as g.W.Wire.hears c.args.conn c.args.wanted c.args.dialed (Some c.in-Some-None.dial) None config
           (driver_view c.args.self.now history) (driver_view c.connect_result.new.self h1) c.in-Some-None.is-0 c.in-Some-None.is-1
           (c.start_connect-answer.result, (driver_view c.start_connect-answer.new.self h0, p0, p1)),
     )
@@ -25,7 +25,7 @@ returns-in-Some-Some g c = λ first config history stands wants.
     let (h1, s1, p1) = c.poll_result.ensures _ config h0 s0 (_, still) in (
       h1,
       s1,
-      dials_for_as g.W.Wire.hears c.args.conn c.args.wanted c.args.dials _ _ config
+      dials_for_as g.W.Wire.hears c.args.conn c.args.wanted c.args.dialed _ _ config
           (driver_view c.args.self.now history) (driver_view c.poll_result.new.self h1) c.in-Some-Some.is-0 c.in-Some-Some.is-1
           (c.poll_connect-answer.result, (driver_view c.poll_connect-answer.new.self h0, p0, p1)),
     )

@@ -13,7 +13,7 @@ returns g c = λ config log rep.
     let layered = c.layers.ensures instrument stands in (
       subst (λ (shown : ExchangeShown). IsExchange shown instrument) (sym c.update.ensures.value) (record {
         message = c.message_shown.ensures instrument stands;
-        errors = c.errors_shown-errors.ensures (queue_acts instrument) (c.errors.ensures instrument layered.stands);
+        errors = c.list_errors.ensures (queue_acts instrument) (c.errors.ensures instrument layered.stands);
       }),
       c.update.ensures.lines,
     )

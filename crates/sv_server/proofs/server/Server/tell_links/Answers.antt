@@ -9,9 +9,9 @@ returns g c = λ config log rep.
     let held = rw (← c.self.view_is) at rep in
     let acts = device_acts log in (
       subst (λ (shown : LinksShown). AreLinks shown acts) (sym c.update.ensures.value) (record {
-        links = c.all_links-links.ensures config acts held.device;
+        links = c.list_links.ensures config acts held.device;
         lock = c.lock_holder.ensures config acts held.device;
-        asking = λ channel_log tells. c.asking_links-asking.ensures config acts channel_log held.device tells;
+        asking = λ channel_log tells. c.list_asking_links.ensures config acts channel_log held.device tells;
       }),
       c.update.ensures.lines,
     )

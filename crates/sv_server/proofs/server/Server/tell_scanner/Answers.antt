@@ -13,8 +13,8 @@ returns g c = λ config log rep.
     let scanner = c.scanner-scanner.ensures.stands instrument (c.layers.ensures instrument stands).stands in (
       subst (λ (shown : ScannerShown). IsScanner shown instrument) (sym c.update.ensures.value) (record {
         settings = c.settings_shown-settings.ensures (scan_acts instrument) scanner;
-        list = c.list_shown-list.ensures (scan_acts instrument) scanner;
-        measurement = c.measurement_shown.ensures (scan_acts instrument) scanner;
+        list = c.list_channels.ensures (scan_acts instrument) scanner;
+        measurement = c.measurement_shown-measurement.ensures (scan_acts instrument) scanner;
       }),
       c.update.ensures.lines,
     )

@@ -22,5 +22,5 @@ returns-clause-concludes g c = λ config polled acts before is busy at may.
           (λ log effect ends. c.conclude.ensures.ends config acts log effect is busy ends),
       rw c.conclude.ensures.waiting
           (continued_leaves_or_waits c.args.reason _ _ config polled c.args.conn.number call before _ _ so
-              c.continue_call-outcome.ensures.waiting),
+          c.continue_call-outcome.ensures.waiting),
     )

@@ -1,5 +1,5 @@
 use Rattle.std.proofs.Common.{◌≡◌, length, map, take, pos}
-use Rattle.sv_server.proofs.explain.shown.list_shown.Given as goal
+use Rattle.sv_server.proofs.explain.shown.list_channels.Given as goal
 
 -- The channels so far are the first ones of the list.
 abbrev pub invariant-loop-channel : goal.invariant-loop-channel

@@ -1,8 +1,8 @@
 use Rattle.std.proofs.Common.{◌≡◌, ℕ, ◌+◌, max, arith}
 use Rattle.sv_server.specs.Explain.Inside.Conns.{IsPut}
 use Rattle.sv_server.proofs.OnShown.Conns.{one_more_is_shown, all_are_shown}
-use Rattle.sv_server.proofs.server.Server.conns_shown.Goals as goal
-use Rattle.sv_server.proofs.server.Server.conns_shown.Goals.{in-Some, in_default}
+use Rattle.sv_server.proofs.server.Server.list_conns.Goals as goal
+use Rattle.sv_server.proofs.server.Server.list_conns.Goals.{in-Some, in_default}
 
 one_longer : (a b n : ℕ) → b ≡ max a (n + 1) → a ≡ n → b ≡ n + 1
 one_longer a b n e f = grind arith

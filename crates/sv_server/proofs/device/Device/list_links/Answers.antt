@@ -3,12 +3,12 @@ use Rattle.sv_links.specs.Links.{live}
 use Rattle.sv_history.specs.Act.{link_acts}
 use Rattle.sv_server.proofs.OnShown.Lists.{one_more, all_found, past_end}
 use Rattle.sv_server.proofs.OnShown.Links.{listed, next_is}
-use Rattle.sv_server.proofs.device.Device.all_links.Goals as goal
+use Rattle.sv_server.proofs.device.Device.list_links.Goals as goal
 
 pub loop-init : goal.loop-init
 loop-init g c = record {
-  count = rw c.new-found.ensures refl;
-  are = λ config acts old. c.new-found.ensures;
+  count = rw c.clear.ensures refl;
+  are = λ config acts old. c.clear.ensures;
   next = c.first_link-next.ensures;
 }
 

@@ -4,7 +4,7 @@ use Rattle.sv_links.specs.Links.{live}
 use Rattle.sv_history.specs.declared.event.Config.{Config}
 use Rattle.sv_history.specs.Act.{DeviceAct, link_acts}
 use Rattle.sv_server.specs.Device.Representation.{IsDevice}
-use Rattle.sv_server.proofs.device.Device.all_links.Given as goal
+use Rattle.sv_server.proofs.device.Device.list_links.Given as goal
 
 -- The links found so far are the first live ones, and `next` is the live link after them.
 abbrev pub invariant-loop : goal.invariant-loop

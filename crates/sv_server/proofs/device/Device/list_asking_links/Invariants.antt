@@ -4,7 +4,7 @@ use Rattle.sv_history.specs.declared.event.Config.{Config}
 use Rattle.sv_history.specs.Act.{DeviceAct}
 use Rattle.sv_history.specs.Requests.{HearsOf}
 use Rattle.sv_server.specs.Device.Representation.{IsDevice}
-use Rattle.sv_server.proofs.device.Device.asking_links.Given as goal
+use Rattle.sv_server.proofs.device.Device.list_asking_links.Given as goal
 
 -- The links found so far are the first ones with service requests enabled.
 abbrev pub invariant-loop-index : goal.invariant-loop-index

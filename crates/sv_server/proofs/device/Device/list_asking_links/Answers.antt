@@ -8,7 +8,7 @@ use Rattle.sv_links.proofs.Rising.{enabled_sorted}
 use Rattle.sv_server.specs.Device.Representation.{AreOwned}
 use Rattle.sv_server.proofs.OnShown.Lists.{all_found}
 use Rattle.sv_server.proofs.OnShown.Links.{listed_enabled, asking_more, asking_end, asking_few}
-use Rattle.sv_server.proofs.device.Device.asking_links.Goals as goal
+use Rattle.sv_server.proofs.device.Device.list_asking_links.Goals as goal
 
 pub returns-in-None : goal.returns-in-None
 returns-in-None g c = λ config acts channel_log old heard.

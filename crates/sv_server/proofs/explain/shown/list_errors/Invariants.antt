@@ -2,7 +2,7 @@ use Rattle.std.proofs.Common.{◌≡◌, List, length, map, take}
 use Rattle.sv_errors.specs.declared.error_queue.QueueAct.{QueueAct}
 use Rattle.sv_errors.specs.Code.{number_of}
 use Rattle.sv_errors.specs.ErrorQueue.{queue_codes, StandsFor}
-use Rattle.sv_server.proofs.explain.shown.errors_shown.Given as goal
+use Rattle.sv_server.proofs.explain.shown.list_errors.Given as goal
 
 -- The numbers so far are those of the first errors of the queue.
 abbrev pub invariant-loop-index : goal.invariant-loop-index

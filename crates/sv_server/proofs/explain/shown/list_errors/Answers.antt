@@ -3,7 +3,7 @@ use Rattle.std.proofs.lemmas.Int.{to_z-of_z}
 use Rattle.sv_errors.specs.Code.{number_of}
 use Rattle.sv_errors.specs.ErrorQueue.{queue_codes}
 use Rattle.sv_server.proofs.OnShown.Lists.{one_more}
-use Rattle.sv_server.proofs.explain.shown.errors_shown.Goals as goal
+use Rattle.sv_server.proofs.explain.shown.list_errors.Goals as goal
 
 pub loop-index-preserved : goal.loop-index-preserved
 loop-index-preserved g c =

@@ -3,7 +3,7 @@ use Rattle.sv_history.specs.declared.event.Config.{Config}
 use Rattle.sv_history.specs.Act.{Act}
 use Rattle.sv_server.specs.Server.State.{Represents}
 use Rattle.sv_explain.specs.Shown.{IsConn, never_opened}
-use Rattle.sv_server.proofs.server.Server.conns_shown.Given as goal
+use Rattle.sv_server.proofs.server.Server.list_conns.Given as goal
 
 -- The connections below the number are shown.
 abbrev pub invariant-loop-number : goal.invariant-loop-number
