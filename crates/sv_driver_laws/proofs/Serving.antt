@@ -310,7 +310,7 @@ still_shut : (c : ℕ) (end : List Act) (channel_log : List ChannelAct) → Hear
     → is_channel_open c channel_log ≡ false → is_port_shut (Intr c) end ≡ true
 still_shut c end channel_log hears_of shut =
     let none : has_channel c (device_acts end) ≡ false = sym (channel_open_by_channel_log c (device_acts end) channel_log hears_of)
-        ∙ shut in
+    ∙ shut in
     rw none (or-true (nat_lt 15 c))
 
 by_port : (P : Port → Type 0) → ((c : ℕ) → P (Conn c)) → ((c : ℕ) → P (Intr c)) → (port : Port) → P port

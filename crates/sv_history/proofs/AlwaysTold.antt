@@ -1,4 +1,5 @@
--- For any acts, there are a byte that a serial poll returns and a list of acts of the channels.
+-- Any acts determine a byte that a serial poll returns, and a list of acts of the interrupt
+-- channels.
 use Rattle.std.proofs.Common.{◌≡◌, ℕ, Bool, true, false, eqb, List, [], ◌∷◌, refl, ◌⊎◌, inl, inr, bit_and, bit_or, arith}
 use Rattle.std.specs.Prelude.{◌↔◌, ◌&&◌, ◌||◌, not, bit_xor}
 use Rattle.std.specs.Int.{bit_at}

@@ -1,4 +1,4 @@
--- The unit that is due is the first unit of the message that isn't done.
+-- In a message, the first unit that isn't done is the unit that is due.
 use Rattle.std.proofs.Common.{◌≡◌, ℕ, ◌==◌, Bool, true, false, not, ◌&&◌, List}
 use Rattle.std.specs.Prelude.{Option, Some, None, if◌then◌else◌}
 use Rattle.sv_exchange.specs.Exchange.{ExchangeAct, current, units_done, has_ended, is_long, has_overrun, next_unit, response, is_something, OverrunDue, UnitDue, due, due_unit}

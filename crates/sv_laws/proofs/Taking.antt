@@ -150,7 +150,7 @@ calls_are_unlimited c (ChannelClosed conn ∷ acts) h = ap (λ (l : List (List �
 calls_are_unlimited c (Requested ∷ acts) (all, h) =
     requested_free (peer c acts) (bytes_taken c acts) (calls c acts) (handles_of c (enabled_links acts)) all
     ∙ ap (λ (l : List (List ℕ)). fold (add_call_unlimited (peer c acts)) l (handles_of c (enabled_links acts)))
-        (calls_are_unlimited c acts h)
+    (calls_are_unlimited c acts h)
 calls_are_unlimited c (_ ∷ acts) h = calls_are_unlimited c acts h
 
 all_calls_are_unlimited : (c : ℕ) (acts : List ChannelAct) → NoneLeftOut c acts → all_calls c acts ≡ all_calls_unlimited c acts
@@ -160,7 +160,7 @@ all_calls_are_unlimited c (Requested ∷ acts) h =
     ∙ ap (λ (l : List (List ℕ)). all_calls_unlimited c acts ++ drop (length l) (calls c (Requested ∷ acts)))
     (calls_are_unlimited c acts h.1)
     ∙ ap (λ (l : List (List ℕ)). all_calls_unlimited c acts ++ drop (length (calls_unlimited c acts)) l)
-        (calls_are_unlimited c (Requested ∷ acts) h)
+    (calls_are_unlimited c (Requested ∷ acts) h)
 all_calls_are_unlimited c (_ ∷ acts) h = all_calls_are_unlimited c acts h
 
 same_calls : (c : ℕ) (acts other : List ChannelAct) → NoneLeftOut c acts → NoneLeftOut c other → untaken acts ≡ untaken other

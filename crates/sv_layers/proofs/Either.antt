@@ -1,4 +1,4 @@
--- Equivalences of alternatives: replacing one side, and reordering.
+-- Equivalences of statements of the form "A or B": replacing one side, and reordering.
 use Rattle.std.proofs.Common.{◌≡◌, Bool, true, ◌∙◌, sym, ◌⊎◌, inl, inr, arith}
 use Rattle.std.specs.Prelude.{◌↔◌}
 

@@ -1,4 +1,5 @@
--- The search of an event register tests transitions exactly as the definition of the register says.
+-- The search for an event register's bits tests the transitions of conditions as the register's
+-- definition does.
 use Rattle.std.proofs.Common.{◌≡◌, ℕ, Bool, true, false, List, refl, ◌⊎◌, arith, eq-eqb}
 use Rattle.std.specs.Prelude.{◌↔◌, not, ◌&&◌, ◌||◌}
 use Rattle.std.specs.Int.{bit_at}

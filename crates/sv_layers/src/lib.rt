@@ -1,5 +1,6 @@
-//! The layers of the instrument, joined: an act changes the layer that it belongs to; then one
-//! status register after the other is updated; then the status byte is updated.
+//! Joins the layers of the instrument (scanner, message exchange, error queue, status). An act,
+//! which is one recorded change, changes the layer that it belongs to; then one status register
+//! after the other is updated; then the status byte is updated.
 //!
 //! Only [`Layers::new`] allocates.
 #![tactic(auto)]

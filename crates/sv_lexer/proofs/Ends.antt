@@ -1,4 +1,4 @@
--- What is left of a text without its trailing white space, found from its first byte on.
+-- Removing the trailing white space of a text, byte by byte from the text's first byte to its last.
 use Rattle.std.proofs.Common.{◌≡◌, ℕ, suc, ◌+◌, Bool, true, false, not, ◌&&◌, cond, List, [], ◌∷◌, ◌++◌, take, drop, refl, sym, ap, ◌∙◌, arith}
 use Rattle.std.specs.Prelude.{reverse}
 use Rattle.std.specs.List.{list_all, position_or_len}

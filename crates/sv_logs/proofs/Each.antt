@@ -1,5 +1,5 @@
--- A property of each act of a list, given the acts before it. If two lists have it, so has the
--- joined list.
+-- If each act of two lists has a property, which may depend on the acts before it, then each act of
+-- the joined list has it.
 use Rattle.std.proofs.Common.{List, [], ◌∷◌, ◌++◌, sym, subst, append_assoc}
 use Rattle.std.specs.Prelude.{⊤}
 

@@ -1,5 +1,5 @@
--- `Since`: one property holds at some place of a log, and another one there and ever since. How one
--- more act changes this.
+-- `Since`: a first property holds at some place of a log, and a second property holds from there to
+-- the log's end. How one more act changes whether this is so.
 use Rattle.std.proofs.Common.{◌≡◌, ℕ, zero, suc, ◌≤◌, Bool, true, false, refl, List, [], ◌∷◌, length, drop, sym, subst, arith, ◌⊎◌, inl, inr}
 use Rattle.std.specs.Prelude.{◌↔◌, ◌&&◌, ◌||◌}
 use Rattle.std.proofs.lemmas.List.{drop_all}

@@ -1,4 +1,4 @@
--- A buffer's bytes cut into records by a list of lengths, and how much of the capacity they use.
+-- How a list of lengths divides a buffer's bytes into records, and how much capacity they use.
 use Rattle.std.proofs.Common.{◌≡◌, ℕ, ◌+◌, ◌*◌, ◌≤◌, Bool, List, [], ◌∷◌, ◌++◌, length, take, drop, refl, sym, ap, ◌∙◌, arith}
 use Rattle.std.specs.Prelude.{sum, sum_by}
 use Rattle.std.proofs.lemmas.List.{length-take-le, length-drop, take-append-le, drop-append-le, drop-drop}

@@ -1,5 +1,6 @@
-//! The server's driver: it moves bytes and time between a server and its sockets (the wire), sweep
-//! by sweep. In a sweep it serves each socket once, and applies the wire's answers to the server.
+//! The server's driver: in rounds called sweeps, it passes bytes between a server and its sockets
+//! (the wire), and tells the server the time. In a sweep it serves each socket once, and applies
+//! the wire's answers to the server.
 #![tactic(auto)]
 
 mod accepting;

@@ -1,4 +1,4 @@
--- The first position of an element; the length of the list if it has none.
+-- The first position of an element in a list, or the list's length if the element isn't in it.
 use Rattle.std.proofs.Common.{◌≡◌, ℕ, ◌≤◌, Bool, not, List, length, refl, inl, inr, unwrap_or, arith}
 use Rattle.std.specs.List.{position, position_or_len}
 use Rattle.std.proofs.lemmas.Bool.{cases_lt, lt-ltb, le-ltb}

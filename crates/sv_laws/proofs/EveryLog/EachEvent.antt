@@ -171,11 +171,11 @@ fit_dialed : (c : ℕ) (ok : Bool) (call : CoreCall) (peer : Option Peer) (log :
     → Fit (acts_of c (call_effect call.xid (leaving c (connect_outcome_for c ok call.arguments peer))) ++ log)
 fit_dialed c true call (Some peer) log fit =
     fit_without_suspended c (call_effect call.xid (leaving c (connect_outcome_for c true call.arguments (Some peer)))) log fit
-        (tt, (refl, tt)) refl
+    (tt, (refl, tt)) refl
     (left_is_not_suspended c (wait_acts (device_acts log)))
 fit_dialed c false call (Some peer) log fit =
     fit_without_suspended c (call_effect call.xid (leaving c (connect_outcome_for c false call.arguments (Some peer)))) log fit (refl, tt)
-        refl
+    refl
     (left_is_not_suspended c (wait_acts (device_acts log)))
 fit_dialed c ok call None log fit =
     fit_without_suspended c (call_effect call.xid (leaving c (connect_outcome_for c ok call.arguments None))) log fit (refl, tt) refl

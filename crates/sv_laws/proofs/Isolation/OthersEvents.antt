@@ -110,7 +110,7 @@ foreign_event config polled c lid (Open d role) log fit held mine other left_alo
 foreign_event config polled c lid (Bytes d piece) log fit held mine other left_alone = (not_same d c other, tt)
 foreign_event config polled c lid (Turn d) log fit held mine other left_alone =
     foreign_turn config polled c d lid (next_call (of d log)) (next_request (of d log)) log held mine (not_same d c other)
-        left_alone.0
+    left_alone.0
 foreign_event config polled c lid (Refuse d) log fit held mine other left_alone =
     each_refused d (others_acts_are_foreign c d (not_same d c other)) (next_call (of d log)) (refusable (of d log)) log
 foreign_event config polled c lid (Took (Conn d) count) log fit held mine other left_alone = (not_same d c other, tt)

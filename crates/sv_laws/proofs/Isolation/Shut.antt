@@ -116,11 +116,11 @@ others_call_is_foreign config polled c d lid (OnLink (pos n) (DeviceEnableSrq fa
     ]
 others_call_is_foreign config polled c d lid (OnLink (pos n) DestroyLink) acts held mine ne =
     elim (cases_Bool (is_of d (owner n (link_acts acts)))) [
-  | inl e ↦
-      let other = other_owner c d (owner n (link_acts acts)) ne (owner_is_of d (owner n (link_acts acts)) e) in
-      rw e (other, tt)
-  | inr e ↦ rw e tt
-]
+      | inl e ↦
+          let other = other_owner c d (owner n (link_acts acts)) ne (owner_is_of d (owner n (link_acts acts)) e) in
+          rw e (other, tt)
+      | inr e ↦ rw e tt
+    ]
 others_call_is_foreign config polled c d lid (OnLink (negsuc n) call) acts held mine ne = tt
 others_call_is_foreign config polled c d lid (CreateIntrChan host_addr host_port prog_num prog_vers prog_family) acts held mine ne =
     fault_or_waits config polled c d (CreateIntrChan host_addr host_port prog_num prog_vers prog_family) acts

@@ -14,6 +14,6 @@ pub returns : goal.returns
 returns g c = λ unit is.
     let due = rw (← c.self.view_is) at is in
     let first : slice_get (units (slice_range c.self.inside.text.items c.self.inside.cursor c.self.inside.end)) 0 ≡ Some unit =
-        search rules in
+    search rules in
     subst (IsLexed c.finish.result)
     (rw c.deref.ensures.value (found_unit_is_first c.self.inside.ahead _ unit c.self.invariant.1 first)) c.finish.ensures

@@ -55,8 +55,7 @@ returns-in-Finish g c = (
       let s = rw (← c.self.view_is) at h in
       let is = c.in-Finish.ensures.answer (exchange_acts log) (c.exchange.ensures.stands log s.layers.stands) in
       let runs = rw (← c.self.view_is) at (runs_at_start h) in
-      let path = finished_path log (sym c.requires ∙ h.held) in
-      (
+      let path = finished_path log (sym c.requires ∙ h.held) in (
         _,
         step_of log _ _ FinishDue (sym c.requires ∙ h.held) is refl,
         record { layers = counts c.finish.ensures.applied runs.layers; held = runs.held; path = rw c.root-self-inside.ensures path },

@@ -53,7 +53,7 @@ returns-clause-stands g c = λ log act status_log same h.
     c.mask_if.ensures ∙ cond_is_bit 0 (c.self.inside.waits && c.is_idle-idle.result)
     ∙ ap (λ (b : Bool). scan.bit 0 (b && c.is_idle-idle.result)) j.waits ∙ ap (λ (b : Bool). scan.bit 0 (begun.waits && b)) idle in
     let occurred = subst (λ (w : ℕ). Standards c.occur.new.self (Occur w ∷ begun.standard)) complete
-        (c.occur.ensures begun.standard j.standard) in
+    (c.occur.ensures begun.standard j.standard) in
     record {
       exchange = j.exchange;
       errors = j.errors;

@@ -39,11 +39,11 @@ returns-clause-limit g c acts is =
     let upper_fits = fits c.self.inside.settings.upper c.self.invariant.upper in
     let live_fits : SFits w64 c.voltage-live.result = search rules in
     let live_is = to_z-of_z w64 c.voltage-live.result live_fits ∙ c.voltage-live.ensures
-        ∙ held.inputs c.self.inside.settings.monitor c.self.invariant.monitor ∙ ap (λ (m : ℕ). input m (effective acts)) held.monitor in
+    ∙ held.inputs c.self.inside.settings.monitor c.self.invariant.monitor ∙ ap (λ (m : ℕ). input m (effective acts)) held.monitor in
     let outside = outside_by_comparisons (effective acts) _ _ _ live_is (lower_fits ∙ held.lower) (upper_fits ∙ held.upper) in
     limit_is (effective acts) _ _ _ _ _ _ _ _ c.limit_word.ensures held.limits held.lower held.upper (c.last_reading-last.ensures acts is)
     (c.is_below.ensures ∙ ap (is_below _) lower_fits) (c.is_above.ensures ∙ ap (is_above _) upper_fits)
     (elim c.if-live-self.branch [
-      then-live-self w ↦ w.outside-is ∙ w.if-live-self.true ∙ rw w.if-live-self.true at outside
-    | else-live-self w ↦ w.outside-is ∙ rw w.if-live-self.false at outside
+      | then-live-self w ↦ w.outside-is ∙ w.if-live-self.true ∙ rw w.if-live-self.true at outside
+      | else-live-self w ↦ w.outside-is ∙ rw w.if-live-self.false at outside
     ])
