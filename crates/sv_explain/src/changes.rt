@@ -151,6 +151,7 @@ fn put_message<W: Write>(writer: &mut W, failed: &mut bool, old: MessageShown, n
 }
 
 /// Writes the lines of what changed of a status register.
+#[inline(always)]
 fn put_register<W: Write>(
     writer: &mut W,
     failed: &mut bool,

@@ -1,6 +1,6 @@
 //! Text in parts.
 
-ghost use Rattle.std.specs.Prelude.{◌≡◌, ◌++◌, true, decimal, IfSome};
+ghost use Rattle.std.specs.Prelude.{◌≡◌, ◌++◌, true, decimal};
 ghost use Rattle.sv_print.specs.TakenByWriter.{IsTakenByWriter};
 ghost use Rattle.sv_print.specs.Parts.{part_text, parts_text};
 ghost use Rattle.sv_print.specs.Printed.{Prints};
@@ -93,19 +93,6 @@ fn append_all(text: &mut ArrayVec<u8, SHORT>, parts: &[Part<'_>]) -> bool
     true
 }
 
-/// The text of two lists of parts, if it is short and has nothing hexadecimal.
-#[inline(always)]
-fn short_text(first: &[Part<'_>], second: &[Part<'_>]) -> Option<ArrayVec<u8, SHORT>>
-    ensures { IfSome result (λ text.
-        text.items ≡ parts_text first.now ++ parts_text second.now) }
-{
-    let mut text = ArrayVec::new();
-    if append_all(&mut text, first) && append_all(&mut text, second) {
-        return Some(text);
-    }
-    None
-}
-
 /// Writes two lists of parts: a short text at once, and another one part by part.
 fn put_together<W: Write>(
     writer: &mut W,
@@ -115,13 +102,12 @@ fn put_together<W: Write>(
     ensures { IsTakenByWriter (W.contents writer.old) (W.contents writer.new) result
         (parts_text first.now ++ parts_text second.now) }
 {
-    match short_text(first, second) {
-        Some(text) => put_bytes(writer, text.as_slice()),
-        None => {
-            put_parts(writer, first)?;
-            put_parts(writer, second)
-        }
+    let mut text = ArrayVec::new();
+    if append_all(&mut text, first) && append_all(&mut text, second) {
+        return put_bytes(writer, text.as_slice());
     }
+    put_parts(writer, first)?;
+    put_parts(writer, second)
 }
 
 /// Writes two lists of parts, unless the writer has failed before (`failed`). If it fails now, it
