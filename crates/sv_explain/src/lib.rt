@@ -1,5 +1,5 @@
-//! What `scanvolt explain` tells: all values of a server at one moment, the lines of those that
-//! changed, and the lines of events and steps. No server is in here. Allocates nothing.
+//! What `scanvolt explain` tells: all values of a server at one moment, and a line for each value
+//! that changed, for each event and for each step. No server is in here. Allocates nothing.
 #![tactic(auto)]
 
 mod changes;

@@ -1,5 +1,5 @@
--- An event first adds its own act to a connection. All acts that it adds there after that are about
--- calls: a call taken, a fault or a reply.
+-- Of the acts that an event adds to a connection's log, all but the first are about calls: a call
+-- taken, a fault or a reply.
 use Rattle.std.proofs.Common.{◌≡◌, ℕ, eqb, true, false, List, [], ◌∷◌, ◌++◌, Option, Some, None, refl, sym, ap, subst, ◌∙◌, inl, inr, append_assoc}
 use Rattle.std.specs.Prelude.{map}
 use Rattle.std.proofs.lemmas.Bool.{cases_Bool}

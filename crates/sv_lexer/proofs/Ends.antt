@@ -1,4 +1,4 @@
--- Removing the trailing white space of a text, byte by byte from the text's first byte to its last.
+-- Where the trailing white space of a text begins, found by reading the text once from its front.
 use Rattle.std.proofs.Common.{◌≡◌, ℕ, suc, ◌+◌, Bool, true, false, not, ◌&&◌, cond, List, [], ◌∷◌, ◌++◌, take, drop, refl, sym, ap, ◌∙◌, arith}
 use Rattle.std.specs.Prelude.{reverse}
 use Rattle.std.specs.List.{list_all, position_or_len}

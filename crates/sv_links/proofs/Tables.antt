@@ -1,4 +1,4 @@
--- The table of links agrees with the acts: after a link is created or destroyed.
+-- After a link is created or destroyed, the table of links agrees with the acts.
 use Rattle.std.proofs.Common.{◌≡◌, ◌≢◌, ℕ, ◌+◌, ◌<◌, ◌≤◌, Bool, true, false, eqb, List, [], ◌∷◌, ◌++◌, Option, Some, None, Result, Ok, Err, refl, sym, ap, ◌∙◌, arith}
 use Rattle.std.specs.Prelude.{not, map, filter, length, slice_index_or, nat_lt, ◌&&◌}
 use Rattle.std.specs.List.{AllByRecursion}

@@ -1,4 +1,4 @@
--- No encoding of a field is a proper prefix of another field's encoding of the same type.
+-- Of two fields of one type, neither's encoding is a proper prefix of the other's.
 use Rattle.std.proofs.Common.{◌≡◌, ℕ, ◌+◌, Bool, true, false, List, [], ◌∷◌, ◌++◌, length, refl, sym, ap, subst, ◌∙◌, arith}
 use Rattle.std.specs.Prelude.{ℤ, pos, negsuc}
 use Rattle.std.specs.Int.{from_bool}
