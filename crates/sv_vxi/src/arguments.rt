@@ -202,13 +202,13 @@ impl Args<'_> {
     }
 }
 
-/// What the flags and the lock timeout of a call say: whether the call waits for the lock (bit 0 of
-/// the flags), and how long.
+/// What the flags and the lock timeout of a call say: whether the call waits for the lock, and how
+/// long.
 fn flagged(flags: Flags, timeout: u32) -> Option<LockWait>
     ensures { result ≡ flagged_by flags.0 timeout }
 {
     Some(LockWait {
-        waits: flags.0 % 2 == 1,
+        waits: flags.has_wait_lock(),
         timeout,
     })
 }

@@ -3,12 +3,18 @@
 ghost use Rattle.std.specs.Prelude.{◌≡◌, ◌==◌};
 ghost use Rattle.std.specs.Int.{bit_at};
 
-/// The flags of a call, any 32-bit number. Bit 0 says whether the call waits if another link holds
-/// the lock. Other bits that no function here tests are ignored.
+/// The flags of a call, any 32-bit number. Bits that no function here tests are ignored.
 #[derive(Clone, Copy)]
 pub struct Flags(pub u32);
 
 impl Flags {
+    /// Whether the call waits for the lock if another link holds it (bit 0).
+    pub fn has_wait_lock(self) -> bool
+        ensures { result ≡ (bit_at self.0 0 == 1) }
+    {
+        self.0 % 2 == 1
+    }
+
     /// Whether a write has END (bit 3). The last byte of a write with END ends the message. If a
     /// write with END has no bytes, the write itself ends the message.
     pub fn has_end(self) -> bool
