@@ -1,5 +1,5 @@
-//! The error queue, and what else the instrument's crates share: the error codes, the trait of a
-//! layer, the ranges of numbers, and the sources of triggers.
+//! The error queue, and what else the instrument's crates share: error codes, ranges of numbers,
+//! sources of triggers, and the trait `Layer` of the instrument's parts.
 //!
 //! Only [`ErrorQueue::new`] allocates.
 #![tactic(auto)]

@@ -1,5 +1,6 @@
-//! What `scanvolt explain` tells: all values of a server at one moment, and a line for each value
-//! that changed, for each event and for each step. No server is in here. Allocates nothing.
+//! What `scanvolt explain` prints: a line for each event, for each step that follows it, and for
+//! each value that changed. Also all values of a server at one moment. No server is in here.
+//! Allocates nothing.
 #![tactic(auto)]
 
 mod changes;

@@ -1,4 +1,4 @@
--- Every list of acts determines a byte that a serial poll returns, and what happens on the interrupt
+-- For each list of acts there are a byte that a serial poll returns, and a log of the interrupt
 -- channels.
 use Rattle.std.proofs.Common.{◌≡◌, ℕ, Bool, true, false, eqb, List, [], ◌∷◌, refl, ◌⊎◌, inl, inr, bit_and, bit_or, arith}
 use Rattle.std.specs.Prelude.{◌↔◌, ◌&&◌, ◌||◌, not, bit_xor}

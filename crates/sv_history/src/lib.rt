@@ -1,5 +1,5 @@
-//! The specification of the server: events; the log of a history of events; and the answers of the
-//! server, recomputed from the log.
+//! The specification of the server: events, the log of what they did, and the server's answers,
+//! recomputed from the log.
 //!
 //! Nothing here runs. `sv_server` is the code; its contracts cite these definitions.
 #![tactic(auto)]

@@ -1,4 +1,5 @@
--- Facts about each status register, by case on its name.
+-- Of each status register: its condition is first 0, its first enable mask fits in 16 bits, and
+-- equal acts and summaries give equal conditions.
 use Rattle.std.proofs.Common.{◌≡◌, ◌+◌, ◌<◌, ◌^◌, Bool, List, [], refl, ap, ◌∙◌, arith}
 use Rattle.sv_status.specs.declared.register_name.RegisterName.{RegisterName}
 use Rattle.sv_status.specs.declared.register_name.RegisterName.TheVariants.{Operation, Questionable, Limit}

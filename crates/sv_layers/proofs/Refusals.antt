@@ -1,4 +1,4 @@
--- A refused call returns exactly the error that the definition states.
+-- A refused act has the error that the definition names; for an act that is done, it names none.
 use Rattle.std.proofs.Common.{◌≡◌, refl}
 use Rattle.std.specs.Prelude.{Option, Some, None, Ok, Err}
 use Rattle.sv_errors.specs.declared.code.Code.{Code}

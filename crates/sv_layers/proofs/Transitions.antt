@@ -1,5 +1,5 @@
--- The search for an event register's bits tests the transitions of conditions as the register's
--- definition does.
+-- The test whether a condition bit's transition passes its filter agrees with the register's
+-- definition.
 use Rattle.std.proofs.Common.{◌≡◌, ℕ, Bool, true, false, List, refl, ◌⊎◌, arith, eq-eqb}
 use Rattle.std.specs.Prelude.{◌↔◌, not, ◌&&◌, ◌||◌}
 use Rattle.std.specs.Int.{bit_at}

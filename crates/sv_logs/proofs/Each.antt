@@ -1,5 +1,5 @@
--- If each act of two lists has a property, which may depend on the acts before it, then each act of
--- the joined list has it.
+-- A property of an act and the acts before it: if each act of two successive lists has it, so has
+-- each act of the joined list.
 use Rattle.std.proofs.Common.{List, [], ◌∷◌, ◌++◌, sym, subst, append_assoc}
 use Rattle.std.specs.Prelude.{⊤}
 

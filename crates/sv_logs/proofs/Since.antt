@@ -1,5 +1,5 @@
--- `Since`: a first property holds at some place of a log, and a second property holds from there to
--- the log's end. How one more act changes whether this is so.
+-- How one more act changes whether `Since` holds: a first property held at some place of the log,
+-- and a second property has held from there on.
 use Rattle.std.proofs.Common.{◌≡◌, ℕ, zero, suc, ◌≤◌, Bool, true, false, refl, List, [], ◌∷◌, length, drop, sym, subst, arith, ◌⊎◌, inl, inr}
 use Rattle.std.specs.Prelude.{◌↔◌, ◌&&◌, ◌||◌}
 use Rattle.std.proofs.lemmas.List.{drop_all}

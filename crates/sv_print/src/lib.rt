@@ -1,4 +1,4 @@
-//! Text for a writer: bytes, numbers and hexadecimal, one part after the other. Allocates nothing.
+//! Writes text in parts to a writer: bytes, numbers and hexadecimal. Allocates nothing.
 #![tactic(auto)]
 
 mod parts;

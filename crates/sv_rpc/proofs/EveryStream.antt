@@ -1,4 +1,4 @@
--- Reading a byte stream gives the records and the tail that it splits into.
+-- Reading a byte stream gives its complete records, and its tail, which is what follows them.
 use Rattle.std.proofs.Common.{◌≡◌, ℕ, zero, suc, ◌+◌, ◌-◌, ◌%◌, ◌<◌, ◌≤◌, ◌^◌, Bool, true, false, leb, List, [], ◌∷◌, ◌++◌, length, take, drop, refl, sym, ap, subst, ◌∙◌, inl, inr, append_assoc, arith, lt-ltb, le-ltb}
 use Rattle.std.specs.List.{concat, flat_map}
 use Rattle.std.specs.Int.{w32, from_be_bytes}

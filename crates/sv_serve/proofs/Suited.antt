@@ -1,5 +1,5 @@
--- The driver makes from an answer of its wire only an event that the server's methods allow. So the
--- server applies it.
+-- From its wire's answers, the driver makes only events that the server's methods allow. So the
+-- server applies them.
 use Rattle.std.proofs.Common.{◌≡◌, ℕ, ◌<◌, ◌≤◌, Bool, true, false, List, [], ◌∷◌, length, Option, Some, None, Result, Ok, Err, refl, sym, ap, subst, ◌∙◌, arith, le-ltb}
 use Rattle.std.specs.Prelude.{min, not, ◌||◌}
 use Rattle.sv_links.specs.Channels.{ChannelAct, waiting as channel_waiting}

@@ -1,5 +1,5 @@
 -- The status byte after one more act: whether service is requested (`request_..`), whether this
--- request is new (`raised_..`), and why the stored bits agree with the acts (`stands_for_..`).
+-- request is new (`raised_..`), and that the stored bits agree with the acts (`stands_for_..`).
 use Rattle.std.proofs.Common.{◌≡◌, ◌≢◌, ◌⊎◌, ℕ, Bool, true, false, ◌&&◌, ◌||◌, eqb, List, [], ◌∷◌, refl, ap, ◌∙◌, sym, inl, inr, bit_and, bit_or, ◌<◌, arith}
 use Rattle.std.specs.Prelude.{◌↔◌, not, bit_xor}
 use Rattle.std.specs.Int.{bit_at}

@@ -1,4 +1,4 @@
-//! Plays the test cases, called rows, of the standard input. No row depends on an earlier row.
+//! Runs the test cases, called rows, of the standard input. No row depends on an earlier row.
 //! Prints the title of each row, and then the results of the row.
 //!
 //! A title is a line `= WORDS`. The text of a row begins after its title and ends before the next

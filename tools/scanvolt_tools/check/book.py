@@ -286,7 +286,11 @@ def lines_like(repository: Repository, pattern: str, wanted: str) -> int:
 
 
 def crate_page(sources: Sources) -> Iterator[str]:
-    yield "# The crates\n\n| Crate | What it is | Uses | Clauses of functions | Clauses of laws | Mutants | Rows |"
+    yield (
+        "# The crates\n\nA clause is one statement in the contract of an exported function, or in a law. "
+        "[ARCHITECTURE](ARCHITECTURE.md#words)\nexplains act, log, layer, row, mutant and the steps.\n"
+    )
+    yield "| Crate | What it is | Uses | Clauses of functions | Clauses of laws | Mutants | Rows |"
     yield "|---|---|---|---|---|---|---|"
     order = list(sources.order)
     repository = sources.repository
