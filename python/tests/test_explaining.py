@@ -36,8 +36,9 @@ FOLDER = pathlib.Path(__file__).resolve().parent / "explained"
 TABLES = FOLDER.parents[2] / "tools" / "explaining"
 STORED = "hang"
 ASKED = {
-    "session": ("RQS@line 17", "RQS", "MAV", "ESR", "reading@3", "lock", "held@4"),
+    "session": ("RQS@line 17", "RQS", "MAV", "ESR", "reading@3", "lock", "held@4", "held", "error"),
     "hang": ("wait c0", "RQS", "error", "trigger", "held", "source"),
+    "hung": ("wait c0",),
     "lock": ("wait c1", "wait c0", "lock", "lock@85", "ESR.QYE"),
     "requests": ("RQS@line 33", "RQS@8", "stb", "error", "ESR.OPC@line 27", "ESR.OPC", "srq.2"),
     "scan": ("RQS", "OPER", "ques.VOLT", "ques.cond.VOLT", "oper.cond.BUSY@2", "stb.3"),

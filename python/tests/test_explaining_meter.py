@@ -48,7 +48,7 @@ class Explaining(WithMeter):
         found = self.meter.explain()
         self.assertIn('error -113 "Undefined header"', found.text())
         self.assertIn("at the end, 7 ms", found.text(3))
-        self.assertTrue(found.why("RQS").startswith("STB.RQS is set since 0 ms"))
+        self.assertTrue(found.why("RQS").startswith("STB.RQS has been set since 0 ms"))
         self.assertEqual((str(found), found.end()), (found.end(), "\n".join(found.end_lines())))
         self.assertIn("status    STB 68 (RQS, EAV)", found.end())
         self.assertIn("<title>mine", found.page("mine"))
@@ -107,7 +107,7 @@ class AtOnce(WithMeter):
         other = self.meter.connect().create_link(lock_timeout=LONG)
         self.asked(
             other,
-            r"(?s)device_read \(c1 link 2\) can't be answered.*link 1 \(c0\) holds the lock.*device_unlock of link 1",
+            r"(?s)device_read \(c1 link 2\) can't be answered.*link 1 \(c0\) has held the lock.*device_unlock of link 1",
         )
 
     def test_something_is_due(self) -> None:
@@ -148,7 +148,7 @@ class Notes(WithMeter):
         self.meter.external()
         self.meter.advance(100)
         first, second = notes_of(caught.exception)  # as of the moment of the error
-        self.assertEqual(first, "c0 link 1: device_read waited since 0 ms for a response")
+        self.assertEqual(first, "c0 link 1: device_read had waited since 0 ms for a response")
         self.assertIn("the scan waits for an EXTernal trigger (scan 1 of 3)", second)
 
     def test_without_a_wait(self) -> None:
@@ -173,7 +173,7 @@ class Notes(WithMeter):
         except DeviceError as fault:
             shown = "".join(traceback.format_exception(type(fault), fault, None))
             # since Python 3.11
-            self.assertEqual("waited since 0 ms" in shown, hasattr(BaseException, "add_note"))
+            self.assertEqual("had waited since 0 ms" in shown, hasattr(BaseException, "add_note"))
             again = pickle.loads(pickle.dumps(fault))
             self.assertEqual((again.number, str(again)), (fault.number, str(fault)))
 

@@ -246,7 +246,7 @@ class Ends(Case):
             began = time.monotonic()
             with self.assertRaisesRegex(
                 NoAnswer,
-                "no thread can go on:\nthread .*can't be answered(.|\n)*holds the lock(.|\n)*"
+                "no thread can go on:\nthread .*can't be answered(.|\n)*has held the lock(.|\n)*"
                 r"thread .* waits in another meter, at test_lockstep.py:\d+ in control",
             ):
                 with meter.threads(2), other.threads(2):

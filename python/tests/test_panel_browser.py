@@ -159,10 +159,10 @@ class InABrowser(WithPanel):
         waiting = threading.Thread(target=other.lock)
         waiting.start()
         page.wait(
-            "document.getElementById('waits').textContent.includes('c1 link 2 lock waits for the lock')"
+            r"/c1 link 2 lock has waited since [\d,]+ ms for the lock/.test(document.getElementById('waits').textContent)"
         )
         page.wait(
-            "document.getElementById('waits').textContent.includes('link 1 (c0) holds it since')"
+            "document.getElementById('waits').textContent.includes('link 1 (c0) has held it since')"
         )
         page.wait(
             "document.getElementById('links-now').textContent.includes('link 1holds the lock')"

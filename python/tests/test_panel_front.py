@@ -166,7 +166,7 @@ class Same(unittest.TestCase):
         self.assertEqual(
             found["waits"][0]["because"],
             [
-                "unit `*OPC?` of c0 waits until the scan is idle, since 0 ms",
+                "unit `*OPC?` of c0 has waited since 0 ms for the scan to be idle",
                 "the scan waits for an EXTernal trigger, scan 2 of 4",
             ],
         )
@@ -189,7 +189,7 @@ class Same(unittest.TestCase):
                 "for": "the lock",
                 "since": 5,
                 "until": 105,
-                "because": ["link 1 (c0) holds it since 5 ms"],
+                "because": ["link 1 (c0) has held it since 5 ms"],
             },
         )
 

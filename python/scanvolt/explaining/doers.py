@@ -46,11 +46,11 @@ class Doers:
             held = self.story.held_at(step)
             text = unit(held.text, UNIT_MOST) if held else "?"
             whose = of(self.story.call_of(held) if held else None)
-            return f"held unit `{text}` was answered{whose}"
+            return f"held unit `{text}`{whose} was answered"
         if step.kind == "fire":
             return "the IMMediate trigger"
         if step.kind == "overrun":
-            return f"the message was too long{of(call)}"
+            return f"the message{of(call)} was too long"
         if step.kind in ("resume", "timeout"):
             return call_words(call) + (" resumed" if step.kind == "resume" else " timed out")
         return call_words(call) if call else self.event(step.moment)

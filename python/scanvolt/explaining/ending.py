@@ -56,8 +56,8 @@ class Ending:
         else:
             most = "without a limit"
         after = f"; behind it {call_list(behind)}" if behind else ""
-        since = f"since {millis(wait.begin.moment.clock)}, place {place} in line, {most}{after}"
-        return [f"  {call.who}  {call.words} waits for the lock too, {since}"]
+        headline = self._reasons.headline(call, wait)
+        return [f"  {call.who}  {headline} too, place {place} in line, {most}{after}"]
 
     def _call(self, call: Call) -> list[str]:
         """A call that waits."""

@@ -83,7 +83,7 @@ def note(found: Explanation, conn: int, xid: int) -> list[str]:
     number = wait.end.number - 1 if wait.end is not None else found.story.end
     return [
         f"{call.who}: {found.reasons.headline(call, wait, True)}",
-        "because " + found.reasons.brief(wait, number),
+        "because " + found.reasons.brief(wait, number, True),
     ]
 
 

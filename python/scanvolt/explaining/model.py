@@ -59,7 +59,8 @@ class Model:
         if change is None:
             return Node(f"{self.title(name, bit)} is {word}, and was so at power on")
         node = Node(
-            f"{self.title(name, bit)} is {word} since {self._doers.by(change.step)}", change.step
+            f"{self.title(name, bit)} has been {word} since {self._doers.by(change.step)}",
+            change.step,
         )
         if depth < DEPTH:
             node.children = self.causes(name, bit, value, change, depth + 1)
@@ -97,14 +98,14 @@ class Model:
         return after & ~before, before & ~after
 
     def _newer(self, name: str, bit: int, step: Step, depth: int) -> Node:
-        """A bit on which a rise rests: with its causes if it rose in the same step, else since when it is set."""
+        """A bit on which a rise rests: with its causes if it rose in the same step, else when it was set."""
         change = self.flip(name, bit, step.number)
         if change is not None and change.step is step:
             node = Node(f"{self.title(name, bit)} rose in the same step", step)
             node.children = self.causes(name, bit, 1, change, depth + 1) if depth < DEPTH else []
             return node
         node = self.bit(name, bit, step.number, depth + 1)
-        node.text = node.text.replace(" is set since ", " was set at ")
+        node.text = node.text.replace(" has been set since ", " was set at ")
         return node
 
     def _sum(self, registers: tuple[str, str], value: int, step: Step, depth: int) -> list[Node]:
@@ -244,9 +245,9 @@ class Model:
         state = str(self._lines.at("state", step.number))
         source = str(self._lines.at("source", step.number))
         if state == "waiting":
-            said = f"the scan waits for {a(SOURCES[source])} trigger"
+            said = f"the scan has waited for {a(SOURCES[source])} trigger"
         else:
-            said = f"the scan is {state}"
+            said = f"the scan has been {state}"
         return [Node(f"{said} since {self._doers.by(step)}", step)]
 
     def _at(self, step: Step, name: str) -> Value:

@@ -124,7 +124,9 @@ class Why:
         change = self._lines.last("errors", number)
         if change is None:
             return Node("the error queue is empty, and was so at power on")
-        node = Node(f"the error queue is empty since {self._doers.by(change.step)}", change.step)
+        node = Node(
+            f"the error queue has been empty since {self._doers.by(change.step)}", change.step
+        )
         before = self._lines.last(
             "errors", number, lambda one: len(numbers(one.new)) > len(numbers(one.old))
         )
@@ -153,9 +155,9 @@ class Why:
     def plain(self, name: str, number: int) -> Node:
         """A value that isn't a register."""
         value, change = self._lines.at(name, number), self._lines.last(name, number)
-        said = self._said(name, value)
         if change is None:
-            return Node(said + ", and was so at power on")
+            return Node(self._said(name, value) + ", and was so at power on")
+        said = self._said(name, value, "has been", "has had", "has held")
         node = Node(f"{said} since {self._doers.by(change.step)}", change.step)
         if name == "lock":
             node.children = self._lock(value, change.step, number)
@@ -166,23 +168,25 @@ class Why:
             node.children = [self.plain("state", number)]
         return node
 
-    def _said(self, name: str, value: Value) -> str:
-        """A value in words."""
+    def _said(
+        self, name: str, value: Value, be: str = "is", has: str = "has", holds: str = "holds"
+    ) -> str:
+        """A value in words, with these verbs."""
         if name == "lock":
             if value == "none":
-                return "the lock is free"
-            return f"{self._telling.link(int(str(value)))} holds the lock"
+                return f"the lock {be} free"
+            return f"{self._telling.link(int(str(value)))} {holds} the lock"
         if name == "reading":
-            return "there is no reading" if value == "none" else reading(value)
+            return f"there {be} no reading" if value == "none" else reading(value)
         if name in ("range", "upper", "lower"):
-            return f"{name} is {volts(as_number(value))}"
+            return f"{name} {be} {volts(as_number(value))}"
         return {
-            "held": "no unit is held" if value == "none" else "a unit is held",
-            "state": f"the scan is {value}",
-            "source": f"the trigger source is {SOURCES.get(str(value), value)}",
-            "list": f"the scan list is {channels(value)}",
-            "response": f"the response has {value} bytes",
-        }.get(name, f"{name} is {shown(value)}")
+            "held": f"{'no' if value == 'none' else 'a'} unit {be} held",
+            "state": f"the scan {be} {value}",
+            "source": f"the trigger source {be} {SOURCES.get(str(value), value)}",
+            "list": f"the scan list {be} {channels(value)}",
+            "response": f"the response {has} {value} bytes",
+        }.get(name, f"{name} {be} {shown(value)}")
 
     def _lock(self, value: Value, step: Step, number: int) -> list[Node]:
         """Who waits for the lock, or who held it before."""
@@ -194,7 +198,7 @@ class Why:
             ]
             return [
                 Node(
-                    f"for it waits {call_words(one)}, since {millis(one.waits[0].begin.moment.clock)}",
+                    f"{call_words(one)} has waited for it since {millis(one.waits[0].begin.moment.clock)}",
                     one.waits[0].begin,
                 )
                 for one in waiting
@@ -203,7 +207,7 @@ class Why:
         if before is None or before.new == "none":
             return []
         link, doer = self._telling.link(int(str(before.new))), self._doers.by(before.step)
-        return [Node(f"before, {link} held it since {doer}", before.step)]
+        return [Node(f"before, {link} had held it since {doer}", before.step)]
 
     def _wait(self, port: str, number: int) -> Node:
         """Why the newest call of a connection waits, or waited."""
@@ -212,7 +216,7 @@ class Why:
         most = f", until {millis(wait.deadline)} at most" if wait.deadline is not None else ""
         node = Node(f"{call.who}: {self._reasons.headline(call, wait, over)}{most}", wait.begin)
         parent = node
-        for reason in self._reasons.why(wait, wait.begin.number if over else number):
+        for reason in self._reasons.why(wait, wait.begin.number if over else number, over):
             parent.children.append(Node(reason))
             parent = parent.children[-1]
         if over and wait.end is not None:

@@ -105,7 +105,7 @@ function drawQueue() {
 function drawWho() {
   const waits = state.waits.map(one => {
     const box = made("div", "wait"), who = `c${one.connection}${one.link ? " link " + one.link : ""}`, head = made("div");
-    head.append(made("b", "c" + one.connection % 6, who + " "), `${one.call.replace(/^device_/, "")} waits for ${one.for} since ${ms(one.since)} `);
+    head.append(made("b", "c" + one.connection % 6, who + " "), `${one.call.replace(/^device_/, "")} has waited since ${ms(one.since)} for ${one.for} `);
     if (one.until !== null) { const left = made("span", "left"); left.dataset.until = one.until; head.append(left); }
     const chain = made("div", "chain");
     one.because.forEach(text => chain.append(made("i", "", "\u2190"), made("span", "", text)));
@@ -155,7 +155,7 @@ function drawClock() {
   const stands = state.server.ended || state.server.silent || lostAt, now = state.clock + (stands ? 0 : Math.max(0, Math.floor(performance.now() - came)));
   put("clock", now.toLocaleString("en"));
   document.querySelectorAll("[data-until]").forEach(one => {
-    const rest = one.dataset.until - now, text = rest > 0 ? `for ${rest > 172800000 ? Math.floor(rest / 86400000) + " days" : rest > 20000 ? Math.ceil(rest / 1000) + " s" : ms(Math.ceil(rest / 100) * 100)} more` : "";
+    const rest = one.dataset.until - now, text = rest > 0 ? `${rest > 172800000 ? Math.floor(rest / 86400000) + " days" : rest > 20000 ? Math.ceil(rest / 1000) + " s" : ms(Math.ceil(rest / 100) * 100)} left` : "";
     if (one.textContent != text) one.textContent = text;
   });
 }

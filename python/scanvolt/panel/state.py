@@ -246,14 +246,14 @@ def _because(front: Front, what: str) -> list[str]:
     lock = _lock(front)
     if what == "lock" and lock is not None:
         conn = "" if lock["connection"] is None else f" (c{lock['connection']})"
-        return [f"link {lock['link']}{conn} holds it since {millis(lock['since'])}"]
+        return [f"link {lock['link']}{conn} has held it since {millis(lock['since'])}"]
     if what == "dial":
         return ["the peer hasn't taken the connection of the interrupt channel"]
     if not front.held:
         return []
     by = "" if front.held_by is None else f" of c{front.held_by}"
     return [
-        f"unit `{_unit(front.held)}`{by} waits until the scan is idle, since {millis(front.held_at)}",
+        f"unit `{_unit(front.held)}`{by} has waited since {millis(front.held_at)} for the scan to be idle",
         f"the scan {_now(front)}",
     ]
 

@@ -333,7 +333,7 @@ def test_what_the_instrument_saw(pytester: pytest.Pytester) -> None:
     result.stdout.fnmatch_lines(
         [
             "E*device_read on link 1: I/O timeout (15)*",
-            "E*c0 link 1: device_read waited since 30 ms for a response",
+            "E*c0 link 1: device_read had waited since 30 ms for a response",
             "E*because unit `[*]OPC[?]` waits until the scan is idle: the scan waits for *",
         ]
     )

@@ -213,7 +213,7 @@ class Messages(WithResource):
         with self.assertRaises(pyvisa.VisaIOError) as caught:
             self.resource.read()
         first, second = getattr(caught.exception, "__notes__")
-        self.assertRegex(first, "device_read .*waited since 0 ms for a response")
+        self.assertRegex(first, "device_read .*had waited since 0 ms for a response")
         self.assertIn("the scan waits for an EXTernal trigger (scan 1 of 1)", second)
 
     def test_faults_on_order(self) -> None:
