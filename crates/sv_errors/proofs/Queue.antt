@@ -1,5 +1,4 @@
--- The error queue after each act: an error is reported, one overflows the queue, or an entry is
--- taken.
+-- The error queue after each act: a report (also one that overflows it), a take, or a clear.
 use Rattle.std.proofs.Common.{◌≡◌, ℕ, suc, ◌+◌, ◌-◌, ◌<◌, ◌≤◌, Bool, true, false, ◌&&◌, cond, List, [], ◌∷◌, ◌++◌, length, take, drop, refl, sym, ap, subst, ◌∙◌, add-one, arith, ◌⊎◌, inl, inr, length-append, length-drop}
 use Rattle.std.specs.Prelude.{◌==◌, map, min, is_some, slice_get, unwrap_or}
 use Rattle.std.specs.List.{AllByRecursion}

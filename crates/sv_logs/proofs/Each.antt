@@ -1,4 +1,4 @@
--- A property of an act and the acts before it: if each act of two successive lists has it, so has
+-- A property of an act and the acts before it: if it holds of each act of two lists, it holds of
 -- each act of the joined list.
 use Rattle.std.proofs.Common.{List, [], ◌∷◌, ◌++◌, sym, subst, append_assoc}
 use Rattle.std.specs.Prelude.{⊤}

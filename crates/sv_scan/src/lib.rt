@@ -1,5 +1,5 @@
 //! The scanner: inputs, settings, the trigger state, the readings of a scan, and the conditions
-//! that the status registers watch (SCPI-1999: chapter 20, and chapter 24 of volume 2).
+//! that the status registers watch (SCPI-1999, volume 2, chapters 20 and 24).
 //!
 //! Voltages are in microvolts. Only [`Scanner::new`] allocates: the memory of all readings.
 #![tactic(auto)]

@@ -1,4 +1,4 @@
--- Single bits of words, under and, or and exclusive or.
+-- Single bits of words under AND, OR and XOR.
 use Rattle.std.proofs.Common.{◌≡◌, ◌≢◌, ℕ, zero, suc, ◌+◌, ◌<◌, ◌≤◌, ◌%◌, ◌/◌, true, eqb, refl, sym, ap, ◌∙◌, ◌⊎◌, inl, inr, arith, bit_and, bit_or}
 use Rattle.std.specs.Prelude.{◌↔◌, not, min, max, bit_xor}
 use Rattle.std.specs.Int.{bit_at}

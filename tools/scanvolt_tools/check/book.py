@@ -288,7 +288,7 @@ def lines_like(repository: Repository, pattern: str, wanted: str) -> int:
 def crate_page(sources: Sources) -> Iterator[str]:
     yield (
         "# The crates\n\nA clause is one statement in the contract of an exported function, or in a law. "
-        "[ARCHITECTURE](ARCHITECTURE.md#words)\nexplains act, log, layer, row, mutant and the steps.\n"
+        "[ARCHITECTURE](ARCHITECTURE.md#words)\nexplains act, log, layer, row, mutant and settle.\n"
     )
     yield "| Crate | What it is | Uses | Clauses of functions | Clauses of laws | Mutants | Rows |"
     yield "|---|---|---|---|---|---|---|"
