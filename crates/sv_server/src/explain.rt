@@ -159,7 +159,8 @@ impl<A: Allocator> Server<A> {
             × ((told : List ℕ) × ToldOf line config (plain event.entry) log result told
             × Prints (W.contents writer.old) failed.old (W.contents writer.new) failed.new told) }
     {
-        let mut shown = self.shown();
+        let mut shown = self.unlisted();
+        self.list_all(&mut shown);
         self.tell_before(event, line, writer, failed);
         let done = self.act(event);
         self.tell_tick(event, line, writer, failed);

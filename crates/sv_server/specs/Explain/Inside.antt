@@ -2,3 +2,4 @@
 -- needn't check them.
 pub mod Steps
 pub mod Conns
+pub mod Unlisted

@@ -14,6 +14,7 @@ ghost use Rattle.sv_instrument.specs.Representation.{StandsFor};
 ghost use Rattle.sv_history.specs.declared.event.Config.{Config};
 ghost use Rattle.sv_history.specs.Act.{Act, device_acts, instrument_acts};
 ghost use Rattle.sv_server.specs.Server.State.{Represents};
+ghost use Rattle.sv_server.specs.Explain.Inside.Unlisted.{IsUnlisted};
 ghost use Rattle.sv_explain.specs.Shown.{IsStatus, IsRegister, source_word, settings_of, state_word, measurement_of, newest_value, held_word, message_of, wait_word, call_of, role_word, IsConn, never_opened, AreLinks, IsScanner, IsExchange, AreStatuses, IsShown};
 
 use crate::conn::Conn;
@@ -179,14 +180,15 @@ pub(crate) fn list_errors<A: Allocator>(queue: &ErrorQueue<A>, found: &mut Array
 }
 
 impl<A: Allocator> Server<A> {
-    /// What is told of the server.
-    pub(crate) fn shown(&self) -> Shown
+    /// What is told of the server, with empty lists.
+    #[inline(always)]
+    pub(crate) fn unlisted(&self) -> Shown
         ensures { (config : Config) (log : List Act) → Represents self.now config log
-            → IsShown result log }
+            → IsUnlisted result log }
     {
         let instrument = self.device.instrument();
         let scanner = instrument.layers().scanner();
-        let mut shown = Shown {
+        Shown {
             conns: ArrayVec::new(),
             links: LinksShown {
                 links: ArrayVec::new(),
@@ -203,13 +205,20 @@ impl<A: Allocator> Server<A> {
                 errors: ArrayVec::new(),
             },
             statuses: self.statuses_shown(),
-        };
+        }
+    }
+
+    /// Fills the lists of what is told of the server.
+    pub(crate) fn list_all(&self, shown: &mut Shown)
+        ensures { (config : Config) (log : List Act) → Represents self.now config log
+            → IsUnlisted shown.old log → IsShown shown.new log }
+    {
+        let layers = self.device.instrument().layers();
         self.list_conns(&mut shown.conns);
         self.device.list_links(&mut shown.links.links);
         self.device.list_asking_links(&mut shown.links.asking);
-        list_channels(scanner, &mut shown.scanner.list);
-        list_errors(instrument.layers().errors(), &mut shown.exchange.errors);
-        shown
+        list_channels(layers.scanner(), &mut shown.scanner.list);
+        list_errors(layers.errors(), &mut shown.exchange.errors);
     }
 
     /// What is told of the status registers and of the status byte.
