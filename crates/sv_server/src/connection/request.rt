@@ -102,51 +102,26 @@ fn has_procedure(role: Role, proc: u32) -> bool
     ensures { result ≡ is_one_of (program_for role).2 proc }
 {
     match role {
-        Role::Core => is_core_call(proc),
+        Role::Core => matches!(
+            proc,
+            CREATE_LINK
+                | DEVICE_WRITE
+                | DEVICE_READ
+                | DEVICE_READSTB
+                | DEVICE_TRIGGER
+                | DEVICE_CLEAR
+                | DEVICE_REMOTE
+                | DEVICE_LOCAL
+                | DEVICE_LOCK
+                | DEVICE_UNLOCK
+                | DEVICE_ENABLE_SRQ
+                | DEVICE_DOCMD
+                | DESTROY_LINK
+                | CREATE_INTR_CHAN
+                | DESTROY_INTR_CHAN
+        ),
         Role::Abort => proc == DEVICE_ABORT,
         Role::Portmap => proc == GETPORT,
-    }
-}
-
-/// Whether the core channel has this procedure. False for the null procedure.
-fn is_core_call(proc: u32) -> bool
-    ensures { result ≡ is_one_of core_calls proc }
-{
-    matches!(
-        proc,
-        CREATE_LINK
-            | DEVICE_WRITE
-            | DEVICE_READ
-            | DEVICE_READSTB
-            | DEVICE_TRIGGER
-            | DEVICE_CLEAR
-            | DEVICE_REMOTE
-            | DEVICE_LOCAL
-            | DEVICE_LOCK
-            | DEVICE_UNLOCK
-            | DEVICE_ENABLE_SRQ
-            | DEVICE_DOCMD
-            | DESTROY_LINK
-            | CREATE_INTR_CHAN
-            | DESTROY_INTR_CHAN
-    )
-}
-
-/// What a call of the core channel asks for.
-fn core_request<'a>(call: &Call<'a>) -> Request<'a>
-    requires { is_one_of core_calls call.now.proc ≡ true }
-    ensures { plain_request result
-        ≡ core_request_for call.now.xid (arguments_at call.now.proc call.now.args.now) }
-{
-    match read_args(call.proc, call.args) {
-        Ok(args) => Request::Core(CoreCall {
-            xid: call.xid,
-            args,
-        }),
-        Err(_) => Request::Decided {
-            xid: call.xid,
-            reply: Reply::GarbageArgs,
-        },
     }
 }
 
@@ -171,7 +146,13 @@ fn procedure_request<'a>(role: Role, call: &Call<'a>) -> Request<'a>
     ensures { plain_request result ≡ procedure_request_for role (plain_call call.now) }
 {
     match role {
-        Role::Core => core_request(call),
+        Role::Core => match read_args(call.proc, call.args) {
+            Ok(args) => Request::Core(CoreCall {
+                xid: call.xid,
+                args,
+            }),
+            Err(_) => decided(call, Reply::GarbageArgs),
+        },
         Role::Abort => abort_request(call),
         Role::Portmap => Request::Port {
             xid: call.xid,

@@ -331,16 +331,6 @@ impl<A: Allocator> Device<A> {
         }
     }
 
-    /// Executes a call that nothing stops.
-    fn start(&mut self, conn: Conn, call: &Admitted<'_>) -> Result<Outcome, AllocError>
-        requires { CanExecute call.now self.old }
-        ensures { (arguments : Arguments) → IsCall call.now arguments
-            → AdmitsAt None result conn.number arguments self.old self.new }
-    {
-        self.reserve(call.is_create_link())?;
-        Ok(self.execute(conn, call))
-    }
-
     /// Executes a call with these arguments. If something stops the call, it fails or is suspended.
     pub fn admit(&mut self, conn: Conn, args: &Args<'_>) -> Result<Outcome, AllocError>
         ensures { Admits result conn.number (plain_arguments args.now) self.old self.new }
@@ -348,7 +338,10 @@ impl<A: Allocator> Device<A> {
         match self.admission(conn, args) {
             Admission::Refused(given) => Ok(Outcome::Reply(Answer::Result(given))),
             Admission::Suspended { wait, timeout } => self.suspend(conn, args, wait, timeout),
-            Admission::Admitted(call) => self.start(conn, &call),
+            Admission::Admitted(call) => {
+                self.reserve(call.is_create_link())?;
+                Ok(self.execute(conn, &call))
+            }
         }
     }
 }

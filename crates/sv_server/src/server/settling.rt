@@ -47,11 +47,10 @@ pub(crate) enum Stepped {
 pub(crate) fn is_quiet(event: Event<'_>) -> bool
     ensures { result ≡ is_quiet (plain event.entry) }
 {
-    match event {
-        Event::Open { .. } | Event::Bytes { .. } | Event::Took { .. } => true,
-        Event::Turn { .. } | Event::Refuse { .. } | Event::Close { .. } => false,
-        Event::Dialed { .. } | Event::Input { .. } | Event::External | Event::Tick => false,
-    }
+    matches!(
+        event,
+        Event::Open { .. } | Event::Bytes { .. } | Event::Took { .. }
+    )
 }
 
 /// The error of a call that times out while it waits for `wait`.
