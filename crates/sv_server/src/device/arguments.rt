@@ -1,13 +1,11 @@
-//! Reading the arguments of a call: link, size, termination character (VXI-11 revision 1.0, section
-//! B.6).
+//! Reading the arguments of a call: link and size (VXI-11 revision 1.0, section B.6).
 
 ghost use Rattle.std.specs.Prelude.{◌≡◌};
 ghost use Rattle.sv_vxi.specs.Reading.{plain_call};
 ghost use Rattle.sv_history.specs.CoreCall.{lid_of as lid_for, is_too_long as too_long};
-ghost use Rattle.sv_history.specs.CoreChannel.{term_of as term_for};
 
 use sv_exchange::MAX_MESSAGE;
-use sv_vxi::{Flags, LinkCall};
+use sv_vxi::LinkCall;
 
 /// The number of the link that a call names; `None` if the call names no link, or a negative
 /// number, which no link has.
@@ -25,16 +23,4 @@ pub fn is_too_long(call: &LinkCall<'_>) -> bool
         return bytes.len() > MAX_MESSAGE;
     }
     false
-}
-
-/// The termination character, which is the low eight bits of `term_char`; `None` if the flag
-/// termchrset isn't set.
-pub fn term_of(flags: Flags, term_char: u32) -> Option<u8>
-    ensures { result ≡ term_for flags.0 term_char }
-{
-    if flags.has_term_char() {
-        Some((term_char % 256) as u8)
-    } else {
-        None
-    }
 }

@@ -19,13 +19,12 @@ ghost use Rattle.sv_history.specs.CallOutcome.{answer_with};
 ghost use Rattle.sv_history.specs.CoreCall.{is_too_long};
 ghost use Rattle.sv_server.specs.Device.Representation.{IsDevice, HasPlace};
 ghost use Rattle.sv_history.specs.Admission.{device_wait};
-ghost use Rattle.sv_history.specs.CoreChannel.{owns, make_link, device_lock, device_unlock, device_write, device_read, link_call};
+ghost use Rattle.sv_history.specs.CoreChannel.{term_of, owns, make_link, device_lock, device_unlock, device_read, link_call};
 ghost use Rattle.sv_server.specs.Device.Inside.Outcome.{IsDeviceAt, GivesResult, OutcomeIs, IsBrief, IsReadyFor, CanExecute, IsFree, executed};
 
 use crate::conn::Conn;
 use crate::device::Device;
 use crate::device::admitted::Admitted;
-use crate::device::arguments::term_of;
 use crate::device::error_results::{call_failure, no_link, nothing_read, plain, written};
 use crate::outcome::{Answer, Outcome};
 use std::alloc::Allocator;
@@ -141,35 +140,23 @@ impl<A: Allocator> Device<A> {
         plain(ErrorCode::NoError)
     }
 
-    /// device_write: the instrument accepts the bytes. If the call's flag END is set, these bytes
-    /// end the message.
-    fn device_write(&mut self, flags: Flags, bytes: &[u8]) -> VxiResult<'static>
-        requires open { IsTrue (is_open self.old.instrument.layers.exchange) }
-        requires within { length bytes.now ≤ max_message }
-        ensures ends { (config : Configured) (acts : List DeviceAct) → IsDevice self.old config acts
-            → has_ended (exchange_acts acts) ≡ false
-            → GivesResult result self.new config acts (device_write flags.0 bytes.now acts) }
-        ensures short { data_of (plain_result result) ≡ [] }
-        ensures waiting { self.new.waiting ≡ self.old.waiting }
-    {
-        let raised = self.instrument.write(bytes, flags.has_end());
-        self.raise(raised);
-        written(ErrorCode::NoError, bytes.len() as u32)
-    }
-
-    /// device_read: if the instrument has a response, the call is answered with bytes of it. If no
-    /// response can come without a further write, the result is a timeout, the bytes of the
+    /// device_read: if the instrument has a response, the call is answered with bytes of it. If the
+    /// flag termchrset is set, the low eight bits of `term_char` are the termination character. If
+    /// no response can come without a further write, the result is a timeout, the bytes of the
     /// unfinished message are dropped, and the instrument's error -420 is reported.
-    fn device_read(&mut self, most: u32, term: Option<u8>) -> Outcome
+    fn device_read(&mut self, most: u32, flags: Flags, term_char: u32) -> Outcome
         requires { IsTrue (is_something (shown_by self.old.instrument.layers.exchange)
             || is_open self.old.instrument.layers.exchange) }
         ensures ends { (config : Configured) (acts : List DeviceAct) → IsDevice self.old config acts
             → is_answerable (instrument_acts acts) ≡ true
-            → OutcomeIs result self.new config acts (device_read most term acts) }
+            → OutcomeIs result self.new config acts
+            (device_read most (term_of flags.0 term_char) acts) }
         ensures short { IsBrief result }
         ensures waiting { self.new.waiting ≡ self.old.waiting }
     {
         if self.instrument.readable() {
+            let ends = flags.has_term_char();
+            let term = ends.then_some((term_char % 256) as u8);
             return Outcome::Response { most, term };
         }
         let raised = self.instrument.unterminated();
@@ -257,14 +244,17 @@ impl<A: Allocator> Device<A> {
     {
         match *call {
             LinkCall::DeviceWrite { flags, bytes, .. } => {
-                Outcome::Reply(Answer::Result(self.device_write(flags, bytes)))
+                let raised = self.instrument.write(bytes, flags.has_end());
+                self.raise(raised);
+                let count = bytes.len() as u32;
+                Outcome::Reply(Answer::Result(written(ErrorCode::NoError, count)))
             }
             LinkCall::DeviceRead {
                 request_size,
                 flags,
                 term_char,
                 ..
-            } => self.device_read(request_size, term_of(flags, term_char)),
+            } => self.device_read(request_size, flags, term_char),
             LinkCall::Generic { call, .. } => Outcome::Reply(Answer::Result(self.generic_call(
                 call,
             ))),

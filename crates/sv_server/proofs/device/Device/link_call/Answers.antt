@@ -1,14 +1,25 @@
-use Rattle.std.proofs.Common.{pos, sym}
-use Rattle.sv_server.proofs.OnDevice.Calls.{unended_of, answerable_of}
+use Rattle.std.proofs.Common.{pos, sym, [], ◌∷◌}
+use Rattle.sv_history.specs.Act.{instrument_acts}
+use Rattle.sv_exchange.specs.Exchange.{Accepted}
+use Rattle.sv_layers.specs.Act.{Exchanged}
+use Rattle.sv_server.proofs.OnDevice.Raising.{device_ran}
+use Rattle.sv_server.proofs.OnDevice.Calls.{unended_of, answerable_of, written_ends}
 use Rattle.sv_server.proofs.device.Device.link_call.Goals as goal
 
 pub returns-in-DeviceWrite-clause-ends : goal.returns-in-DeviceWrite-clause-ends
 returns-in-DeviceWrite-clause-ends g c = λ config polled acts known needs.
-    rw c.in-DeviceWrite.is (c.device_write.ensures.ends config acts known.0 (unended_of _ _ (rw c.in-DeviceWrite.is at needs)))
+    let is = rw (← c.self.view_is) at known.0 in
+    let log = instrument_acts acts in
+    let bytes = c.in-DeviceWrite.bytes.now in
+    let stands = device_ran _ c.write-raised.new.self _ config acts (Exchanged (Accepted bytes c.has_end.result) ∷ [])
+    c.write-raised.result is (c.write-raised.ensures log is.1) c.raise.ensures.stands in
+    rw c.in-DeviceWrite.is (written_ends config acts _ c.in-DeviceWrite.flags.0 bytes c.has_end.result _
+    (rw c.in-DeviceWrite.is at c.requires.within) (unended_of _ _ (rw c.in-DeviceWrite.is at needs)) c.has_end.ensures
+    c.written.ensures stands)
 
 pub returns-in-DeviceRead-clause-ends : goal.returns-in-DeviceRead-clause-ends
 returns-in-DeviceRead-clause-ends g c = λ config polled acts known needs.
-    rw (c.in-DeviceRead.is, ← c.term_of.ensures) (c.device_read.ensures.ends config acts known.0
+    rw c.in-DeviceRead.is (c.device_read.ensures.ends config acts known.0
     (answerable_of _ _ (rw c.in-DeviceRead.is at needs)))
 
 pub returns-in-Generic-clause-ends : goal.returns-in-Generic-clause-ends
