@@ -14,22 +14,27 @@ ghost use Rattle.sv_instrument.specs.Stimulus.{trigger_acts};
 ghost use Rattle.sv_history.specs.declared.event.Config.{Config as Configured};
 ghost use Rattle.sv_links.specs.Links.{Destroyed, holder, is_locked_out};
 ghost use Rattle.sv_exchange.specs.Limits.{max_message, max_read};
-ghost use Rattle.sv_history.specs.Act.{DeviceAct, Linked, Applied, link_acts, instrument_acts, exchange_acts};
+ghost use Rattle.sv_history.specs.Act.{ConnAct, DeviceAct, Linked, Applied, link_acts, instrument_acts, exchange_acts};
 ghost use Rattle.sv_history.specs.CallOutcome.{answer_with};
 ghost use Rattle.sv_history.specs.CoreCall.{is_too_long};
+ghost use Rattle.sv_history.specs.Connection.{is_busy};
+ghost use Rattle.sv_history.specs.Effect.{call_effect};
+ghost use Rattle.sv_server.specs.Connection.Representation.{IsConnection};
+ghost use Rattle.sv_server.specs.Server.Inside.Ending.{Concludes};
 ghost use Rattle.sv_server.specs.Device.Representation.{IsDevice, HasPlace};
 ghost use Rattle.sv_history.specs.Admission.{device_wait};
-ghost use Rattle.sv_history.specs.CoreChannel.{term_of, owns, make_link, device_lock, device_unlock, device_read, link_call};
+ghost use Rattle.sv_history.specs.CoreChannel.{term_of, owns, make_link, device_lock, device_unlock, device_read, reads, link_call};
 ghost use Rattle.sv_server.specs.Device.Inside.Outcome.{IsDeviceAt, GivesResult, OutcomeIs, IsBrief, IsReadyFor, CanExecute, IsFree, executed};
 
 use crate::conn::Conn;
+use crate::connection::Connection;
 use crate::device::Device;
 use crate::device::admitted::Admitted;
 use crate::device::error_results::{call_failure, no_link, nothing_read, plain, written};
 use crate::outcome::{Answer, Outcome};
 use std::alloc::Allocator;
-use sv_exchange::{MAX_MESSAGE, Read};
-use sv_vxi::{ErrorCode, Flags, GenericCall, LinkCall, VxiResult};
+use sv_exchange::MAX_MESSAGE;
+use sv_vxi::{ErrorCode, Flags, GenericCall, LinkCall, Reason, VxiResult};
 
 impl<A: Allocator> Device<A> {
     /// Whether a link was made by this connection.
@@ -164,27 +169,33 @@ impl<A: Allocator> Device<A> {
         Outcome::Reply(Answer::Result(nothing_read(ErrorCode::IoTimeout)))
     }
 
-    /// Returns the bytes of the response that a read would return, and the reasons why the read
-    /// would end after these bytes.
-    pub fn peek_response(&self, most: u32, term: Option<u8>) -> Read<'_>
-        ensures within { length result.bytes.now
-            ≤ length (shown_by self.now.instrument.layers.exchange) }
-        ensures short { length result.bytes.now ≤ max_read }
-        ensures answer { (config : Configured) (acts : List DeviceAct)
-            → IsDevice self.now config acts
-            → IsReadOf result (response (exchange_acts acts)) most term }
-    {
-        self.instrument.peek(most, term)
-    }
-
-    /// Drops the first `count` bytes of the response, which were read.
-    pub fn take_response(&mut self, count: usize)
-        requires { count ≤ length (shown_by self.old.instrument.layers.exchange) }
-        ensures stands { (config : Configured) (acts : List DeviceAct)
-            → IsDevice self.old config acts
-            → IsDevice self.new config (Applied (Exchanged (ResponseRead count)) ∷ acts) }
+    /// Answers the call that was taken, which is a read, with bytes of the response.
+    pub fn answer_read(
+        &mut self,
+        xid: u32,
+        most: u32,
+        term: Option<u8>,
+        connection: &mut Connection<A>,
+    )
+        ensures ends { (config : Configured) (acts : List ConnAct) (before : List DeviceAct)
+            → IsConnection connection.old acts → is_busy acts ≡ true
+            → IsDevice self.old config before
+            → Concludes (call_effect xid (reads (response (exchange_acts before)) most term)) config
+            acts before connection.new self.new }
         ensures waiting { self.new.waiting ≡ self.old.waiting }
     {
+        let read = self.instrument.peek(most, term);
+        let count = read.bytes.len();
+        let given = VxiResult::Read {
+            error: ErrorCode::NoError,
+            reason: Reason {
+                request_count: read.request_count,
+                character: read.character,
+                end: read.end,
+            },
+            bytes: read.bytes,
+        };
+        connection.answer(xid, &Answer::Result(given));
         let raised = self.instrument.take(count);
         self.raise(raised);
     }

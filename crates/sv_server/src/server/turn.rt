@@ -1,12 +1,10 @@
 //! Taking and executing a connection's next call.
 
 ghost use Rattle.std.specs.Prelude.{◌≡◌, List, Some, OnErr, true, is_some};
-ghost use Rattle.sv_exchange.specs.Exchange.{response};
 ghost use Rattle.sv_history.specs.declared.event.Config.{Config};
-ghost use Rattle.sv_history.specs.Act.{Act, ConnAct, DeviceAct, of, device_acts, exchange_acts};
+ghost use Rattle.sv_history.specs.Act.{Act, ConnAct, DeviceAct, of, device_acts};
 ghost use Rattle.sv_history.specs.Connection.{is_busy};
-ghost use Rattle.sv_history.specs.Effect.{Effect, call_effect};
-ghost use Rattle.sv_history.specs.CoreChannel.{reads};
+ghost use Rattle.sv_history.specs.Effect.{Effect};
 ghost use Rattle.sv_server.specs.Connection.Representation.{IsConnection};
 ghost use Rattle.sv_server.specs.Device.Representation.{IsDevice};
 ghost use Rattle.sv_server.specs.Server.Inside.Acting.{Turns};
@@ -17,11 +15,10 @@ use crate::conn::Conn;
 use crate::connection::Connection;
 use crate::connection::request::request_of;
 use crate::device::Device;
-use crate::outcome::{Answer, Outcome};
+use crate::outcome::Outcome;
 use crate::server::execution::execute;
 use std::alloc::Allocator;
 use sv_history::{Did, Refused, Role};
-use sv_vxi::{ErrorCode, Reason, VxiResult};
 
 /// Takes the next call of an open connection and executes it. Does nothing if there is no call.
 /// Refuses the Turn if the output has too little room for the longest reply. For a device_abort
@@ -74,37 +71,7 @@ pub fn conclude<A: Allocator>(
     match outcome {
         Outcome::Fault => connection.fault(),
         Outcome::Reply(answer) => connection.answer(xid, &answer),
-        Outcome::Response { most, term } => answer_response(xid, most, term, connection, device),
+        Outcome::Response { most, term } => device.answer_read(xid, most, term, connection),
         Outcome::Suspended => {}
     }
-}
-
-/// Answers the call that was taken, which is a read, with bytes of the response.
-fn answer_response<A: Allocator>(
-    xid: u32,
-    most: u32,
-    term: Option<u8>,
-    connection: &mut Connection<A>,
-    device: &mut Device<A>,
-)
-    ensures ends { (config : Config) (acts : List ConnAct) (before : List DeviceAct)
-        → IsConnection connection.old acts → is_busy acts ≡ true
-        → IsDevice device.old config before
-        → Concludes (call_effect xid (reads (response (exchange_acts before)) most term)) config
-        acts before connection.new device.new }
-    ensures waiting { device.new.waiting ≡ device.old.waiting }
-{
-    let read = device.peek_response(most, term);
-    let count = read.bytes.len();
-    let given = VxiResult::Read {
-        error: ErrorCode::NoError,
-        reason: Reason {
-            request_count: read.request_count,
-            character: read.character,
-            end: read.end,
-        },
-        bytes: read.bytes,
-    };
-    connection.answer(xid, &Answer::Result(given));
-    device.take_response(count);
 }

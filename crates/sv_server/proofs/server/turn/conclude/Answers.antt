@@ -14,8 +14,8 @@ returns-in-Reply-clause-ends g c = λ config acts before effect is busy ends.
 pub returns-in-Response-clause-ends : goal.returns-in-Response-clause-ends
 returns-in-Response-clause-ends g c = λ config acts before effect is busy ends.
     let known = rw c.in-Response.is at ends in
-    subst (λ (e : Effect). Concludes e config acts before c.answer_response.new.connection c.answer_response.new.device) (sym known.0)
-    (c.answer_response.ensures.ends config acts before is busy known.1)
+    subst (λ (e : Effect). Concludes e config acts before c.answer_read.new.connection c.answer_read.new.self) (sym known.0)
+    (c.answer_read.ensures.ends config acts before is busy known.1)
 
 pub returns-in-Suspended-clause-ends : goal.returns-in-Suspended-clause-ends
 returns-in-Suspended-clause-ends g c = λ config acts before effect is busy ends.
