@@ -34,23 +34,16 @@ pub fn header_parts(header: &[u8]) -> Header<'_>
 {
     let query = has_sign(header);
     let text = without_sign(header);
-    let lead = lead_in(header);
+    let lead = match header {
+        [b'*', ..] => Lead::Common,
+        [b':', ..] => Lead::Root,
+        _ => Lead::Onward,
+    };
     let body = match lead {
         Lead::Common | Lead::Root => text.get(1..).unwrap_or(&[]),
         Lead::Onward => text,
     };
     Header { lead, body, query }
-}
-
-/// What a header begins with.
-fn lead_in(header: &[u8]) -> Lead
-    ensures { result ≡ lead_of header.now }
-{
-    match header {
-        [b'*', ..] => Lead::Common,
-        [b':', ..] => Lead::Root,
-        _ => Lead::Onward,
-    }
 }
 
 /// A header without the question mark at its end, if it has one.
