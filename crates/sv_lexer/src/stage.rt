@@ -1,10 +1,7 @@
 //! The stages of reading a unit whose bytes come one by one.
 
 ghost use Rattle.std.specs.Prelude.{◌≡◌};
-ghost use Rattle.sv_lexer.specs.Spelled.{is_word_byte as is_word};
-ghost use Rattle.sv_lexer.specs.Inside.Stage.{behind_graphic as graphic, behind_space as space, letter_stage, next as next_of};
-
-use sv_text::is_space;
+ghost use Rattle.sv_lexer.specs.Inside.Stage.{next as next_of};
 
 /// How far a unit was read: the part of the unit to which the last byte read belongs (IEEE 488.2,
 /// 7.3 and 7.6).
@@ -34,113 +31,38 @@ pub(crate) enum Stage {
     Illegal,
 }
 
-/// The stage that follows `stage` if the next byte is `byte`.
+/// The stage that follows `stage` if the next byte is `byte`. A header has a mnemonic after an
+/// asterisk, and mnemonics between colons (IEEE 488.2, 7.6.1); a question mark can end it.
 pub(crate) fn next(stage: Stage, byte: u8) -> Stage
     ensures { result ≡ next_of stage byte }
 {
-    if is_space(byte) {
-        behind_space(stage)
-    } else if byte.is_ascii_graphic() {
-        behind_graphic(stage, byte)
-    } else {
-        Stage::Illegal
+    match (stage, byte) {
+        (Stage::Illegal, _) | (_, b'\n' | 127..=255) => Stage::Illegal,
+        (Stage::WhiteSpace, 0..=b' ') => Stage::WhiteSpace,
+        (
+            Stage::CommonMnemonic | Stage::Mnemonic | Stage::QuerySign | Stage::HeaderSeparator,
+            0..=b' ',
+        ) => Stage::HeaderSeparator,
+        (Stage::ProgramData | Stage::DataSpace, 0..=b' ') => Stage::DataSpace,
+        (Stage::HeaderSeparator | Stage::ProgramData | Stage::DataSpace, _) => Stage::ProgramData,
+        (Stage::WhiteSpace, b'*') => Stage::Asterisk,
+        (Stage::WhiteSpace | Stage::Mnemonic, b':') => Stage::Colon,
+        (Stage::Asterisk, b'A'..=b'Z' | b'a'..=b'z') => Stage::CommonMnemonic,
+        (Stage::WhiteSpace | Stage::Colon, b'A'..=b'Z' | b'a'..=b'z') => Stage::Mnemonic,
+        (Stage::CommonMnemonic, b'A'..=b'Z' | b'a'..=b'z' | b'0'..=b'9' | b'_') => {
+            Stage::CommonMnemonic
+        }
+        (Stage::Mnemonic, b'A'..=b'Z' | b'a'..=b'z' | b'0'..=b'9' | b'_') => Stage::Mnemonic,
+        (Stage::CommonMnemonic | Stage::Mnemonic, b'?') => Stage::QuerySign,
+        (
+            Stage::WhiteSpace
+            | Stage::Asterisk
+            | Stage::Colon
+            | Stage::CommonMnemonic
+            | Stage::Mnemonic
+            | Stage::QuerySign
+            | Stage::Misspelled,
+            _,
+        ) => Stage::Misspelled,
     }
-}
-
-/// The stage that follows `stage` if the next byte is white space.
-fn behind_space(stage: Stage) -> Stage
-    ensures { result ≡ space stage }
-{
-    match stage {
-        Stage::WhiteSpace => Stage::WhiteSpace,
-        Stage::Asterisk => Stage::Misspelled,
-        Stage::Colon => Stage::Misspelled,
-        Stage::CommonMnemonic => Stage::HeaderSeparator,
-        Stage::Mnemonic => Stage::HeaderSeparator,
-        Stage::QuerySign => Stage::HeaderSeparator,
-        Stage::HeaderSeparator => Stage::HeaderSeparator,
-        Stage::ProgramData => Stage::DataSpace,
-        Stage::DataSpace => Stage::DataSpace,
-        Stage::Misspelled => Stage::Misspelled,
-        Stage::Illegal => Stage::Illegal,
-    }
-}
-
-/// The stage that follows `stage` if the next byte is `byte`, a graphic character.
-fn behind_graphic(stage: Stage, byte: u8) -> Stage
-    ensures { result ≡ graphic stage byte }
-{
-    match stage {
-        Stage::WhiteSpace => header_begun(byte),
-        Stage::Asterisk => mnemonic_begun(Stage::CommonMnemonic, byte),
-        Stage::Colon => mnemonic_begun(Stage::Mnemonic, byte),
-        Stage::CommonMnemonic => behind_common(byte),
-        Stage::Mnemonic => behind_mnemonic(byte),
-        Stage::QuerySign => Stage::Misspelled,
-        Stage::HeaderSeparator => Stage::ProgramData,
-        Stage::ProgramData => Stage::ProgramData,
-        Stage::DataSpace => Stage::ProgramData,
-        Stage::Misspelled => Stage::Misspelled,
-        Stage::Illegal => Stage::Illegal,
-    }
-}
-
-/// The stage after the first byte of a header.
-fn header_begun(byte: u8) -> Stage
-    ensures { result ≡ graphic Stage.WhiteSpace byte }
-{
-    if byte == b'*' {
-        Stage::Asterisk
-    } else if byte == b':' {
-        Stage::Colon
-    } else {
-        mnemonic_begun(Stage::Mnemonic, byte)
-    }
-}
-
-/// The stage after a byte that must begin a mnemonic: `mnemonic` if the byte is a letter (IEEE
-/// 488.2, 7.6.1.4).
-fn mnemonic_begun(mnemonic: Stage, byte: u8) -> Stage
-    ensures { result ≡ letter_stage mnemonic byte }
-{
-    if byte.is_ascii_alphabetic() {
-        mnemonic
-    } else {
-        Stage::Misspelled
-    }
-}
-
-/// The stage after a byte that follows the mnemonic of a common command.
-fn behind_common(byte: u8) -> Stage
-    ensures { result ≡ graphic Stage.CommonMnemonic byte }
-{
-    if is_word_byte(byte) {
-        Stage::CommonMnemonic
-    } else if byte == b'?' {
-        Stage::QuerySign
-    } else {
-        Stage::Misspelled
-    }
-}
-
-/// The stage after a byte that follows a mnemonic of a header that isn't a common command.
-fn behind_mnemonic(byte: u8) -> Stage
-    ensures { result ≡ graphic Stage.Mnemonic byte }
-{
-    if is_word_byte(byte) {
-        Stage::Mnemonic
-    } else if byte == b'?' {
-        Stage::QuerySign
-    } else if byte == b':' {
-        Stage::Colon
-    } else {
-        Stage::Misspelled
-    }
-}
-
-/// Whether a byte is a letter, a digit or an underscore.
-fn is_word_byte(byte: u8) -> bool
-    ensures { result ≡ is_word byte }
-{
-    byte.is_ascii_alphanumeric() | (byte == b'_')
 }
