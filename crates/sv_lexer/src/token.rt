@@ -38,19 +38,12 @@ pub(crate) fn token_at(text: &[u8], place: usize) -> Token<'_>
     ensures kind { result.kind ≡ kind_of text.now }
 {
     let start = u32::try_from(place).unwrap_or(u32::MAX);
-    let kind = kind_in(text);
-    Token { text, start, kind }
-}
-
-/// The kind of the data in `text`, determined by its first byte.
-fn kind_in(text: &[u8]) -> Kind
-    ensures { result ≡ kind_of text.now }
-{
-    match text {
+    let kind = match text {
         [b'0'..=b'9' | b'+' | b'-' | b'.', ..] => Kind::Number,
         [b'#', ..] => Kind::Base,
         [b'A'..=b'Z' | b'a'..=b'z', ..] => Kind::Word,
         [b'(', ..] => Kind::Expression,
         _ => Kind::Other,
-    }
+    };
+    Token { text, start, kind }
 }
