@@ -1,5 +1,5 @@
 -- A unit read byte by byte has the fault and the parts that it has when it is read at once.
-use Rattle.std.proofs.Common.{◌≡◌, ℕ, ◌+◌, ◌-◌, ◌^◌, ◌<◌, ◌≤◌, ◌==◌, Bool, true, false, not, ◌&&◌, ◌||◌, cond, List, [], ◌∷◌, ◌++◌, length, take, get_or, max, nat_lt, nat_le, Option, Some, None, inl, inr, refl, sym, ap, ◌∙◌, subst, append_assoc, append-nil, arith}
+use Rattle.std.proofs.Common.{◌≡◌, ℕ, ◌+◌, ◌-◌, ◌^◌, ◌<◌, ◌≤◌, ◌==◌, Bool, true, false, not, ◌&&◌, ◌||◌, cond, List, [], ◌∷◌, ◌++◌, length, take, get_or, max, nat_lt, nat_le, ◌⊎◌, Option, Some, None, inl, inr, refl, sym, ap, ◌∙◌, subst, append_assoc, append-nil, arith}
 use Rattle.std.specs.List.{list_all}
 use Rattle.std.specs.Char.{is_ascii_graphic, is_ascii_alphabetic as is_letter}
 use Rattle.std.proofs.lemmas.Bool.{cases_lt, le-leb, lt-leb}
@@ -180,7 +180,7 @@ fault_at Illegal p unit legal h = illegal unit legal
 fault_at stage p unit legal h = spelled stage p unit refl legal h
 
 -- The fault found byte by byte is the fault of the whole unit.
-pub fault_is : (p : Progress) (unit : List ℕ) → Reads p unit → unit_fault unit ≡ fault_of p.stage p
+fault_is : (p : Progress) (unit : List ℕ) → Reads p unit → unit_fault unit ≡ fault_of p.stage p
 fault_is p unit h = fault_at p.stage p unit h.legal h.known
 
 -- ---- the positions of the unit's parts
@@ -231,7 +231,65 @@ cut_at ProgramData p unit room none h = cut_data ProgramData p unit room h.spell
 cut_at DataSpace p unit room none h = cut_data DataSpace p unit room h.spelled h.ends.0 h
 cut_at _ p unit room none h = absurd cc
 
--- Without a fault, the parts of the unit are where the progress says.
-pub cut_is : (p : Progress) (unit : List ℕ) → length unit ≤ 2 ^ 64 - 1 → Reads p unit → fault_of p.stage p ≡ None
-    → IsCut unit p.header_start p.header_end (data_of p.stage p.header_end p.data_start) (data_of p.stage p.header_end p.data_end)
-cut_is p unit room h none = cut_at p.stage p unit room none h.known
+-- ---- the end of the unit
+
+-- At this stage the unit may end: its only fault can be a mnemonic that is too long. Its program
+-- data would be at these positions.
+pub record MayEnd (p : Progress) (start end : ℕ) : Type 0 where
+  pub fault : fault_of p.stage p ≡ length_fault_of p
+  pub begins : start ≡ data_of p.stage p.header_end p.data_start
+  pub ends : end ≡ data_of p.stage p.header_end p.data_end
+
+ends_at : (stage : Stage) (p : Progress) (start end : ℕ) → p.stage ≡ stage → fault_of stage p ≡ length_fault_of p
+    → start ≡ data_of stage p.header_end p.data_start → end ≡ data_of stage p.header_end p.data_end → MayEnd p start end
+ends_at stage p start end is fault begins ends = record {
+  fault = ap (λ (s : Stage). fault_of s p) is ∙ fault;
+  begins = begins ∙ sym (ap (λ (s : Stage). data_of s p.header_end p.data_start) is);
+  ends = ends ∙ sym (ap (λ (s : Stage). data_of s p.header_end p.data_end) is);
+}
+
+pub ends_after_header : (p : Progress)
+    → p.stage ≡ CommonMnemonic ⊎ (p.stage ≡ Mnemonic ⊎ (p.stage ≡ QuerySign ⊎ p.stage ≡ HeaderSeparator))
+    → MayEnd p p.header_end p.header_end
+ends_after_header p (inl e) = ends_at CommonMnemonic p _ _ e refl refl refl
+ends_after_header p (inr (inl e)) = ends_at Mnemonic p _ _ e refl refl refl
+ends_after_header p (inr (inr (inl e))) = ends_at QuerySign p _ _ e refl refl refl
+ends_after_header p (inr (inr (inr e))) = ends_at HeaderSeparator p _ _ e refl refl refl
+
+pub ends_after_data : (p : Progress) → p.stage ≡ ProgramData ⊎ p.stage ≡ DataSpace → MayEnd p p.data_start p.data_end
+ends_after_data p (inl e) = ends_at ProgramData p _ _ e refl refl refl
+ends_after_data p (inr e) = ends_at DataSpace p _ _ e refl refl refl
+
+incomplete_at : (p : Progress) → p.stage ≡ WhiteSpace ⊎ (p.stage ≡ Asterisk ⊎ (p.stage ≡ Colon ⊎ p.stage ≡ Misspelled))
+    → fault_of p.stage p ≡ Some SyntaxError
+incomplete_at p (inl e) = ap (λ (s : Stage). fault_of s p) e
+incomplete_at p (inr (inl e)) = ap (λ (s : Stage). fault_of s p) e
+incomplete_at p (inr (inr (inl e))) = ap (λ (s : Stage). fault_of s p) e
+incomplete_at p (inr (inr (inr e))) = ap (λ (s : Stage). fault_of s p) e
+
+-- A header that isn't complete or is misspelled is the unit's fault.
+pub fault_if_incomplete : (p : Progress) (unit : List ℕ) → Reads p unit
+    → p.stage ≡ WhiteSpace ⊎ (p.stage ≡ Asterisk ⊎ (p.stage ≡ Colon ⊎ p.stage ≡ Misspelled)) → unit_fault unit ≡ Some SyntaxError
+fault_if_incomplete p unit h at = fault_is p unit h ∙ incomplete_at p at
+
+pub fault_if_long : (p : Progress) (unit : List ℕ) (start end most : ℕ) → Reads p unit → MayEnd p start end
+    → most ≡ max p.longest p.mnemonic → 12 < most → unit_fault unit ≡ Some ProgramMnemonicTooLong
+fault_if_long p unit start end most h m is lt =
+    fault_is p unit h ∙ m.fault
+    ∙ ap (λ (t : Bool). cond t None (Some ProgramMnemonicTooLong)) (ap (λ n. nat_le n 12) (sym is) ∙ lt-leb most 12 lt)
+
+no_fault : (p : Progress) (start end most : ℕ) → MayEnd p start end → most ≡ max p.longest p.mnemonic → most ≤ 12
+    → fault_of p.stage p ≡ None
+no_fault p start end most m is le =
+    m.fault ∙ ap (λ (t : Bool). cond t None (Some ProgramMnemonicTooLong)) (ap (λ n. nat_le n 12) (sym is) ∙ le-leb most 12 le)
+
+-- A unit that may end, and whose mnemonics are short enough, has no fault.
+pub no_fault_if_short : (p : Progress) (unit : List ℕ) (start end most : ℕ) → Reads p unit → MayEnd p start end
+    → most ≡ max p.longest p.mnemonic → most ≤ 12 → unit_fault unit ≡ None
+no_fault_if_short p unit start end most h m is le = fault_is p unit h ∙ no_fault p start end most m is le
+
+-- Without a fault, the parts of the unit are at these positions.
+pub cut_is : (p : Progress) (unit : List ℕ) (start end most : ℕ) → length unit ≤ 2 ^ 64 - 1 → Reads p unit → MayEnd p start end
+    → most ≡ max p.longest p.mnemonic → most ≤ 12 → IsCut unit p.header_start p.header_end start end
+cut_is p unit start end most room h m is le =
+    rw (m.begins, m.ends) (cut_at p.stage p unit room (no_fault p start end most m is le) h.known)

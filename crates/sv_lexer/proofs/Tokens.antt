@@ -1,5 +1,5 @@
 -- The tokens of a unit have the texts and positions that the specification states.
-use Rattle.std.proofs.Common.{◌≡◌, ℕ, ◌+◌, ◌<◌, ◌≤◌, List, [], ◌∷◌, length, drop, refl, sym, ap, ◌∙◌, slice_index_or, slice_range, arith}
+use Rattle.std.proofs.Common.{◌≡◌, ℕ, ◌+◌, ◌<◌, List, [], ◌∷◌, length, drop, refl, sym, ap, ◌∙◌, slice_index_or, slice_range, arith}
 use Rattle.sv_text.specs.White.{is_white, trim}
 use Rattle.sv_text.proofs.Places.{position_within_length}
 use Rattle.sv_lexer.specs.declared.token.Token.{Token}
@@ -7,7 +7,7 @@ use Rattle.sv_lexer.specs.Token.{StandsAt, IsToken, kind_of, in_u32}
 use Rattle.sv_lexer.specs.Unit.{white_size, header_size, header, header_place, rest, rest_place}
 use Rattle.sv_lexer.specs.Inside.Finish.{IsCut}
 use Rattle.sv_lexer.specs.Parameters.{cut_outside, parts, part_place, count, parameter, parameter_place}
-use Rattle.sv_lexer.proofs.Standing.{stands_transitive, stands_take, stands_drop, stands_start, stands_trim, stands_within, slice_stands}
+use Rattle.sv_lexer.proofs.Standing.{stands_transitive, stands_take, stands_drop, stands_start, stands_trim, slice_stands}
 
 stands_same : (unit text : List ℕ) (p q : ℕ) → p ≡ q → StandsAt unit p text → StandsAt unit q text
 stands_same unit text p q e h = rw (← e) h
@@ -50,18 +50,6 @@ cut_holds unit slice text header_start header_end data_start data_end token cut 
       rests,
       cut.data_begins,
       rw (cut.data_begins, rests) (rest_stands unit),
-    )
-
--- These positions are within the unit.
-pub cut_within : (unit : List ℕ) (header_start header_end data_start data_end : ℕ) → IsCut unit header_start header_end data_start data_end
-    → (header_start ≤ header_end) × (header_end ≤ length unit) × (data_start ≤ data_end) × (data_end ≤ length unit)
-cut_within unit header_start header_end data_start data_end cut =
-    let head = stands_within unit (header unit) (header_place unit) (header_stands unit) in
-    let rests = stands_within unit (rest unit) (rest_place unit) (rest_stands unit) in (
-      omega (arith, cut.header_begins, cut.header_ends),
-      omega (arith, head, cut.header_ends),
-      omega (arith, cut.data_begins, cut.data_ends),
-      omega (arith, rests, cut.data_ends),
     )
 
 parts_are_cut : (text : List ℕ) (index : ℕ) → index < length (parts text) → parts text ≡ cut_outside [] text

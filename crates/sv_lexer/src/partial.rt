@@ -70,21 +70,30 @@ impl Partial {
         }
     }
 
-    /// Reads the next byte.
-    pub fn push(&mut self, byte: u8)
-        ensures { (bytes : List ℕ) → Reads self.old bytes → Reads self.new (bytes ++ byte ∷ []) }
-    {
-        let stage = next(self.stage, byte);
-        self.move_to(stage);
-    }
-
     /// Reads the next bytes.
     pub fn push_all(&mut self, bytes: &[u8])
         ensures { (before : List ℕ) → Reads self.old before
             → Reads self.new (before ++ bytes.now) }
     {
         for byte in bytes {
-            self.push(*byte);
+            self.stage = next(self.stage, *byte);
+            self.size = self.size.saturating_add(1);
+            match self.stage {
+                Stage::WhiteSpace => self.header_start = self.size,
+                Stage::Asterisk | Stage::QuerySign => self.header_end = self.size,
+                Stage::Colon => {
+                    self.header_end = self.size;
+                    self.longest = self.longest.max(self.mnemonic);
+                    self.mnemonic = 0;
+                }
+                Stage::CommonMnemonic | Stage::Mnemonic => {
+                    self.header_end = self.size;
+                    self.mnemonic = self.mnemonic.saturating_add(1);
+                }
+                Stage::HeaderSeparator => self.data_start = self.size,
+                Stage::ProgramData => self.data_end = self.size,
+                Stage::DataSpace | Stage::Misspelled | Stage::Illegal => {}
+            }
         }
     }
 
@@ -97,116 +106,24 @@ impl Partial {
         ensures { MatchResult result (λ unit. (unit ≡ text.now) × (unit_fault text.now ≡ None))
             (λ code. unit_fault text.now ≡ Some code) }
     {
-        match self.fault() {
-            Some(code) => Err(code),
-            None => {
-                let (start, end) = self.data();
-                Ok(cut(text, self.header_start, self.header_end, start, end))
+        let (data_start, data_end) = match self.stage {
+            Stage::WhiteSpace | Stage::Asterisk | Stage::Colon | Stage::Misspelled => {
+                return Err(Code::SyntaxError);
             }
-        }
-    }
-
-    /// Updates the stage and the positions for one more byte of the unit, which leads to `stage`.
-    fn move_to(&mut self, stage: Stage)
-        ensures { self.new ≡ progress_to stage self.old }
-    {
-        self.stage = stage;
-        self.size = self.size.saturating_add(1);
-        match stage {
-            Stage::WhiteSpace => self.header_start = self.size,
-            Stage::Asterisk => self.header_end = self.size,
-            Stage::Colon => {
-                self.header_end = self.size;
-                self.longest = self.longest.max(self.mnemonic);
-                self.mnemonic = 0;
+            Stage::Illegal => return Err(Code::InvalidCharacter),
+            Stage::CommonMnemonic | Stage::Mnemonic | Stage::QuerySign | Stage::HeaderSeparator => {
+                (self.header_end, self.header_end)
             }
-            Stage::CommonMnemonic => {
-                self.header_end = self.size;
-                self.mnemonic = self.mnemonic.saturating_add(1);
-            }
-            Stage::Mnemonic => {
-                self.header_end = self.size;
-                self.mnemonic = self.mnemonic.saturating_add(1);
-            }
-            Stage::QuerySign => self.header_end = self.size,
-            Stage::HeaderSeparator => self.data_start = self.size,
-            Stage::ProgramData => self.data_end = self.size,
-            Stage::DataSpace => {}
-            Stage::Misspelled => {}
-            Stage::Illegal => {}
+            Stage::ProgramData | Stage::DataSpace => (self.data_start, self.data_end),
+        };
+        if self.longest.max(self.mnemonic) > MOST {
+            return Err(Code::ProgramMnemonicTooLong);
         }
-    }
-
-    /// The error that the unit has if it ends after the bytes read so far; `None` if it has no
-    /// error then.
-    fn fault(&self) -> Option<Code>
-        ensures { result ≡ fault_of self.now.stage self.now }
-    {
-        match self.stage {
-            Stage::WhiteSpace => Some(Code::SyntaxError),
-            Stage::Asterisk => Some(Code::SyntaxError),
-            Stage::Colon => Some(Code::SyntaxError),
-            Stage::CommonMnemonic => self.length_fault(),
-            Stage::Mnemonic => self.length_fault(),
-            Stage::QuerySign => self.length_fault(),
-            Stage::HeaderSeparator => self.length_fault(),
-            Stage::ProgramData => self.length_fault(),
-            Stage::DataSpace => self.length_fault(),
-            Stage::Misspelled => Some(Code::SyntaxError),
-            Stage::Illegal => Some(Code::InvalidCharacter),
-        }
-    }
-
-    /// The error of a unit with a mnemonic that is too long; `None` if no mnemonic is too long.
-    fn length_fault(&self) -> Option<Code>
-        ensures { result ≡ length_fault_of self.now }
-    {
-        if self.longest.max(self.mnemonic) <= MOST {
-            None
-        } else {
-            Some(Code::ProgramMnemonicTooLong)
-        }
-    }
-
-    /// Where the program data begin and end if the unit ends after the bytes read so far. If the
-    /// unit has no program data, both positions are the end of the header.
-    fn data(&self) -> (usize, usize)
-        ensures start { result.0 ≡ data_of self.now.stage self.now.header_end self.now.data_start }
-        ensures end { result.1 ≡ data_of self.now.stage self.now.header_end self.now.data_end }
-    {
-        match self.stage {
-            Stage::WhiteSpace => (self.header_end, self.header_end),
-            Stage::Asterisk => (self.header_end, self.header_end),
-            Stage::Colon => (self.header_end, self.header_end),
-            Stage::CommonMnemonic => (self.header_end, self.header_end),
-            Stage::Mnemonic => (self.header_end, self.header_end),
-            Stage::QuerySign => (self.header_end, self.header_end),
-            Stage::HeaderSeparator => (self.header_end, self.header_end),
-            Stage::ProgramData => (self.data_start, self.data_end),
-            Stage::DataSpace => (self.data_start, self.data_end),
-            Stage::Misspelled => (self.header_end, self.header_end),
-            Stage::Illegal => (self.header_end, self.header_end),
-        }
-    }
-}
-
-/// The unit whose header and program data are at these positions of a text.
-fn cut(
-    text: &[u8],
-    header_start: usize,
-    header_end: usize,
-    data_start: usize,
-    data_end: usize,
-) -> Unit<'_>
-    requires parts { IsCut text.now header_start header_end data_start data_end }
-    requires header { (header_start ≤ header_end) × (header_end ≤ length text.now) }
-    requires data { (data_start ≤ data_end) × (data_end ≤ length text.now) }
-    ensures { result ≡ text.now }
-{
-    Unit {
-        bytes: text,
-        header: token_at(&text[header_start..header_end], header_start),
-        rest: &text[data_start..data_end],
-        place: data_start,
+        Ok(Unit {
+            bytes: text,
+            header: token_at(&text[self.header_start..self.header_end], self.header_start),
+            rest: &text[data_start..data_end],
+            place: data_start,
+        })
     }
 }
