@@ -58,29 +58,6 @@ cut_last before (b ∷ bytes) n e ge = at (is_open before) (b == 44) e
     at true false e h = ap (onto b) (h (omega (arith, e, ge)))
     at false false e h = ap (onto b) (h (omega (arith, e, ge)))
 
--- The first part, a comma and the rest are the whole text.
-pub first_part_rejoins : (inside : Bool) (bytes : List ℕ) (n : ℕ) → n ≡ first_size inside bytes → n < length bytes
-    → bytes ≡ take n bytes ++ 44 ∷ drop (n + 1) bytes
-first_part_rejoins inside [] n e lt = absurd (omega arith)
-first_part_rejoins inside (b ∷ bytes) n e lt = at inside (b == 44) refl e
-    (first_part_rejoins (opens inside b) bytes (first_size (opens inside b) bytes) refl)
-  where
-    step : (k : ℕ) → n ≡ 1 + k → bytes ≡ take k bytes ++ 44 ∷ drop (k + 1) bytes
-        → b ∷ bytes ≡ take n (b ∷ bytes) ++ 44 ∷ drop (n + 1) (b ∷ bytes)
-    step k e h =
-        let size : n ≡ suc k = omega (arith, e) in
-        let next : n + 1 ≡ suc (k + 1) = omega (arith, e) in
-        rw (next, size) (ap (λ bs. b ∷ bs) h)
-
-    at : (now comma : Bool) → (b == 44) ≡ comma → n ≡ cond (comma && not now) 0 (1 + first_size (opens inside b) bytes)
-        → (first_size (opens inside b) bytes < length bytes
-        → bytes ≡ take (first_size (opens inside b) bytes) bytes ++ 44 ∷ drop (first_size (opens inside b) bytes + 1) bytes)
-        → b ∷ bytes ≡ take n (b ∷ bytes) ++ 44 ∷ drop (n + 1) (b ∷ bytes)
-    at false true c e h = rw e (ap (λ x. x ∷ bytes) (eqb-true b 44 c))
-    at true true c e h = step _ e (h (omega (arith, e, lt)))
-    at true false c e h = step _ e (h (omega (arith, e, lt)))
-    at false false c e h = step _ e (h (omega (arith, e, lt)))
-
 -- If the remaining parts are one part, it is the last one.
 pub last_part_index : (k : ℕ) (cut : List (List ℕ)) (part : List ℕ) → drop k cut ≡ part ∷ [] → length cut ≡ k + 1
 last_part_index zero cut part h = ap length h

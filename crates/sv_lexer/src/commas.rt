@@ -3,7 +3,7 @@
 ghost use Rattle.std.specs.Prelude.{◌≡◌, ◌<◌, ◌≤◌, ◌+◌, ◌++◌, [], ◌∷◌, true, false, reverse, length, slice_index_or, MatchOption};
 ghost use Rattle.std.specs.List.{list_any};
 ghost use Rattle.sv_lexer.specs.Token.{StandsAt};
-ghost use Rattle.sv_lexer.specs.Parameters.{cut_outside, first_size, is_blank as is_blank_part, is_open as is_open_behind, opens, part_place, parts};
+ghost use Rattle.sv_lexer.specs.Parameters.{cut_outside, is_blank as is_blank_part, is_open as is_open_behind, part_place, parts};
 
 use sv_text::trim;
 
@@ -35,13 +35,17 @@ pub(crate) fn filled(text: &[u8]) -> Option<usize>
     let mut rest = text;
     let mut count = 1;
     while let (part, Some(behind)) = first_outside(rest) {
-        if is_blank(part) {
+        if trim(part).is_empty() {
             return None;
         }
         count += 1;
         rest = behind;
     }
-    if is_blank(rest) { None } else { Some(count) }
+    if trim(rest).is_empty() {
+        None
+    } else {
+        Some(count)
+    }
 }
 
 /// The part with this index, counted from 0, and its position in the text; `None` if the text has
@@ -65,13 +69,6 @@ pub(crate) fn part_at(text: &[u8], index: usize) -> Option<(&[u8], usize)>
     Some((first_outside(rest).0, place))
 }
 
-/// Whether a part is empty or has only white space.
-fn is_blank(part: &[u8]) -> bool
-    ensures { result ≡ is_blank_part part.now }
-{
-    trim(part).is_empty()
-}
-
 /// The part before the first comma outside parentheses, and the text after this comma. If there is
 /// no such comma: the whole text, and `None`.
 fn first_outside(text: &[u8]) -> (&[u8], Option<&[u8]>)
@@ -82,42 +79,18 @@ fn first_outside(text: &[u8]) -> (&[u8], Option<&[u8]>)
     ensures shorter { MatchOption result.1 (length result.0.now ≡ length text.now)
         (λ behind. length result.0.now + 1 + length behind.now ≡ length text.now) }
 {
-    let size = comma_in(text);
-    if size < text.len() {
-        (&text[..size], Some(&text[size + 1..]))
-    } else {
-        (text, None)
-    }
-}
-
-/// The position of the first comma outside parentheses; the length of the text if there is no such
-/// comma.
-fn comma_in(text: &[u8]) -> usize
-    ensures value { result ≡ first_size false text.now }
-    ensures within { result ≤ length text.now }
-{
     let mut inside = false;
     let mut place = 0;
     let mut rest = text;
     while let [byte, behind @ ..] = rest {
-        if *byte == b',' && !inside {
-            break;
+        match byte {
+            b',' if !inside => return (&text[..place], Some(behind)),
+            b'(' => inside = true,
+            b')' => inside = false,
+            _ => {}
         }
-        inside = is_inside_behind(inside, *byte);
         place += 1;
         rest = behind;
     }
-    place
-}
-
-/// Whether a parenthesis is open after `byte`; `inside` says whether a parenthesis was open before
-/// this byte.
-fn is_inside_behind(inside: bool, byte: u8) -> bool
-    ensures { result ≡ opens inside byte }
-{
-    match byte {
-        b'(' => true,
-        b')' => false,
-        _ => inside,
-    }
+    (text, None)
 }
