@@ -1,29 +1,26 @@
 //! The parameters of a unit.
 
-ghost use Rattle.std.specs.Prelude.{◌≡◌, ◌<◌, ◌≤◌, None, Some, MatchOption, MatchResult};
-ghost use Rattle.sv_lexer.specs.Token.{IsToken, StandsAt};
-ghost use Rattle.sv_lexer.specs.Unit.{rest as rest_of, rest_place};
-ghost use Rattle.sv_lexer.specs.Parameters.{count as count_of, parameter, parameter_place, parameters_fault};
+ghost use Rattle.std.specs.Prelude.{◌≡◌, ◌<◌, ◌≤◌, MatchOption};
+ghost use Rattle.sv_lexer.specs.Token.{IsToken};
+ghost use Rattle.sv_lexer.specs.Parameters.{count as count_of, parameter, parameter_place};
 
-use crate::commas::{filled, is_open, part_at};
-use crate::reading::skip_space;
+use crate::commas::part_at;
 use crate::token::{Token, token_at};
 use std::marker::Model;
-use sv_errors::Code;
-use sv_text::trim;
+use sv_text::{without_end, without_start};
 
 /// The parameters of a unit: the parts between the commas that are outside parentheses. Contracts
 /// see this value as the bytes of the unit.
 #[derive(Drop)]
 pub struct Params<'a> {
     /// The bytes of the unit.
-    bytes: &'a [u8],
+    pub(crate) bytes: &'a [u8],
     /// The parameters and the commas between them.
-    text: &'a [u8],
+    pub(crate) text: &'a [u8],
     /// The position of `text` in the unit.
-    place: usize,
+    pub(crate) place: usize,
     /// How many parameters there are.
-    count: usize,
+    pub(crate) count: usize,
 }
 
 impl<'a> Model for Params<'a> {
@@ -42,30 +39,6 @@ impl<'a> Model for Params<'a> {
 }
 
 impl<'a> Params<'a> {
-    /// Reads the parameters of a unit from `text`, the part of `bytes` after the header. This part
-    /// begins at `place`.
-    pub(crate) fn new(bytes: &'a [u8], text: &'a [u8], place: usize) -> Result<Params<'a>, Code>
-        requires text { text.now ≡ rest_of bytes.now }
-        requires place { place ≡ rest_place bytes.now }
-        requires stands { StandsAt bytes.now place text.now }
-        ensures { MatchResult result (λ params. (params ≡ bytes.now)
-            × (parameters_fault bytes.now ≡ None))
-            (λ code. parameters_fault bytes.now ≡ Some code) }
-    {
-        if is_open(text) {
-            return Err(Code::InvalidExpression);
-        }
-        match filled(text) {
-            Some(count) => Ok(Params {
-                bytes,
-                text,
-                place,
-                count,
-            }),
-            None => Err(Code::SyntaxError),
-        }
-    }
-
     /// How many parameters there are.
     pub fn count(&self) -> usize
         ensures { result ≡ count_of self.now }
@@ -83,7 +56,8 @@ impl<'a> Params<'a> {
             return None;
         }
         let (part, place) = part_at(self.text, index)?;
-        let (_, space) = skip_space(part);
-        Some(token_at(trim(part), self.place + place + space))
+        let text = without_start(part);
+        let space = part.len() - text.len();
+        Some(token_at(without_end(text), self.place + place + space))
     }
 }

@@ -5,6 +5,7 @@ ghost use Rattle.sv_lexer.specs.Token.{IsToken};
 ghost use Rattle.sv_lexer.specs.Unit.{header as header_text, header_place};
 ghost use Rattle.sv_lexer.specs.Parameters.{parameters_fault};
 
+use crate::commas::{filled, is_open};
 use crate::params::Params;
 use crate::token::Token;
 use std::marker::Model;
@@ -55,6 +56,17 @@ impl<'a> Unit<'a> {
         ensures { MatchResult result (λ params. (params ≡ self.now)
             × (parameters_fault self.now ≡ None)) (λ code. parameters_fault self.now ≡ Some code) }
     {
-        Params::new(self.bytes, self.rest, self.place)
+        if is_open(self.rest) {
+            return Err(Code::InvalidExpression);
+        }
+        match filled(self.rest) {
+            Some(count) => Ok(Params {
+                bytes: self.bytes,
+                text: self.rest,
+                place: self.place,
+                count,
+            }),
+            None => Err(Code::SyntaxError),
+        }
     }
 }

@@ -1,5 +1,0 @@
-use Rattle.std.proofs.Common.{rules}
-use Rattle.sv_lexer.proofs.parts.Unit.parameters.Goals as goal
-
-pub returns : goal.returns
-returns c = search rules
