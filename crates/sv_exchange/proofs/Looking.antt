@@ -1,10 +1,10 @@
 -- A message is read ahead byte by byte, up to the semicolon after its first unit.
-use Rattle.std.proofs.Common.{◌≡◌, ◌≢◌, ℕ, ◌+◌, ◌<◌, ◌≤◌, Bool, true, false, ◌&&◌, ◌||◌, cond, List, [], ◌∷◌, ◌++◌, length, take, drop, map, get_or, slice_get, slice_range, nat_lt, inl, inr, Option, Some, None, unwrap_or, refl, sym, ap, ◌∙◌, subst, append_assoc, append-nil, arith}
+use Rattle.std.proofs.Common.{◌≡◌, ◌≢◌, ℕ, ◌+◌, ◌<◌, ◌≤◌, Bool, true, false, ◌&&◌, ◌||◌, cond, List, [], ◌∷◌, ◌++◌, length, take, drop, map, get_or, slice_get, slice_range, ◌⊎◌, inl, inr, Option, Some, None, unwrap_or, refl, sym, ap, ◌∙◌, subst, append_assoc, append-nil, arith}
 use Rattle.std.specs.Prelude.{filter}
 use Rattle.std.specs.List.{list_all, list_any, onto_first as onto}
-use Rattle.std.proofs.lemmas.Bool.{cases_lt, ltb-true, ltb-false, or_parts, or_from, and_from}
+use Rattle.std.proofs.lemmas.Bool.{cases_lt, or_parts, or_from, and_from}
 use Rattle.std.proofs.lemmas.Bool.Decides.{nat_tests}
-use Rattle.std.proofs.lemmas.List.{length-append, length_push, nil_from_length, take-append-drop, take-append-le, take_all, take_more, drop_all}
+use Rattle.std.proofs.lemmas.List.{length-append, length_push, nil_from_length, take-append-drop, take_all, take_more, drop_all}
 use Rattle.std.proofs.lemmas.List.Folds.{list_any-append, list_all-append}
 use Rattle.sv_text.specs.Cut.{cut_at}
 use Rattle.sv_text.specs.White.{is_white, trim, trim_start, trim_end}
@@ -14,7 +14,7 @@ use Rattle.sv_lexer.proofs.Standing.{slice_stands}
 use Rattle.sv_lexer.proofs.Ends.{trim_end_over_white, trim_end_of_non_white}
 use Rattle.sv_exchange.specs.Exchange.{units, is_something}
 use Rattle.sv_exchange.specs.FirstUnit.{IsFirst}
-use Rattle.sv_exchange.specs.Ahead.{is_separator, IsOpen, IsFound, IsAhead, IsBegun, IsLooked, behind_semicolon, behind_space}
+use Rattle.sv_exchange.specs.Ahead.{is_separator, IsOpen, IsFound, IsAhead, IsBegun, IsLooked}
 use Rattle.sv_exchange.specs.declared.ahead.Ahead.{Ahead}
 use Rattle.sv_exchange.proofs.Stands.{nothing_there}
 
@@ -48,13 +48,13 @@ kept_onto b (part ∷ parts) w =
 white_no_separator : (b : ℕ) → is_white b ≡ true → is_separator b ≡ false
 white_no_separator b w = grind (arith, nat_tests, w)
 
-pub units_space : (b : ℕ) (more : List ℕ) → is_white b ≡ true → units (b ∷ more) ≡ units more
+units_space : (b : ℕ) (more : List ℕ) → is_white b ≡ true → units (b ∷ more) ≡ units more
 units_space b more w =
     ap (λ (t : Bool). kept (cond t ([] ∷ cut_at 59 more) (onto b (cut_at 59 more)))) (white_no_separator b w)
     ∙ kept_onto b (cut_at 59 more) w
 
 -- Neither does a semicolon.
-pub units_separator : (b : ℕ) (more : List ℕ) → b ≡ 59 → units (b ∷ more) ≡ units more
+units_separator : (b : ℕ) (more : List ℕ) → b ≡ 59 → units (b ∷ more) ≡ units more
 units_separator b more e = ap (λ (n : ℕ). units (n ∷ more)) e
 
 -- The unit that a part has.
@@ -89,7 +89,7 @@ blank_open seen left = record {
 }
 
 -- A byte before the unit is skipped.
-pub byte_before_unit : (a new : Ahead) (seen : List ℕ) (b : ℕ) → a.closed ≡ false → a.end ≤ a.start
+byte_before_unit : (a new : Ahead) (seen : List ℕ) (b : ℕ) → a.closed ≡ false → a.end ≤ a.start
     → ((more : List ℕ) → units (b ∷ more) ≡ units more) → new.start ≡ a.looked + 1 → new.end ≡ a.looked + 1 → new.looked ≡ a.looked + 1
     → new.closed ≡ a.closed → new.partial ≡ a.partial → IsAhead a seen → IsAhead new (seen ++ b ∷ [])
 byte_before_unit a new seen b unclosed none skips s e l c p h =
@@ -140,7 +140,7 @@ one_behind a new seen b s e l p h found =
     }
 
 -- A semicolon closes the unit.
-pub ended : (a new : Ahead) (seen : List ℕ) (b : ℕ) → a.closed ≡ false → a.start < a.end → b ≡ 59 → new.start ≡ a.start → new.end ≡ a.end
+ended : (a new : Ahead) (seen : List ℕ) (b : ℕ) → a.closed ≡ false → a.start < a.end → b ≡ 59 → new.start ≡ a.start → new.end ≡ a.end
     → new.looked ≡ a.looked + 1 → new.closed ≡ true → new.partial ≡ a.partial → IsAhead a seen → IsAhead new (seen ++ b ∷ [])
 ended a new seen b unclosed lt is s e l c p h =
     let o = opened a seen h unclosed in
@@ -153,7 +153,7 @@ ended a new seen b unclosed lt is s e l c p h =
     (subst (λ (t : Bool). IsFound t (seen ++ b ∷ []) h.unit (h.space ++ b ∷ [])) (sym c) (some, left))
 
 -- White space may end the unit, or come within it.
-pub white_after_unit : (a new : Ahead) (seen : List ℕ) (b : ℕ) → a.closed ≡ false → a.start < a.end → is_white b ≡ true
+white_after_unit : (a new : Ahead) (seen : List ℕ) (b : ℕ) → a.closed ≡ false → a.start < a.end → is_white b ≡ true
     → new.start ≡ a.start → new.end ≡ a.end → new.looked ≡ a.looked + 1 → new.closed ≡ a.closed → new.partial ≡ a.partial → IsAhead a seen
     → IsAhead new (seen ++ b ∷ [])
 white_after_unit a new seen b unclosed lt w s e l c p h =
@@ -177,7 +177,7 @@ white_after_unit a new seen b unclosed lt w s e l c p h =
     }))
 
 -- Another byte continues the unit, with the white space before it.
-pub grown_open : (seen unit space : List ℕ) (b : ℕ) → is_white b ≡ false → is_separator b ≡ false → IsOpen seen unit space
+grown_open : (seen unit space : List ℕ) (b : ℕ) → is_white b ≡ false → is_separator b ≡ false → IsOpen seen unit space
     → IsOpen (seen ++ b ∷ []) ((unit ++ space) ++ b ∷ []) []
 grown_open seen unit space b w k o =
     let part : List ℕ = (unit ++ space) ++ b ∷ [] in
@@ -207,7 +207,7 @@ grown_open seen unit space b w k o =
         let all : ((unit ++ space) ++ b ∷ []) ++ more ≡ b ∷ more = ap (λ (l : List ℕ). (l ++ b ∷ []) ++ more) empty in
         ap trim_start all ∙ ap (λ (t : Bool). cond t (trim_start more) (b ∷ more)) w ∙ sym all
 
-pub grown : (a new : Ahead) (seen bytes : List ℕ) (b : ℕ) (h : IsAhead a seen) → a.closed ≡ false → is_white b ≡ false
+grown : (a new : Ahead) (seen bytes : List ℕ) (b : ℕ) (h : IsAhead a seen) → a.closed ≡ false → is_white b ≡ false
     → is_separator b ≡ false → new.start ≡ a.start → new.end ≡ a.looked + 1 → new.looked ≡ a.looked + 1 → new.closed ≡ a.closed
     → bytes ≡ h.space ++ b ∷ [] → ((before : List ℕ) → Reads a.partial before → Reads new.partial (before ++ bytes))
     → IsAhead new (seen ++ b ∷ [])
@@ -260,7 +260,7 @@ unit_within a text begun =
     (omega (arith, h.begins, h.closes), omega (arith, h.closes, h.size, size, inner), begun.within)
 
 -- The white space and the byte that continue the unit.
-pub pushed_slice : (a : Ahead) (text : List ℕ) (b : ℕ) (h : IsAhead a (take a.looked text)) → a.looked < length text
+pushed_slice : (a : Ahead) (text : List ℕ) (b : ℕ) (h : IsAhead a (take a.looked text)) → a.looked < length text
     → b ≡ get_or text a.looked 0 → slice_range text a.end (a.looked + 1) ≡ h.space ++ b ∷ []
 pushed_slice a text b h lt is =
     let front : List ℕ = h.before ++ h.unit in
@@ -281,56 +281,42 @@ pushed_slice a text b h lt is =
     (omega (arith, h.closes, h.size, size, inner, part))
 
 -- One more byte was read.
-pub looked_at_next : (a new : Ahead) (text : List ℕ) (b : ℕ) → a.looked < length text → b ≡ get_or text a.looked 0
+looked_at_next : (a new : Ahead) (text : List ℕ) (b : ℕ) → a.looked < length text → b ≡ get_or text a.looked 0
     → new.looked ≡ a.looked + 1 → IsAhead new (take a.looked text ++ b ∷ []) → IsBegun new text
 looked_at_next a new text b lt is l h =
     let more : take new.looked text ≡ take a.looked text ++ b ∷ [] =
     ap (λ (n : ℕ). take n text) l ∙ take_more text a.looked 0 lt ∙ ap (λ (n : ℕ). take a.looked text ++ n ∷ []) (sym is) in
     record { within = omega (arith, l, lt); seen = subst (IsAhead new) (sym more) h }
 
--- After a semicolon, the state still describes what was read.
+-- After a semicolon that closes the unit, the state still describes what was read.
 pub semicolon_seen : (a new : Ahead) (text : List ℕ) → a.looked < length text → get_or text a.looked 0 ≡ 59 → a.closed ≡ false
-    → new ≡ behind_semicolon a → IsBegun a text → IsBegun new text
-semicolon_seen a new text lt is unclosed e h = at (nat_lt a.start a.end) refl e
-  where
-    b : ℕ
-    b = get_or text a.looked 0
+    → a.start < a.end → new.start ≡ a.start → new.end ≡ a.end → new.looked ≡ a.looked + 1 → new.closed ≡ true → new.partial ≡ a.partial
+    → IsBegun a text → IsBegun new text
+semicolon_seen a new text lt is unclosed some s e l c p h =
+    let b : ℕ = get_or text a.looked 0 in
+    looked_at_next a new text b lt refl l (ended a new (take a.looked text) b unclosed some is s e l c p h.seen)
 
-    at : (t : Bool) → nat_lt a.start a.end ≡ t
-        → new ≡ cond t (record a { looked = a.looked + 1; closed = true })
-        (record a { start = a.looked + 1; end = a.looked + 1; looked = a.looked + 1 }) → IsBegun new text
-    at true c e =
-        looked_at_next a new text b lt refl (ap (λ (x : Ahead). x.looked) e)
-        (ended a new (take a.looked text) b unclosed (ltb-true a.start a.end c) is (ap (λ (x : Ahead). x.start) e)
-        (ap (λ (x : Ahead). x.end) e) (ap (λ (x : Ahead). x.looked) e) (ap (λ (x : Ahead). x.closed) e)
-        (ap (λ (x : Ahead). x.partial) e) h.seen)
-    at false c e =
-        looked_at_next a new text b lt refl (ap (λ (x : Ahead). x.looked) e)
-        (byte_before_unit a new (take a.looked text) b unclosed (ltb-false a.start a.end c) (λ more. units_separator b more is)
-        (ap (λ (x : Ahead). x.start) e) (ap (λ (x : Ahead). x.end) e) (ap (λ (x : Ahead). x.looked) e)
-        (ap (λ (x : Ahead). x.closed) e) (ap (λ (x : Ahead). x.partial) e) h.seen)
-
--- The same after white space.
+-- The same after white space behind the unit.
 pub space_seen : (a new : Ahead) (text : List ℕ) → a.looked < length text → is_white (get_or text a.looked 0) ≡ true → a.closed ≡ false
-    → new ≡ behind_space a → IsBegun a text → IsBegun new text
-space_seen a new text lt w unclosed e h = at (nat_lt a.start a.end) refl e
-  where
-    b : ℕ
-    b = get_or text a.looked 0
+    → a.start < a.end → new.start ≡ a.start → new.end ≡ a.end → new.looked ≡ a.looked + 1 → new.closed ≡ a.closed → new.partial ≡ a.partial
+    → IsBegun a text → IsBegun new text
+space_seen a new text lt w unclosed some s e l c p h =
+    let b : ℕ = get_or text a.looked 0 in
+    looked_at_next a new text b lt refl l (white_after_unit a new (take a.looked text) b unclosed some w s e l c p h.seen)
 
-    at : (t : Bool) → nat_lt a.start a.end ≡ t
-        → new ≡ cond t (record a { looked = a.looked + 1 })
-        (record a { start = a.looked + 1; end = a.looked + 1; looked = a.looked + 1 }) → IsBegun new text
-    at true c e =
-        looked_at_next a new text b lt refl (ap (λ (x : Ahead). x.looked) e)
-        (white_after_unit a new (take a.looked text) b unclosed (ltb-true a.start a.end c) w (ap (λ (x : Ahead). x.start) e)
-        (ap (λ (x : Ahead). x.end) e) (ap (λ (x : Ahead). x.looked) e) (ap (λ (x : Ahead). x.closed) e)
-        (ap (λ (x : Ahead). x.partial) e) h.seen)
-    at false c e =
-        looked_at_next a new text b lt refl (ap (λ (x : Ahead). x.looked) e)
-        (byte_before_unit a new (take a.looked text) b unclosed (ltb-false a.start a.end c) (λ more. units_space b more w)
-        (ap (λ (x : Ahead). x.start) e) (ap (λ (x : Ahead). x.end) e) (ap (λ (x : Ahead). x.looked) e)
-        (ap (λ (x : Ahead). x.closed) e) (ap (λ (x : Ahead). x.partial) e) h.seen)
+skips_one : (b : ℕ) → b ≡ 59 ⊎ is_white b ≡ true → (more : List ℕ) → units (b ∷ more) ≡ units more
+skips_one b (inl is) more = units_separator b more is
+skips_one b (inr w) more = units_space b more w
+
+-- The same after a semicolon or white space before the unit.
+pub skipped_seen : (a new : Ahead) (text : List ℕ) → a.looked < length text
+    → get_or text a.looked 0 ≡ 59 ⊎ is_white (get_or text a.looked 0) ≡ true → a.closed ≡ false → a.end ≤ a.start
+    → new.start ≡ a.looked + 1 → new.end ≡ a.looked + 1 → new.looked ≡ a.looked + 1 → new.closed ≡ a.closed → new.partial ≡ a.partial
+    → IsBegun a text → IsBegun new text
+skipped_seen a new text lt is unclosed none s e l c p h =
+    let b : ℕ = get_or text a.looked 0 in
+    looked_at_next a new text b lt refl l
+    (byte_before_unit a new (take a.looked text) b unclosed none (skips_one b is) s e l c p h.seen)
 
 -- The same after another byte, which continues the unit.
 pub other_seen : (a new : Ahead) (text : List ℕ) → a.looked < length text → is_separator (get_or text a.looked 0) ≡ false
@@ -343,15 +329,6 @@ other_seen a new text lt k w unclosed s e l c reads h =
     looked_at_next a new text b lt refl l
     (grown a new (take a.looked text) (slice_range text a.end (a.looked + 1)) b h.seen unclosed w k s e l c
     (pushed_slice a text b h.seen lt refl) reads)
-
--- Bytes that are appended to the text change nothing of what was read.
-pub begun_in_longer_text : (a : Ahead) (text more : List ℕ) → IsBegun a text → IsBegun a (text ++ more)
-begun_in_longer_text a text more h =
-    let long = length-append text more in
-    record {
-      within = omega (arith, h.within, long);
-      seen = subst (IsAhead a) (sym (take-append-le a.looked text more h.within)) h.seen;
-    }
 
 -- After the first unit, the units of the rest of the text follow.
 left_behind : (a : Ahead) (text : List ℕ) (h : IsLooked a text) → is_something h.begun.seen.unit ≡ true

@@ -1,5 +1,5 @@
 -- What is known about the first unit of a text after only a beginning of the text was read.
-use Rattle.std.specs.Prelude.{◌≡◌, ℕ, ◌+◌, ◌≤◌, ◌==◌, Bool, true, false, List, [], ◌∷◌, ◌++◌, length, take, nat_lt, if◌then◌else◌}
+use Rattle.std.specs.Prelude.{◌≡◌, ℕ, ◌+◌, ◌≤◌, ◌==◌, Bool, true, false, List, [], ◌∷◌, ◌++◌, length, take}
 use Rattle.std.specs.List.{list_all, list_any}
 use Rattle.sv_text.specs.White.{is_white, trim_start, trim_end}
 use Rattle.sv_lexer.specs.Partial.{Reads}
@@ -52,13 +52,3 @@ pub record IsBegun (ahead : Ahead) (text : List ℕ) : Type 0 where
 pub record IsLooked (ahead : Ahead) (text : List ℕ) : Type 0 where
   pub begun : IsBegun ahead text
   pub all : ahead.closed ≡ false → ahead.looked ≡ length text
-
--- the state of reading after one more semicolon
-abbrev pub behind_semicolon : Ahead → Ahead
-behind_semicolon ahead = if nat_lt ahead.start ahead.end then record ahead { looked = ahead.looked + 1; closed = true }
-    else record ahead { start = ahead.looked + 1; end = ahead.looked + 1; looked = ahead.looked + 1 }
-
--- the state of reading after one more byte of white space
-abbrev pub behind_space : Ahead → Ahead
-behind_space ahead = if nat_lt ahead.start ahead.end then record ahead { looked = ahead.looked + 1 }
-    else record ahead { start = ahead.looked + 1; end = ahead.looked + 1; looked = ahead.looked + 1 }

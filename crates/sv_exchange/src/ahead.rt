@@ -1,9 +1,9 @@
 //! The next unit of a message, read while the bytes of the message come.
 
-ghost use Rattle.std.specs.Prelude.{◌≡◌, ◌+◌, ◌-◌, ◌^◌, ◌<◌, [], false, length, MatchOption};
+ghost use Rattle.std.specs.Prelude.{◌≡◌, [], MatchOption};
 ghost use Rattle.sv_exchange.specs.Exchange.{units};
 ghost use Rattle.sv_exchange.specs.FirstUnit.{IsFirst};
-ghost use Rattle.sv_exchange.specs.Ahead.{IsBegun, IsLooked, behind_semicolon, behind_space};
+ghost use Rattle.sv_exchange.specs.Ahead.{IsBegun, IsLooked};
 
 use sv_lexer::Partial;
 use sv_text::is_space;
@@ -40,16 +40,25 @@ impl Ahead {
         ahead
     }
 
-    /// Reads the bytes that were appended to `text` since it was last read. If `anew` is true,
-    /// forgets what was read, and reads `text` from its start.
-    pub(crate) fn look_on(&mut self, text: &[u8], anew: bool)
-        requires { anew ≡ false → IsBegun self.old text.now }
+    /// Reads the bytes of `text` that weren't read yet, up to the semicolon that ends the unit. A
+    /// semicolon or white space before the unit is skipped. Any other byte belongs to the unit, as
+    /// does the white space between such bytes.
+    pub(crate) fn look(&mut self, text: &[u8])
+        requires { IsBegun self.old text.now }
         ensures { IsLooked self.new text.now }
     {
-        if anew {
-            *self = Ahead::of(text);
-        } else {
-            self.look(text);
+        while self.looked < text.len() && !self.closed {
+            let byte = text[self.looked];
+            self.looked += 1;
+            if byte != b';' && !is_space(byte) {
+                self.partial.push_all(&text[self.end..self.looked]);
+                self.end = self.looked;
+            } else if self.start >= self.end {
+                self.start = self.looked;
+                self.end = self.looked;
+            } else if byte == b';' {
+                self.closed = true;
+            }
         }
     }
 
@@ -65,65 +74,6 @@ impl Ahead {
             Some((&text[self.start..self.end], self.looked))
         } else {
             None
-        }
-    }
-
-    /// Reads the bytes that weren't read yet, but only up to the semicolon after the unit.
-    fn look(&mut self, text: &[u8])
-        requires { IsBegun self.old text.now }
-        ensures { IsLooked self.new text.now }
-    {
-        while self.looked < text.len() {
-            if self.closed {
-                return;
-            }
-            self.look_at(text);
-        }
-    }
-
-    /// Reads the next byte of the text.
-    fn look_at(&mut self, text: &[u8])
-        requires begun { IsBegun self.old text.now }
-        requires within { self.old.looked < length text.now }
-        requires unclosed { self.old.closed ≡ false }
-        ensures begun { IsBegun self.new text.now }
-        ensures looked { self.new.looked ≡ self.old.looked + 1 }
-    {
-        let byte = text[self.looked];
-        if byte == b';' {
-            self.semicolon();
-        } else if is_space(byte) {
-            self.space();
-        } else {
-            self.partial.push_all(&text[self.end..self.looked + 1]);
-            self.looked += 1;
-            self.end = self.looked;
-        }
-    }
-
-    /// Reads a semicolon. It ends the unit, or is skipped if no unit has begun.
-    fn semicolon(&mut self)
-        requires { self.old.looked < 2 ^ 64 - 1 }
-        ensures { self.new ≡ behind_semicolon self.old }
-    {
-        self.looked += 1;
-        if self.start < self.end {
-            self.closed = true;
-        } else {
-            self.start = self.looked;
-            self.end = self.looked;
-        }
-    }
-
-    /// Reads a byte of white space. If no unit has begun, the unit can begin only after this byte.
-    fn space(&mut self)
-        requires { self.old.looked < 2 ^ 64 - 1 }
-        ensures { self.new ≡ behind_space self.old }
-    {
-        self.looked += 1;
-        if self.start >= self.end {
-            self.start = self.looked;
-            self.end = self.looked;
         }
     }
 }

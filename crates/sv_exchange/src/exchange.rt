@@ -151,10 +151,14 @@ impl<A: Allocator> Exchange<A> {
         self.ended = cut.ended;
         self.end_pending = cut.end_pending;
         self.overlong |= self.end > MAX_MESSAGE;
-        self.cursor = if self.overlong { self.end } else { 0 };
         self.executed = 0;
-        self.ahead
-            .look_on(&self.text[self.cursor..self.end], self.overlong);
+        if self.overlong {
+            self.cursor = self.end;
+            self.ahead = Ahead::of(&[]);
+        } else {
+            self.cursor = 0;
+            self.ahead.look(&self.text[..self.end]);
+        }
     }
 
     /// The step that is due, if any: to report that the current message is too long; to drop the
