@@ -1,10 +1,10 @@
 -- How each change of the fields changes the contents that they represent.
 use Rattle.std.proofs.Common.{◌≡◌, ℕ, ◌+◌, ◌-◌, ◌≤◌, Bool, true, false, ◌&&◌, ◌||◌, cond, List, [], ◌∷◌, ◌++◌, length, take, drop, refl, sym, ap, ◌∙◌, nat_lt, slice_range, arith}
-use Rattle.std.proofs.lemmas.List.{length-append, length-drop, length-take-le, drop-take, drop-drop, take_rest}
+use Rattle.std.proofs.lemmas.List.{length-drop, length-take-le, drop-take, drop-drop, take_rest}
 use Rattle.std.proofs.Math.Seq.{take-append-add, drop-append-add}
 use Rattle.std.specs.Prelude.{if◌then◌else◌}
 use Rattle.sv_exchange.specs.Contents.{Contents}
-use Rattle.sv_exchange.specs.Fields.{contents_of, IsText, IsOut, first_size, second_at, has_line, after_accept, after_finish, with_answer}
+use Rattle.sv_exchange.specs.Fields.{contents_of, IsText, IsOut, first_size, second_at, has_line, after_accept, after_finish}
 use Rattle.sv_exchange.specs.Limits.{max_message}
 
 -- The text after the current message is at most one write.
@@ -116,19 +116,6 @@ contents_after_accept text text' bytes at at' end behind before size second ende
 pub open_message_end : (ended : Bool) (size at end behind : ℕ) → ended ≡ false → IsText ended size at end behind → end ≡ size
 open_message_end true size at end behind e t = absurd cc
 open_message_end false size at end behind e t = t.0
-
--- The length of the output with one more answer.
-pub output_size_with_answer : (answering : Bool) (response answer : List ℕ) (taken before : ℕ) → IsOut answering (length response) taken
-    → before ≡ cond answering (length response + 1) 0 → length (with_answer answering (drop taken response) answer) ≡ before + length answer
-output_size_with_answer true response answer taken before out e =
-    rw (out.1) (omega (arith, length-append response (59 ∷ answer)))
-output_size_with_answer false response answer taken before out e = omega arith
-
--- While answers are collected, none of their bytes were read.
-pub answers_are_unread : (answering : Bool) (response answer : List ℕ) (taken : ℕ) → IsOut answering (length response) taken
-    → with_answer answering response answer ≡ with_answer answering (drop taken response) answer
-answers_are_unread true response answer taken out = rw (out.1) refl
-answers_are_unread false response answer taken out = refl
 
 -- What is left to read after the new line is appended to the answers.
 read_closed : (answering : Bool) (response closed : List ℕ) (read : ℕ) → closed ≡ (if answering then response ++ 10 ∷ [] else response)

@@ -4,7 +4,7 @@ use Rattle.std.proofs.lemmas.Bool.{ltb-true}
 use Rattle.std.proofs.lemmas.List.{length-drop, length-take-le}
 use Rattle.sv_exchange.specs.Exchange.{is_something}
 use Rattle.sv_exchange.specs.Contents.{Contents, readable_of, shown_by, bit, text_size, exchange_measure}
-use Rattle.sv_exchange.specs.Fields.{first_size, has_line, after_finish, after_answer}
+use Rattle.sv_exchange.specs.Fields.{first_size, has_line, after_finish}
 use Rattle.sv_text.proofs.Places.{position_within_length}
 
 bit_small : (b : Bool) → bit b ≤ 1
@@ -47,9 +47,3 @@ no_output_no_response false = refl
 pub interrupt_measure : (contents new : Contents) → is_something (shown_by contents) ≡ true → new ≡ record contents { output = [] }
     → exchange_measure new < exchange_measure contents
 interrupt_measure contents new some is = rw is (omega (arith, ap bit some, ap bit (no_output_no_response contents.answering)))
-
--- An answer is appended, or all answers are dropped; the measure doesn't rise.
-pub answer_measure : (contents new : Contents) (answer : List ℕ) (fits : Bool) → new ≡ after_answer contents answer fits
-    → exchange_measure new ≤ exchange_measure contents
-answer_measure contents new answer true is = rw is (omega arith)
-answer_measure contents new answer false is = rw is (omega arith)

@@ -4,7 +4,7 @@ use Rattle.std.proofs.lemmas.Bool.{lt-ltb, le-ltb, ltb-true}
 use Rattle.std.proofs.lemmas.List.{length-append, take-append-drop, drop-drop, drop_all, length-take-le}
 use Rattle.sv_exchange.specs.Exchange.{ExchangeAct, Accepted, UnitDone, Answered, AnswersDropped, Finished, ResponseRead, TextDropped, Interrupted, text, messages, message, messages_finished, current, units, units_done, has_overrun, has_dropped, answers, response, fits_response, is_something, joined_answers}
 use Rattle.sv_exchange.specs.Contents.{Contents, StandsFor, IsPlaced, IsShown, empty, IsUnitDue, symbols, following, readable_of, shown_by, next_of, is_open, may_respond}
-use Rattle.sv_exchange.specs.Fields.{first_size, has_line, second_at, after_accept, after_finish, with_answer}
+use Rattle.sv_exchange.specs.Fields.{first_size, has_line, second_at, after_accept, after_finish, after_answer, with_answer}
 use Rattle.sv_exchange.specs.FirstUnit.{IsFirst}
 use Rattle.sv_text.proofs.Places.{position_within_length}
 use Rattle.sv_exchange.proofs.Cuts.{more_text_continues_last, first_message_is_cut}
@@ -141,7 +141,7 @@ joined_with true out given readable answer said = joined_push given answer said.
 joined_with false out given readable answer said = ap (λ (g : List (List ℕ)). joined_answers (g ++ answer ∷ [])) said.0
 
 -- Whether an answer fits, by the stored output.
-pub fits_is : (contents : Contents) (acts : List ExchangeAct) (answer : List ℕ) (size : ℕ)
+fits_is : (contents : Contents) (acts : List ExchangeAct) (answer : List ℕ) (size : ℕ)
     → length (with_answer contents.answering contents.output answer) ≡ size → StandsFor contents acts
     → fits_response (answers acts) answer ≡ nat_lt size max_response
 fits_is contents acts answer size e s =
@@ -175,7 +175,7 @@ output_stands contents new acts later dropped answering output is texts finished
     })
 
 -- An answer is appended.
-pub answered_stands : (contents new : Contents) (acts : List ExchangeAct) (answer : List ℕ) → IsTrue (may_respond contents)
+answered_stands : (contents new : Contents) (acts : List ExchangeAct) (answer : List ℕ) → IsTrue (may_respond contents)
     → new ≡ record contents { answering = true; output = with_answer contents.answering contents.output answer }
     → StandsFor contents acts → StandsFor new (Answered answer ∷ acts)
 answered_stands contents new acts answer may is s =
@@ -190,13 +190,23 @@ answered_stands contents new acts answer may is s =
     ) s
 
 -- All answers are dropped.
-pub dropped_stands : (contents new : Contents) (acts : List ExchangeAct) → IsTrue (may_respond contents)
+dropped_stands : (contents new : Contents) (acts : List ExchangeAct) → IsTrue (may_respond contents)
     → new ≡ record contents { answers_dropped = true; answering = false; output = [] }
     → StandsFor contents acts → StandsFor new (AnswersDropped ∷ acts)
 dropped_stands contents new acts may is s =
     let parts = may_respond_parts contents.ended contents.answers_dropped (is_something (shown_by contents)) may in
     output_stands contents new acts (AnswersDropped ∷ acts) _ _ _ is refl refl refl refl s.no_response (λ unended. refl) refl
     (refl, readable_is contents acts s ∙ nothing_there (shown_by contents) parts.2) s
+
+-- If an answer comes, it is added if it fits; else all answers are dropped.
+pub responded_stands : (contents new : Contents) (answer : List ℕ) (fits : Bool) → IsTrue (may_respond contents)
+    → new ≡ after_answer contents answer fits → fits ≡ nat_lt (length (with_answer contents.answering contents.output answer)) max_response
+    → (acts : List ExchangeAct) → StandsFor contents acts
+    → (fits ≡ fits_response (answers acts) answer) × StandsFor new (cond fits (Answered answer) AnswersDropped ∷ acts)
+responded_stands contents new answer true may is fits acts s =
+    (fits ∙ sym (fits_is contents acts answer _ refl s), answered_stands contents new acts answer may is s)
+responded_stands contents new answer false may is fits acts s =
+    (fits ∙ sym (fits_is contents acts answer _ refl s), dropped_stands contents new acts may is s)
 
 pub not_true : (b : Bool) → IsTrue (not b) → b ≡ false
 not_true true h = absurd cc

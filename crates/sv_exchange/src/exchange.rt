@@ -353,19 +353,19 @@ impl<A: Allocator> Exchange<A> {
             → (result ≡ fits_response (answers acts) answer.now)
             × StandsFor self.new ((if result then Answered answer.now else AnswersDropped) ∷ acts) }
     {
-        let before = if self.answering {
-            self.response.len() + 1
+        if self.answering {
+            self.response.push_reserved(b';');
         } else {
-            0
-        };
+            self.response.clear();
+        }
         self.read = 0;
-        if answer.len() >= MAX_RESPONSE - before {
+        if answer.len() >= MAX_RESPONSE - self.response.len() {
             self.response.clear();
             self.answering = false;
             self.answers_dropped = true;
             return false;
         }
-        put_answer(&mut self.response, self.answering, answer);
+        append(&mut self.response, answer);
         self.answering = true;
         true
     }
@@ -460,19 +460,4 @@ impl<A: Allocator> Exchange<A> {
             &self.response[self.read..]
         }
     }
-}
-
-/// If `joins` is true, appends a semicolon and the answer to `bytes`, which has the earlier answers
-/// of the message. Otherwise replaces `bytes` with the answer.
-fn put_answer<A: Allocator>(bytes: &mut Vec<u8, A>, joins: bool, answer: &[u8])
-    requires { length (with_answer joins bytes.old.items answer.now) ≤ vec_capacity bytes.old }
-    ensures items { bytes.new.items ≡ with_answer joins bytes.old.items answer.now }
-    ensures capacity { vec_capacity bytes.old ≤ vec_capacity bytes.new }
-{
-    if joins {
-        bytes.push_reserved(b';');
-    } else {
-        bytes.clear();
-    }
-    append(bytes, answer);
 }
