@@ -10,14 +10,15 @@ ghost use Rattle.sv_exchange.specs.Contents.{Contents, StandsFor, empty, is_open
 ghost use Rattle.sv_exchange.specs.Fields.{after_accept, after_finish, after_answer, with_answer};
 
 use crate::ahead::Ahead;
-use crate::limits::{MAX_MESSAGE, MAX_RESPONSE, MAX_TEXT};
+use crate::limits::{MAX_MESSAGE, MAX_READ, MAX_RESPONSE, MAX_TEXT};
 use crate::message::first_message;
-use crate::read::{Read, read_of};
+use crate::read::{Read, ends_at};
 use std::alloc::{AllocError, Allocator, Global};
 use std::marker::Model;
 use sv_bytes::{append, drop_front};
 use sv_errors::Code;
 use sv_lexer::Unit;
+use sv_text::place_of;
 
 /// The step that is due.
 #[derive(Clone, Copy)]
@@ -387,7 +388,18 @@ impl<A: Allocator> Exchange<A> {
         ensures answer { (acts : List ExchangeAct) → StandsFor self.now acts
             → IsReadOf result (response acts) most term }
     {
-        read_of(self.shown(), most, term)
+        let response = self.shown();
+        let limit = (most as usize).min(MAX_READ.min(response.len()));
+        let count = match term {
+            Some(last) => limit.min(place_of(&response[..limit], last) + 1),
+            None => limit,
+        };
+        Read {
+            request_count: count == most as usize,
+            character: ends_at(response, count, term),
+            end: count == response.len(),
+            bytes: &response[..count],
+        }
     }
 
     /// Drops the first `count` bytes of the response, because they were read (VXI-11, device_read).
