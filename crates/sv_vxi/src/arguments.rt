@@ -2,7 +2,7 @@
 //! lock and the link of a call.
 
 ghost use Rattle.std.specs.Prelude.{◌≡◌};
-ghost use Rattle.sv_vxi.specs.Arguments.{link as link_by, lock_wait as lock_wait_by, lock_wait_of as flagged_by, is_create_link as makes_link};
+ghost use Rattle.sv_vxi.specs.Arguments.{link as link_by, lock_wait as lock_wait_by, is_create_link as makes_link};
 ghost use Rattle.sv_vxi.specs.Reading.{plain_call, plain_arguments};
 
 use crate::flags::Flags;
@@ -177,7 +177,10 @@ impl LinkCall<'_> {
                 flags,
                 lock_timeout,
                 ..
-            } => flagged(flags, lock_timeout),
+            } => Some(LockWait {
+                waits: flags.has_wait_lock(),
+                timeout: lock_timeout,
+            }),
             _ => None,
         }
     }
@@ -200,15 +203,4 @@ impl Args<'_> {
     {
         matches!(*self, Args::CreateLink { .. })
     }
-}
-
-/// What the flags and the lock timeout of a call say: whether the call waits for the lock, and how
-/// long.
-fn flagged(flags: Flags, timeout: u32) -> Option<LockWait>
-    ensures { result ≡ flagged_by flags.0 timeout }
-{
-    Some(LockWait {
-        waits: flags.has_wait_lock(),
-        timeout,
-    })
 }

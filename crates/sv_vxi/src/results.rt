@@ -4,7 +4,7 @@ ghost use Rattle.std.specs.Prelude.{◌≡◌, ◌<◌, ◌≤◌, ◌^◌, [], 
 ghost use Rattle.sv_xdr.specs.Spelling.{spelling};
 ghost use Rattle.sv_xdr.specs.Writer.{WritesEach, Stays};
 ghost use Rattle.sv_vxi.specs.ErrorCode.{unless_error as unless_failed};
-ghost use Rattle.sv_vxi.specs.Results.{Link, Plain, Data, plain_result, result_fields, data_of};
+ghost use Rattle.sv_vxi.specs.Results.{Link, plain_result, result_fields, data_of};
 
 use crate::error_code::ErrorCode;
 use crate::reason::Reason;
@@ -69,24 +69,13 @@ impl<'a> VxiResult<'a> {
     {
         match *self {
             VxiResult::Read { error, bytes, .. } | VxiResult::Data { error, bytes } => {
-                data_unless_error(error, bytes)
+                unless_error(error, bytes, &[])
             }
             VxiResult::Link { .. }
             | VxiResult::Size { .. }
             | VxiResult::Status { .. }
             | VxiResult::Plain { .. } => &[],
         }
-    }
-}
-
-/// The data of a result; empty if there is an error.
-fn data_unless_error(error: ErrorCode, bytes: &[u8]) -> &[u8]
-    ensures { result.now ≡ unless_failed error bytes.now [] }
-{
-    if error == ErrorCode::NoError {
-        bytes
-    } else {
-        &[]
     }
 }
 
@@ -105,7 +94,8 @@ pub fn write_result(writer: &mut Writer<'_>, outcome: &VxiResult<'_>) -> Result<
     ensures too_long { 2 ^ 32 ≤ length (data_of (plain_result outcome.now))
         → IsErrOf result XdrFault.TooLong × Stays writer.old writer.new }
 {
-    if u32::try_from(outcome.data().len()).is_err() {
+    let data = outcome.data();
+    if u32::try_from(data.len()).is_err() {
         return Err(XdrFault::TooLong);
     }
     match *outcome {
@@ -119,21 +109,20 @@ pub fn write_result(writer: &mut Writer<'_>, outcome: &VxiResult<'_>) -> Result<
             writer.i32(error.number())?;
             writer.u32(unless_error(error, size, 0))
         }
-        VxiResult::Read {
-            error,
-            reason,
-            bytes,
-        } => {
+        VxiResult::Read { error, reason, .. } => {
             writer.i32(error.number())?;
             writer.i32(unless_error(error, reason.number(), 0))?;
-            writer.opaque(data_unless_error(error, bytes))
+            writer.opaque(data)
         }
         VxiResult::Status { error, stb } => {
             writer.i32(error.number())?;
             writer.u32(u32::from(unless_error(error, stb, 0)))
         }
-        VxiResult::Plain { error } => write_error(writer, error),
-        VxiResult::Data { error, bytes } => write_data(writer, error, bytes),
+        VxiResult::Plain { error } => writer.i32(error.number()),
+        VxiResult::Data { error, .. } => {
+            writer.i32(error.number())?;
+            writer.opaque(data)
+        }
     }
 }
 
@@ -141,11 +130,8 @@ pub fn write_result(writer: &mut Writer<'_>, outcome: &VxiResult<'_>) -> Result<
 fn unless_error<T: Copy>(error: ErrorCode, value: T, nothing: T) -> T
     ensures { result ≡ unless_failed error value nothing }
 {
-    if error == ErrorCode::NoError {
-        value
-    } else {
-        nothing
-    }
+    let failed = error != ErrorCode::NoError;
+    if failed { nothing } else { value }
 }
 
 /// Writes the result of create_link.
@@ -164,26 +150,4 @@ fn write_link(
     writer.i32(unless_error(error, lid, 0))?;
     writer.u32(u32::from(unless_error(error, abort_port, 0)))?;
     writer.u32(unless_error(error, max_recv_size, 0))
-}
-
-/// Writes a result that consists of an error.
-#[tactic(auto, using(sv_xdr::proofs::Appended::each_piece))]
-fn write_error(writer: &mut Writer<'_>, error: ErrorCode) -> Result<(), XdrFault>
-    ensures same_buffer { writer.new.out.ghost_name ≡ writer.old.out.ghost_name }
-    ensures writes { WritesEach (map spelling (result_fields (Plain error))) result writer.old
-        writer.new }
-{
-    writer.i32(error.number())
-}
-
-/// Writes the result of device_docmd.
-#[tactic(auto, using(sv_xdr::proofs::Appended::each_piece))]
-fn write_data(writer: &mut Writer<'_>, error: ErrorCode, bytes: &[u8]) -> Result<(), XdrFault>
-    ensures same_buffer { writer.new.out.ghost_name ≡ writer.old.out.ghost_name }
-    ensures writes { length (data_of (Data error bytes.now)) < 2 ^ 32
-        → WritesEach (map spelling (result_fields (Data error bytes.now))) result writer.old
-        writer.new }
-{
-    writer.i32(error.number())?;
-    writer.opaque(data_unless_error(error, bytes))
 }

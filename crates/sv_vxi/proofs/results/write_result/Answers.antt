@@ -26,7 +26,7 @@ returns-in_ok-i32-in-Read-2-clause-writes c = rw c.in-Read.is (λ fits.
     let second : Appends reason c.i32-in-Read.new.self c.i32-in-Read-2.new.self = search (rules, c.in_ok-i32-in-Read-2.ensures.exact) in
     let last : Writes (spelling (Opaque text)) c.opaque.result c.i32-in-Read-2.new.self c.opaque.new.self =
     subst (λ (l : List ℕ). length l < 4294967296 → Writes (spelling (Opaque l)) c.opaque.result c.i32-in-Read-2.new.self c.opaque.new.self)
-    c.data_unless_error.ensures c.opaque.ensures.exact fits in
+    (rw c.in-Read.is at (c.data-data.ensures)) c.opaque.ensures.exact fits in
     each_first error (reason ∷ spelling (Opaque text) ∷ []) c.opaque.result c.args.writer.now c.i32-in-Read.new.self c.opaque.new.self first
     (each_first reason (spelling (Opaque text) ∷ []) c.opaque.result c.i32-in-Read.new.self c.i32-in-Read-2.new.self c.opaque.new.self
     second (each_last (spelling (Opaque text)) c.opaque.result c.i32-in-Read-2.new.self c.opaque.new.self last)))
