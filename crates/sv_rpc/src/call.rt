@@ -2,7 +2,7 @@
 
 ghost use Rattle.std.specs.Prelude.{◌≡◌, Result};
 ghost use Rattle.sv_rpc.specs.declared.call.CallFault.{CallFault};
-ghost use Rattle.sv_rpc.specs.Call.{PlainCall, CallIs, plain_call, body_at, call_at, plain_call_result};
+ghost use Rattle.sv_rpc.specs.Call.{PlainCall, CallIs, plain_call, call_at, plain_call_result};
 
 use sv_xdr::{Reader, XdrFault};
 use thiserror::Error;
@@ -70,7 +70,7 @@ pub fn read_call(bytes: &[u8]) -> Result<Call<'_>, CallFault>
     call_of(bytes)
 }
 
-#[tactic(auto, unfolding(crate::specs::Call::call_at))]
+#[tactic(auto, unfolding(crate::specs::Call::call_at, crate::specs::Call::body_at))]
 fn call_of(bytes: &[u8]) -> Result<Call<'_>, CallFault>
     ensures { plain_call_result result ≡ call_at bytes.now }
 {
@@ -82,15 +82,6 @@ fn call_of(bytes: &[u8]) -> Result<Call<'_>, CallFault>
     if reader.u32()? != 2 {
         return Err(CallFault::Version(xid));
     }
-    body_of(xid, reader.rest())
-}
-
-/// Reads the part of a call after the RPC version.
-#[tactic(auto, unfolding(crate::specs::Call::body_at))]
-fn body_of(xid: u32, bytes: &[u8]) -> Result<Call<'_>, CallFault>
-    ensures { plain_call_result result ≡ body_at xid bytes.now }
-{
-    let mut reader = Reader::new(bytes);
     let prog = reader.u32()?;
     let vers = reader.u32()?;
     let proc = reader.u32()?;
