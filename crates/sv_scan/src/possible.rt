@@ -21,13 +21,9 @@ fn is_limit(microvolts: i64) -> bool
 pub(crate) fn least_range(wanted: i64) -> i64
     ensures { result ≡ least_range_of wanted }
 {
-    if wanted <= RANGES.0 {
-        RANGES.0
-    } else if wanted <= RANGES.1 {
-        RANGES.1
-    } else {
-        RANGES.2
-    }
+    let (small, middle, large) = RANGES;
+    let least = if wanted <= middle { middle } else { large };
+    if wanted <= small { small } else { least }
 }
 
 /// Whether the value of a setting is allowed.
@@ -50,14 +46,8 @@ pub(crate) fn is_possible(setting: &Setting) -> bool
 pub(crate) fn is_fixed(setting: &Setting) -> bool
     ensures { result ≡ has_to_wait setting.now }
 {
-    match setting {
-        Setting::List(_list) => true,
-        Setting::Range(_wanted) => true,
-        Setting::Source(_source) => true,
-        Setting::Count(_scans) => true,
-        Setting::Monitor(_channel) => false,
-        Setting::Upper(_limit) => false,
-        Setting::Lower(_limit) => false,
-        Setting::Limits(_on) => false,
-    }
+    matches!(
+        setting,
+        Setting::List(_) | Setting::Range(_) | Setting::Source(_) | Setting::Count(_)
+    )
 }

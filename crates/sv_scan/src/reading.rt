@@ -35,12 +35,7 @@ pub(crate) fn reading_in(range: i64, microvolts: i64) -> Reading
 pub(crate) fn is_overload(reading: Option<Reading>) -> bool
     ensures { result ≡ overloads reading }
 {
-    match reading {
-        None => false,
-        Some(Reading::Value(_microvolts)) => false,
-        Some(Reading::Over) => true,
-        Some(Reading::Under) => true,
-    }
+    matches!(reading, Some(Reading::Over | Reading::Under))
 }
 
 /// Whether there is a reading and it is below a limit, in microvolts. A negative overload counts as
@@ -49,10 +44,8 @@ pub(crate) fn is_below(reading: Option<Reading>, limit: i64) -> bool
     ensures { result ≡ lies_below reading limit }
 {
     match reading {
-        None => false,
         Some(Reading::Value(microvolts)) => microvolts < limit,
-        Some(Reading::Over) => false,
-        Some(Reading::Under) => true,
+        other => matches!(other, Some(Reading::Under)),
     }
 }
 
@@ -62,9 +55,7 @@ pub(crate) fn is_above(reading: Option<Reading>, limit: i64) -> bool
     ensures { result ≡ lies_above reading limit }
 {
     match reading {
-        None => false,
         Some(Reading::Value(microvolts)) => microvolts > limit,
-        Some(Reading::Over) => true,
-        Some(Reading::Under) => false,
+        other => matches!(other, Some(Reading::Over)),
     }
 }

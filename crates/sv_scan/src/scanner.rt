@@ -22,7 +22,9 @@ use crate::setting::{Reading, Setting, State};
 use crate::settings::Settings;
 use crate::state::{is_complete, is_same, state_in};
 use crate::touched::Touched;
-use crate::words::{Conditions, OVERLOAD, limit_word, mask_if, operation_word};
+use crate::words::{
+    ABOVE, ACQUIRING, BELOW, Conditions, MEASURING, OUTSIDE, OVERLOAD, WAITING, mask_if,
+};
 use std::alloc::{AllocError, Allocator, Global};
 use std::marker::Model;
 use sv_errors::{CHANNELS, Code, Layer, MOST_READINGS, Source, is_channel};
@@ -318,18 +320,19 @@ impl<A: Allocator> Scanner<A> {
         ensures limit { (acts : List ScanAct) → StandsFor self.now acts
             → result.limit ≡ limit (effective acts) }
     {
+        let state = self.state();
         let last = self.last_reading();
         let live = voltage(&self.inputs, self.settings.monitor);
-        let outside = live < self.settings.lower || self.settings.upper < live;
+        let outside = (live < self.settings.lower) | (self.settings.upper < live);
+        let limits = self.settings.limits;
         Conditions {
-            operation: operation_word(self.state()),
+            operation: mask_if(MEASURING, state.is_scanning())
+                + mask_if(WAITING, state.is_waiting())
+                + mask_if(ACQUIRING, !state.is_idle()),
             questionable: mask_if(OVERLOAD, is_overload(last)),
-            limit: limit_word(
-                self.settings.limits,
-                is_below(last, self.settings.lower),
-                is_above(last, self.settings.upper),
-                outside,
-            ),
+            limit: mask_if(BELOW, limits & is_below(last, self.settings.lower))
+                + mask_if(ABOVE, limits & is_above(last, self.settings.upper))
+                + mask_if(OUTSIDE, limits & outside),
         }
     }
 

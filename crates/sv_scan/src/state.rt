@@ -33,33 +33,21 @@ impl State {
     pub fn is_idle(self) -> bool
         ensures { result ≡ idles self }
     {
-        match self {
-            State::Idle => true,
-            State::Waiting => false,
-            State::Scanning => false,
-        }
+        matches!(self, State::Idle)
     }
 
     /// Whether the next scan waits for its trigger.
     pub fn is_waiting(self) -> bool
         ensures { result ≡ waits self }
     {
-        match self {
-            State::Idle => false,
-            State::Waiting => true,
-            State::Scanning => false,
-        }
+        matches!(self, State::Waiting)
     }
 
     /// Whether a scan was triggered and isn't complete.
     pub fn is_scanning(self) -> bool
         ensures { result ≡ scans self }
     {
-        match self {
-            State::Idle => false,
-            State::Waiting => false,
-            State::Scanning => true,
-        }
+        matches!(self, State::Scanning)
     }
 }
 
