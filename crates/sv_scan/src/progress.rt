@@ -41,7 +41,17 @@ impl<A: Allocator> Scanner<A> {
         let Some(run) = &self.run else {
             return None;
         };
-        run.progress(self.readings.len())
+        let samples = self.readings.len();
+        if run.is_complete(samples) {
+            return None;
+        }
+        let places = run.list.channels().len();
+        Some(Progress {
+            scan: run.triggers,
+            scans: run.scans,
+            place: (samples % places) as u8,
+            places: places as u8,
+        })
     }
 
     /// The newest reading of the measurement, with its channel; `None` if there is no reading.

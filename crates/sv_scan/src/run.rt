@@ -3,9 +3,7 @@
 ghost use Rattle.std.specs.Prelude.{◌≡◌, ◌+◌, ◌*◌, ◌<◌, ◌==◌, length};
 ghost use Rattle.sv_errors.specs.Limits.{most_scans};
 ghost use Rattle.sv_scan.specs.Scan.{state_by, channel_at};
-ghost use Rattle.sv_scan.specs.Stands.{progress_by};
 
-use crate::progress::Progress;
 use crate::scan_list::ScanList;
 use crate::setting::State;
 use std::marker::Model;
@@ -15,10 +13,11 @@ use std::marker::Model;
 #[derive(Drop)]
 pub(crate) struct Run {
     /// The channels that each scan reads.
-    list: ScanList,
+    pub(crate) list: ScanList,
     /// How many scans the measurement has in all.
-    scans: u8,
-    triggers: u8,
+    pub(crate) scans: u8,
+    /// How many scans were triggered.
+    pub(crate) triggers: u8,
 }
 
 impl Model for Run {
@@ -30,17 +29,6 @@ impl Model for Run {
 }
 
 impl Run {
-    /// A measurement before its first trigger.
-    pub(crate) fn new(list: ScanList, scans: u8) -> Run
-        ensures { result ≡ record { channels = list; scans = scans; triggers = 0 } }
-    {
-        Run {
-            list,
-            scans,
-            triggers: 0,
-        }
-    }
-
     /// The state of the measurement after this number of samples.
     pub(crate) fn state(&self, samples: usize) -> State
         ensures { result ≡ state_by self.now.triggers samples
@@ -61,23 +49,6 @@ impl Run {
         ensures { result ≡ (samples == self.now.scans * length self.now.channels) }
     {
         samples == usize::from(self.scans) * self.list.channels().len()
-    }
-
-    /// How far the measurement is after this number of samples; `None` if it is complete.
-    pub(crate) fn progress(&self, samples: usize) -> Option<Progress>
-        requires { 0 < length self.now.channels }
-        ensures { result ≡ progress_by self.now samples }
-    {
-        if self.is_complete(samples) {
-            return None;
-        }
-        let places = self.list.channels().len();
-        Some(Progress {
-            scan: self.triggers,
-            scans: self.scans,
-            place: (samples % places) as u8,
-            places: places as u8,
-        })
     }
 
     /// The channel to read after this number of samples. After the last channel of the list, the

@@ -20,7 +20,7 @@ use crate::reading::{is_above, is_below, is_overload, reading_in, voltage};
 use crate::run::Run;
 use crate::setting::{Reading, Setting, State};
 use crate::settings::Settings;
-use crate::state::{is_complete, is_same, state_in};
+use crate::state::is_same;
 use crate::touched::Touched;
 use crate::words::{
     ABOVE, ACQUIRING, BELOW, Conditions, MEASURING, OUTSIDE, OVERLOAD, WAITING, mask_if,
@@ -157,7 +157,11 @@ impl<A: Allocator> Scanner<A> {
     {
         self.may_init()?;
         self.readings.clear();
-        self.run = Some(Run::new(self.settings.list, self.settings.count));
+        self.run = Some(Run {
+            list: self.settings.list,
+            scans: self.settings.count,
+            triggers: 0,
+        });
         self.touched = Touched {
             operation: true,
             questionable: true,
@@ -300,7 +304,10 @@ impl<A: Allocator> Scanner<A> {
         ensures answer { (acts : List ScanAct) → StandsFor self.now acts
             → result ≡ state_of (effective acts) }
     {
-        state_in(&self.run, self.readings.len())
+        match &self.run {
+            None => State::Idle,
+            Some(run) => run.state(self.readings.len()),
+        }
     }
 
     /// The newest reading of the measurement; `None` if there is no reading.
@@ -349,7 +356,10 @@ impl<A: Allocator> Scanner<A> {
             (λ code. (completes (effective acts) ≡ false)
             × (code ≡ DataCorruptOrStale)) }
     {
-        if is_complete(&self.run, self.readings.len()) {
+        let Some(run) = &self.run else {
+            return Err(Code::DataCorruptOrStale);
+        };
+        if run.is_complete(self.readings.len()) {
             Ok(self.readings_so_far())
         } else {
             Err(Code::DataCorruptOrStale)

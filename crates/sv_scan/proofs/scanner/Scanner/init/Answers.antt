@@ -11,7 +11,7 @@ returns-clause-stands g c acts is =
     stands_for_counted _ Init acts
     (is_accepted (init_fault (effective acts)) (c.in_ok-may_init.ensures acts is))
     (let held = rw (← c.self.view_is) at is in
-    holds_run _ (effective acts) Init _ _ _ refl held (rw (c.new.ensures, held.list, held.count) refl) c.clear.ensures.items
+    holds_run _ (effective acts) Init _ _ _ refl held (rw (held.list, held.count) refl) c.clear.ensures.items
     (is_touched_all Init (effective acts)))
 
 pub returns-in_err-may_init-clause-stands : goal.returns-in_err-may_init-clause-stands
