@@ -2,10 +2,9 @@
 
 ghost use Rattle.std.specs.Prelude.{◌≡◌, ◌+◌, ◌*◌, ◌<◌, ◌==◌, length};
 ghost use Rattle.sv_errors.specs.Limits.{most_scans};
-ghost use Rattle.sv_scan.specs.Scan.{state_by, channel_at};
+ghost use Rattle.sv_scan.specs.Scan.{channel_at};
 
 use crate::scan_list::ScanList;
-use crate::setting::State;
 use std::marker::Model;
 
 /// A measurement: its scan list and count, as they were when it was initiated, and the number of
@@ -29,21 +28,6 @@ impl Model for Run {
 }
 
 impl Run {
-    /// The state of the measurement after this number of samples.
-    pub(crate) fn state(&self, samples: usize) -> State
-        ensures { result ≡ state_by self.now.triggers samples
-            (length self.now.channels) self.now.scans }
-    {
-        let channels = self.list.channels().len();
-        if samples == usize::from(self.scans) * channels {
-            State::Idle
-        } else if samples == usize::from(self.triggers) * channels {
-            State::Waiting
-        } else {
-            State::Scanning
-        }
-    }
-
     /// Whether each channel of each scan has been read after this number of samples.
     pub(crate) fn is_complete(&self, samples: usize) -> bool
         ensures { result ≡ (samples == self.now.scans * length self.now.channels) }

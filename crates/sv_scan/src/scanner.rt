@@ -304,9 +304,17 @@ impl<A: Allocator> Scanner<A> {
         ensures answer { (acts : List ScanAct) → StandsFor self.now acts
             → result ≡ state_of (effective acts) }
     {
-        match &self.run {
-            None => State::Idle,
-            Some(run) => run.state(self.readings.len()),
+        let Some(run) = &self.run else {
+            return State::Idle;
+        };
+        let samples = self.readings.len();
+        let channels = run.list.channels().len();
+        if samples == usize::from(run.scans) * channels {
+            State::Idle
+        } else if samples == usize::from(run.triggers) * channels {
+            State::Waiting
+        } else {
+            State::Scanning
         }
     }
 
