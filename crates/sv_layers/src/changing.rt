@@ -7,7 +7,7 @@ ghost use Rattle.sv_scan.specs.declared.acts.ScanAct.TheVariants.{Trigger};
 ghost use Rattle.sv_scan.specs.declared.setting.State.TheVariants.{Waiting, Scanning};
 ghost use Rattle.sv_scan.specs.Counted.{trigger_fault};
 ghost use Rattle.sv_layers.specs.Condition.{effective_acts};
-ghost use Rattle.sv_layers.specs.Act.{Act, Scanned, Reported};
+ghost use Rattle.sv_layers.specs.Act.{Act, Scanned};
 ghost use Rattle.sv_layers.specs.Change.{act_of};
 ghost use Rattle.sv_layers.specs.Inside.LayerLogs.{LayerLogs, after_begin, resets};
 ghost use Rattle.sv_layers.specs.Inside.Representation.{StandsFor, IsApplied, Represents, state_by};
@@ -33,10 +33,11 @@ impl<A: Allocator> Layers<A> {
     {
         self.begin(&change);
         self.end(&change);
-        self.tell();
     }
 
-    /// Applies a change to the layer that it belongs to, without updating the registers.
+    /// Applies a change to the layer that it belongs to, without updating the registers. A reset of
+    /// the scanner cancels a pending `*OPC`. A reported error sets the standard event of its class;
+    /// if the error queue overflows, also the event of device-specific errors.
     fn begin(&mut self, change: &Change)
         ensures stands { (at : LayerLogs) (status_log : List StatusAct)
             → Represents self.old at status_log
@@ -45,8 +46,15 @@ impl<A: Allocator> Layers<A> {
         ensures requests { self.new.requests ≡ self.old.requests }
     {
         match change {
-            Change::Scan(act) => self.scan(*act),
-            Change::Report(code) => self.report(*code),
+            Change::Scan(act) => {
+                self.waits &= !is_reset(act);
+                self.scanner.act(*act);
+            }
+            Change::Report(code) => {
+                let overflows = self.errors.report(*code);
+                self.standard.occur(code.standard_event());
+                self.standard.occur(mask_if(DEVICE, overflows));
+            }
             Change::TakeEntry => {
                 self.errors.take();
             }
@@ -58,32 +66,6 @@ impl<A: Allocator> Layers<A> {
             Change::Status(StatusChange::EnableService(mask)) => self.service = *mask,
             _ => {}
         }
-    }
-
-    /// Applies an act to the scanner; a reset cancels a pending `*OPC`.
-    fn scan(&mut self, act: ScanAct)
-        ensures stands { (at : LayerLogs) (status_log : List StatusAct)
-            → Represents self.old at status_log
-            → Represents self.new (after_begin (Scanned act) at) status_log }
-        ensures exchange { self.new.exchange ≡ self.old.exchange }
-        ensures requests { self.new.requests ≡ self.old.requests }
-    {
-        self.waits &= !is_reset(&act);
-        self.scanner.act(act);
-    }
-
-    /// Reports an error: adds it to the error queue, and sets the standard event of its class. If
-    /// the queue overflows, also sets the standard event of device-specific errors.
-    fn report(&mut self, code: Code)
-        ensures stands { (at : LayerLogs) (status_log : List StatusAct)
-            → Represents self.old at status_log
-            → Represents self.new (after_begin (Reported code) at) status_log }
-        ensures exchange { self.new.exchange ≡ self.old.exchange }
-        ensures requests { self.new.requests ≡ self.old.requests }
-    {
-        let overflows = self.errors.report(code);
-        self.standard.occur(code.standard_event());
-        self.standard.occur(mask_if(DEVICE, overflows));
     }
 
     /// Applies a trigger from this source, which begins the next scan.

@@ -1,4 +1,4 @@
-use Rattle.std.proofs.Common.{◌≡◌, ℕ, ◌+◌, ◌*◌, ◌%◌, ◌^◌, ◌&&◌, not, Bool, ◌∷◌, List, refl, ◌∙◌, ap, sym, subst}
+use Rattle.std.proofs.Common.{◌≡◌, ℕ, ◌+◌, ◌*◌, ◌%◌, ◌^◌, ◌&&◌, not, Bool, ◌∷◌, List, refl, ◌∙◌, ap, sym, subst, min, true, nat_lt}
 use Rattle.sv_status.specs.declared.register_name.RegisterName.TheVariants.{Operation, Questionable, Limit}
 use Rattle.sv_status.specs.declared.standard_event.StandardAct.{StandardAct}
 use Rattle.sv_status.specs.declared.standard_event.StandardAct.TheVariants.{Occur}
@@ -11,16 +11,26 @@ use Rattle.sv_layers.specs.Act.{scan_acts}
 use Rattle.sv_layers.specs.Change.{act_of}
 use Rattle.sv_layers.specs.Condition.{effective_acts, summary}
 use Rattle.sv_layers.specs.Inside.LayerLogs.{after_begin, idles, layer_logs}
-use Rattle.sv_layers.proofs.Booleans.{same_bool, cond_is_bit, shifted_bit, same_unless_unequal}
+use Rattle.sv_layers.proofs.Booleans.{same_bool, cond_is_bit, shifted_bit, same_unless_unequal, nonempty_by_length, from_bool_is_bit}
 use Rattle.sv_layers.proofs.SameWords.{same_words}
 use Rattle.sv_layers.proofs.SameSummaries.{same_summary}
 use Rattle.sv_layers.proofs.LimitSummary.{summary_is}
 use Rattle.sv_layers.proofs.Followed.{untouched_words_kept, begun_scans, begun_stands, stands_after_direct_effect, questionable_is}
 use Rattle.sv_layers.proofs.layers.Layers.end.Goals as goal
 use Rattle.std.proofs.lemmas.Bool.{or_parts}
+use Rattle.std.specs.Prelude.{◌↔◌}
+use Rattle.sv_errors.specs.ErrorQueue.{entries}
+use Rattle.sv_status.specs.declared.status_byte.StatusAct.{StatusAct}
+use Rattle.sv_status.specs.declared.status_byte.StatusAct.TheVariants.{Update}
+use Rattle.sv_status.specs.StatusByte.{StandsFor as Statuses, IsRaised}
+use Rattle.sv_scan.specs.Condition.{bit}
+use Rattle.sv_exchange.specs.Exchange.{response, is_something}
+use Rattle.sv_layers.specs.Inside.Representation.{IsSummary, IsStatus, max_count, own_status}
+use Rattle.sv_layers.proofs.SameRequests.{same_raised}
 
-pub returns-clause-stands : goal.returns-clause-stands
-returns-clause-stands g c = λ log act status_log same h.
+pub returns-clause-applied : goal.returns-clause-applied
+returns-clause-applied g c = λ log act b same.
+    let h = b.joined in
     let other = act_of c.args.change.now in
     let j = rw (← c.self.view_is) at h in
     let scans = begun_scans _ act log j.scanner in
@@ -54,14 +64,56 @@ returns-clause-stands g c = λ log act status_log same h.
     ∙ ap (λ (b : Bool). scan.bit 0 (b && c.is_idle-idle.result)) j.waits ∙ ap (λ (b : Bool). scan.bit 0 (begun.waits && b)) idle in
     let occurred = subst (λ (w : ℕ). Standards c.occur.new.self (Occur w ∷ begun.standard)) complete
     (c.occur.ensures begun.standard j.standard) in
+    let at = layer_logs (act ∷ log) in
+    let standard : Standards c.change_standard.new.standard at.standard =
+    subst (λ (acts : List StandardAct). Standards c.change_standard.new.standard acts) (same.1 _) (c.change_standard.ensures _ occurred) in
+    let bits = c.mask_if-2.result + c.mask_if-3.result + c.mask_if-4.result + c.mask_if-5.result + c.mask_if-6.result in
+    let available : c.mask_if-4.result ≡ bit 4 (is_something (response at.exchange)) =
+    c.mask_if-4.ensures ∙ cond_is_bit 4 c.readable.result ∙ ap (bit 4) (c.readable.ensures.answer at.exchange j.exchange) in
+    let errors : c.mask_if-6.result ≡ bit 2 (is_something (entries at.errors)) =
+    c.mask_if-6.ensures ∙ cond_is_bit 2 (nat_lt 0 c.count.result)
+    ∙ ap (λ (n : ℕ). bit 2 (nat_lt 0 n)) (c.count.ensures.answer at.errors j.errors)
+    ∙ ap (bit 2) (nonempty_by_length (entries at.errors)) in
+    let summed : IsSummary bits at = record {
+      operates = c.summary.result;
+      happened = c.summary-2.result;
+      questioned = c.summary-3.result;
+      operation = c.summary.ensures _ (at.registers Operation) operation;
+      standard = c.summary-2.ensures at.standard standard;
+      questionable = c.summary-3.ensures _ (at.registers Questionable) questionable;
+      word_is = rw (
+        c.mask_if-2.ensures ∙ cond_is_bit 7 c.summary.result,
+        c.mask_if-3.ensures ∙ cond_is_bit 5 c.summary-2.result,
+        available,
+        c.mask_if-5.ensures ∙ cond_is_bit 3 c.summary-3.result,
+        errors,
+      ) refl;
+    } in
+    let status_log : List StatusAct = Update bits at.service ∷ own_status act b.status_log in
+    let are : IsStatus (act ∷ log) status_log = (bits, b.status_log, summed, b.are, refl) in
+    let status : Statuses c.update-raised.new.self status_log =
+    subst (λ (n : ℕ). Statuses c.update-raised.new.self (Update bits n ∷ own_status act b.status_log)) j.service
+    (c.update-raised.ensures.stands _ j.status) in
+    let raised =
+    subst (λ (n : ℕ). (c.update-raised.result ≡ true) ↔ IsRaised (Update bits n ∷ own_status act b.status_log)) j.service
+    (c.update-raised.ensures.answer _ j.status) in
     record {
-      exchange = j.exchange;
-      errors = j.errors;
-      registers = elim [ Operation ↦ operation | Questionable ↦ questionable | Limit ↦ limit ];
-      standard = subst (λ (acts : List StandardAct). Standards c.change_standard.new.standard acts) (same.1 _)
-          (c.change_standard.ensures _ occurred);
-      status = j.status;
-      scanner = j.scanner;
-      service = j.service;
-      waits = ap (λ (b : Bool). b && not c.is_idle-idle.result) j.waits ∙ ap (λ (b : Bool). begun.waits && not b) idle;
+      stands = record {
+        status_log = status_log;
+        are = are;
+        joined = record {
+          exchange = j.exchange;
+          errors = j.errors;
+          registers = elim [ Operation ↦ operation | Questionable ↦ questionable | Limit ↦ limit ];
+          standard = standard;
+          status = status;
+          scanner = j.scanner;
+          service = j.service;
+          waits = ap (λ (b : Bool). b && not c.is_idle-idle.result) j.waits ∙ ap (λ (b : Bool). begun.waits && not b) idle;
+        };
+      };
+      raised = c.update-raised.result;
+      requests = iff_transitive raised (same_raised (act ∷ log) status_log are);
+      count = rw (← c.self.view_is) (c.saturating_add-self-inside.ensures
+          ∙ ap (λ (n : ℕ). min (c.self.inside.requests + n) max_count) (c.from-2.ensures ∙ from_bool_is_bit c.update-raised.result));
     }
