@@ -7,9 +7,8 @@ use Rattle.sv_errors.specs.declared.code.Code.TheVariants.{UndefinedHeader}
 use Rattle.sv_text.specs.Header.{lead, is_query}
 use Rattle.sv_header.specs.declared.command.CommandId.{CommandId}
 use Rattle.sv_header.specs.declared.branch.Branch.{Branch}
-use Rattle.sv_header.specs.declared.sent.Sent.{Sent}
 use Rattle.sv_header.specs.Pattern.{Row}
-use Rattle.sv_header.specs.Plain.{part, left_of}
+use Rattle.sv_header.specs.Plain.{part}
 use Rattle.sv_header.specs.Table.{table, common_commands, other_commands}
 use Rattle.sv_header.specs.Resolve.{Resolves, full, leads_common}
 use Rattle.sv_header.specs.Inside.Tree.{ending_rows, below, rows_of, tree_rows, rows_with}
@@ -128,20 +127,19 @@ table_of_part : (c q : Bool) (left : List (List ℕ)) (command : CommandId) → 
 table_of_part true q left command h = some_of_first_rows true q left command common_commands other_commands h
 table_of_part false q left command h = some_of_second_rows false q left command common_commands other_commands h
 
--- The code's value `sent` stands for this header, read relative to this path.
-pub record StandsFor (path : List (List ℕ)) (header : List ℕ) (sent : Sent) : Type 0 where
-  pub common : sent.common ≡ leads_common (lead header)
-  pub query : sent.query ≡ is_query header
-  pub mnemonics : left_of sent.mnemonics ≡ full path header
+-- These values stand for this header, read relative to this path: whether it belongs to a common
+-- command, whether it is a query, and its mnemonics.
+pub record StandsFor (path : List (List ℕ)) (header : List ℕ) (c q : Bool) (left : List (List ℕ)) : Type 0 where
+  pub common : c ≡ leads_common (lead header)
+  pub query : q ≡ is_query header
+  pub mnemonics : left ≡ full path header
 
 -- A header whose mnemonics lead to a command names this command.
-pub resolves_from_leads : (path : List (List ℕ)) (header : List ℕ) (sent : Sent) (roots : List Branch) (command : CommandId)
-    → StandsFor path header sent → tree_rows sent.common roots ≡ rows_with sent.common
-    → Leads (length roots) sent.query roots (left_of sent.mnemonics) command → Resolves path header command
-resolves_from_leads path header sent roots command s whole h =
-    let c = sent.common in
-    let q = sent.query in
-    let left = left_of sent.mnemonics in
+pub resolves_from_leads : (path : List (List ℕ)) (header : List ℕ) (c q : Bool) (left : List (List ℕ)) (roots : List Branch)
+    (command : CommandId)
+    → StandsFor path header c q left → tree_rows c roots ≡ rows_with c → Leads (length roots) q roots left command
+    → Resolves path header command
+resolves_from_leads path header c q left roots command s whole h =
     let by_tree = names_from_leads (length roots) c q roots left command h in
     let by_table = table_of_part c q left command (subst (λ rows. SomeNames c q left command rows) whole by_tree) in
     let found = contains_from_some c q left command table (subst (λ rows. SomeNames c q left command rows) (sym table_parts) by_table) in
@@ -149,24 +147,23 @@ resolves_from_leads path header sent roots command s whole h =
     (found.0, found.1, names.0, (sym s.common ∙ names.1, sym s.query ∙ names.2, rw (← s.mnemonics) names.3))
 
 -- The mnemonics of a header that names a command lead to this command.
-pub leads_from_resolves : (path : List (List ℕ)) (header : List ℕ) (sent : Sent) (roots : List Branch) (command : CommandId)
-    → StandsFor path header sent → tree_rows sent.common roots ≡ rows_with sent.common → Resolves path header command
-    → Leads (length roots) sent.query roots (left_of sent.mnemonics) command
-leads_from_resolves path header sent roots command s whole h =
-    let c = sent.common in
-    let q = sent.query in
-    let left = left_of sent.mnemonics in
+pub leads_from_resolves : (path : List (List ℕ)) (header : List ℕ) (c q : Bool) (left : List (List ℕ)) (roots : List Branch)
+    (command : CommandId)
+    → StandsFor path header c q left → tree_rows c roots ≡ rows_with c → Resolves path header command
+    → Leads (length roots) q roots left command
+leads_from_resolves path header c q left roots command s whole h =
     let by_table = some_from_contains c q left command table h.1.0 h.0 h.1.1 h.1.2
     (h.2, s.common ∙ h.3.0, s.query ∙ h.3.1, rw s.mnemonics h.3.2) in
     let by_part = part_of_table c q left command (subst (λ rows. SomeNames c q left command rows) table_parts by_table) in
     leads_from_names (length roots) c q c roots left command (subst (λ rows. SomeNames c q left command rows) (sym whole) by_part)
 
 -- So the walk finds the command that the header names, or the error is -113.
-pub walk_resolves : (path : List (List ℕ)) (header : List ℕ) (sent : Sent) (roots : List Branch) (found : Option CommandId)
-    → StandsFor path header sent → tree_rows sent.common roots ≡ rows_with sent.common
-    → IsFound found (λ command. Leads (length roots) sent.query roots (left_of sent.mnemonics) command)
+pub walk_resolves : (path : List (List ℕ)) (header : List ℕ) (c q : Bool) (left : List (List ℕ)) (roots : List Branch)
+    (found : Option CommandId)
+    → StandsFor path header c q left → tree_rows c roots ≡ rows_with c
+    → IsFound found (λ command. Leads (length roots) q roots left command)
     → MatchResult (ok_or found UndefinedHeader) (λ command. Resolves path header command)
     (λ code. (code ≡ UndefinedHeader) × ((command : CommandId) → Resolves path header command → ⊥))
-walk_resolves path header sent roots (Some command) s whole h = resolves_from_leads path header sent roots command s whole h
-walk_resolves path header sent roots None s whole h =
-    (refl, λ command r. h command (leads_from_resolves path header sent roots command s whole r))
+walk_resolves path header c q left roots (Some command) s whole h = resolves_from_leads path header c q left roots command s whole h
+walk_resolves path header c q left roots None s whole h =
+    (refl, λ command r. h command (leads_from_resolves path header c q left roots command s whole r))

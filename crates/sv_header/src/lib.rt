@@ -12,7 +12,6 @@ mod left;
 mod path;
 mod pattern;
 mod resolving;
-mod sent;
 mod table;
 mod walk;
 

@@ -7,8 +7,8 @@ ghost use Rattle.sv_header.specs.Resolve.{Resolves};
 
 use crate::branch::Branch;
 use crate::command::CommandId;
+use crate::left::Mnemonics;
 use crate::path::Path;
-use crate::sent::Sent;
 use crate::table::{
     COMMON_COMMANDS, COMMON_NODES, MEASURING, NODES, SETTINGS, STATUS_NODES, SYSTEM_NODES,
 };
@@ -16,6 +16,7 @@ use crate::walk::walk;
 use std::alloc::{AllocError, Allocator, Global};
 use std::marker::Model;
 use sv_errors::Code;
+use sv_text::{Lead, header_parts};
 
 /// The table of commands in memory: a tree whose nodes are mnemonics. The nodes on the way from the
 /// root down to a node are the pattern of a header.
@@ -59,9 +60,17 @@ impl<A: Allocator> Table<A> {
             (λ code. (code ≡ UndefinedHeader)
             × ((command : Command) → Resolves path.now header.now command → ⊥)) }
     {
-        let sent = Sent::new(path, header);
+        let parts = header_parts(header);
         let (commons, others) = self.branches.split_at(COMMON_NODES);
-        let roots = if sent.common { commons } else { others };
-        walk(&sent.mnemonics, sent.query, roots).ok_or(Code::UndefinedHeader)
+        let roots = match parts.lead {
+            Lead::Common => commons,
+            Lead::Root | Lead::Onward => others,
+        };
+        let kept: &[_] = match parts.lead {
+            Lead::Common | Lead::Root => &[],
+            Lead::Onward => path.mnemonics(),
+        };
+        let mnemonics = Mnemonics::new(kept, Some(parts.body));
+        walk(&mnemonics, parts.query, roots).ok_or(Code::UndefinedHeader)
     }
 }
