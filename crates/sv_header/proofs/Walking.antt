@@ -1,13 +1,46 @@
 -- Steps of the walk: the command that it finds at a node, below it, or at a later sibling.
-use Rattle.std.proofs.Common.{◌≡◌, ℕ, zero, suc, ◌<◌, ◌≤◌, Bool, true, false, List, [], ◌∷◌, length, take, drop, Option, Some, None, is_some, refl, sym, ap, ◌∙◌, subst, inl, inr, arith, length-take, length-drop}
+use Rattle.std.proofs.Common.{◌≡◌, ℕ, zero, suc, ◌-◌, ◌<◌, ◌≤◌, min, get_or, Bool, true, false, List, [], ◌∷◌, ◌++◌, length, take, drop, Option, Some, None, is_some, refl, sym, ap, ◌∙◌, subst, inl, inr, arith, length-take, length-drop}
 use Rattle.std.specs.Bool.{then_some}
+use Rattle.std.proofs.lemmas.Bool.{cases_lt}
+use Rattle.std.proofs.lemmas.List.{take_all, take_rest, drop_all}
 use Rattle.sv_header.specs.declared.command.CommandId.{CommandId}
 use Rattle.sv_header.specs.declared.left.Mnemonics.{Mnemonics}
 use Rattle.sv_header.specs.declared.branch.Branch.{Branch}
-use Rattle.sv_header.specs.Pattern.{Part}
-use Rattle.sv_header.specs.Plain.{part, left_of}
+use Rattle.std.specs.Borrow.{Bor}
+use Rattle.std.specs.Prelude.{◌↔◌, IsTrue}
+use Rattle.sv_header.specs.Pattern.{Part, IsForm}
+use Rattle.sv_header.specs.Plain.{part, left_of, led_by, sent_of}
 use Rattle.sv_header.specs.Inside.Tree.{command_of, IsParted}
 use Rattle.sv_header.specs.Inside.Walk.{Takes, Ends, LeadsBelow, Leads, IsFound, OnLeft, IsBehind, IsAllOf}
+
+take_at_most : (n : ℕ) (nodes : List Branch) → take (min n (length nodes)) nodes ≡ take n nodes
+take_at_most n nodes =
+    elim (cases_lt n (length nodes)) [
+      | inl lt ↦ ap (λ m. take m nodes) (omega (arith, lt))
+      | inr ge ↦ take_all (min n (length nodes)) nodes (omega (arith, ge)) ∙ sym (take_all n nodes ge)
+    ]
+
+drop_at_most : (n : ℕ) (nodes : List Branch) → drop (min n (length nodes)) nodes ≡ drop n nodes
+drop_at_most n nodes =
+    elim (cases_lt n (length nodes)) [
+      | inl lt ↦ ap (λ m. drop m nodes) (omega (arith, lt))
+      | inr ge ↦ drop_all (min n (length nodes)) nodes (omega (arith, ge)) ∙ sym (drop_all n nodes ge)
+    ]
+
+-- The nodes after the first one are split behind those that are below it.
+pub is_parted : (branches children siblings : List Branch) (fallback : Branch) (size : ℕ) → 1 ≤ length branches
+    → size ≡ min (get_or branches 0 fallback).below (length (take (length branches - 1) (drop 1 branches)))
+    → children ≡ take size (take (length branches - 1) (drop 1 branches))
+    → siblings ≡ drop size (take (length branches - 1) (drop 1 branches))
+    → IsParted branches (get_or branches 0 fallback) children siblings
+is_parted [] children siblings fallback size some is front back = absurd (omega (arith, some))
+is_parted (first ∷ behind) children siblings fallback size some is front back =
+    let all : take (length (first ∷ behind) - 1) (drop 1 (first ∷ behind)) ≡ behind = take_rest (first ∷ behind) 1 in
+    let few : size ≡ min first.below (length behind) = is ∙ ap (λ (nodes : List Branch). min first.below (length nodes)) all in (
+      refl,
+      front ∙ ap (take size) all ∙ ap (λ n. take n behind) few ∙ take_at_most first.below behind,
+      back ∙ ap (drop size) all ∙ ap (λ n. drop n behind) few ∙ drop_at_most first.below behind,
+    )
 
 -- The nodes below the first sibling, and the later siblings, are each fewer than all nodes.
 pub parts_are_fewer : (branches : List Branch) (branch : Branch) (children siblings : List Branch)
@@ -143,11 +176,41 @@ found_at_later_sibling query (node ∷ behind) branch children siblings left the
     λ command h. none_found_at_siblings fuel query node behind branch children siblings left there absent command p w v (a fuel few command)
     (b fuel few command) (c fuel few_behind command) h
 
+-- If the first mnemonic is a form of the node, the mnemonics after it remain.
+pub rest_if_form : (left rest : Mnemonics) (node : Part) (first : Bor (List ℕ)) (fits : Bool) (taken : Option Mnemonics)
+    → left.first ≡ Some first → (IsTrue fits ↔ IsForm first.now node) → fits ≡ true → left_of rest ≡ left.kept.now ++ sent_of left.sent
+    → taken ≡ Some rest → IsBehind (left_of left) node taken
+rest_if_form left rest node first fits taken is form does same e =
+    subst (IsBehind (left_of left) node) (sym e)
+    (subst (λ (f : Option (Bor (List ℕ))). Takes (led_by f (left.kept.now ++ sent_of left.sent)) node (left_of rest)) (sym is)
+    (form.0 does, same))
+
+-- The first of these mnemonics, if there is one, is no form of the node.
+abbrev TakesNone : List (List ℕ) → Part → Type 0
+TakesNone left node = (others : List (List ℕ)) → Takes left node others → ⊥
+
+pub none_if_other : (left : Mnemonics) (node : Part) (first : Bor (List ℕ)) (fits : Bool) (taken : Option Mnemonics)
+    → left.first ≡ Some first → (IsTrue fits ↔ IsForm first.now node) → fits ≡ false → taken ≡ None → IsBehind (left_of left) node taken
+none_if_other left node first fits taken is form doesnt e =
+    subst (IsBehind (left_of left) node) (sym e)
+    (subst (λ (f : Option (Bor (List ℕ))). TakesNone (led_by f (left.kept.now ++ sent_of left.sent)) node) (sym is)
+    (λ others takes. (let both : false ≡ true = sym doesnt ∙ form.1 takes.0 in absurd cc)))
+
+pub none_if_nothing : (left : Mnemonics) (node : Part) (taken : Option Mnemonics) → left.first ≡ None → taken ≡ None
+    → IsBehind (left_of left) node taken
+none_if_nothing left node taken is e =
+    subst (IsBehind (left_of left) node) (sym e)
+    (subst (λ (f : Option (Bor (List ℕ))). TakesNone (led_by f (left.kept.now ++ sent_of left.sent)) node) (sym is) (λ others takes. takes))
+
 -- All mnemonics remain at a node exactly if a header can omit this node.
-pub all_if_optional : (left : Mnemonics) (node : Part) (optional : Bool) (all : Option Mnemonics) → node.optional ≡ optional
-    → all ≡ then_some optional left → IsAllOf (left_of left) node all
-all_if_optional left node true all is all_is = subst (IsAllOf (left_of left) node) (sym all_is) (is, refl)
-all_if_optional left node false all is all_is = subst (IsAllOf (left_of left) node) (sym all_is) is
+pub all_if_optional : (branches : List Branch) (branch : Branch) (children siblings : List Branch) (left : Mnemonics)
+    (all : Option Mnemonics)
+    → IsParted branches branch children siblings → all ≡ then_some branch.node.optional left → IsAllOf (left_of left) (part branch.node) all
+all_if_optional branches branch children siblings left all p is = at branch.node.optional refl is
+  where
+    at : (t : Bool) → branch.node.optional ≡ t → all ≡ then_some t left → IsAllOf (left_of left) (part branch.node) all
+    at true may e = subst (IsAllOf (left_of left) (part branch.node)) (sym e) (may, refl)
+    at false may e = subst (IsAllOf (left_of left) (part branch.node)) (sym e) may
 
 -- If the node itself names no command for these mnemonics, the result is the one for the nodes
 -- below.

@@ -1,8 +1,7 @@
 //! The nodes of the tree of headers, as the code stores them.
 
-ghost use Rattle.std.specs.Prelude.{◌≡◌, [], MatchOption};
 ghost use Rattle.sv_header.specs.Plain.{left_of};
-ghost use Rattle.sv_header.specs.Inside.Tree.{command_of, IsParted};
+ghost use Rattle.sv_header.specs.Inside.Tree.{command_of};
 ghost use Rattle.sv_header.specs.Inside.Walk.{Ends, IsFound};
 
 use crate::command::CommandId;
@@ -35,17 +34,4 @@ impl Branch {
             Some(_) => None,
         }
     }
-}
-
-/// Splits a list of sibling nodes into the first sibling, the nodes below it, and the later
-/// siblings. Returns `None` if the list is empty.
-pub(crate) fn parted(branches: &[Branch]) -> Option<(&Branch, &[Branch], &[Branch])>
-    ensures { MatchOption result (branches.now ≡ [])
-        (λ parts. IsParted branches.now parts.0.now parts.1.now parts.2.now) }
-{
-    let [branch, behind @ ..] = branches else {
-        return None;
-    };
-    let (children, siblings) = behind.split_at(branch.below.min(behind.len()));
-    Some((branch, children, siblings))
 }

@@ -1,9 +1,8 @@
 //! A node of a header pattern, and which mnemonics fit the node.
 
-ghost use Rattle.sv_header.specs.Plain.{part, left_of};
-ghost use Rattle.sv_header.specs.Inside.Walk.{IsBehind};
-
-use crate::left::Mnemonics;
+ghost use Rattle.std.specs.Prelude.{◌↔◌, IsTrue};
+ghost use Rattle.sv_header.specs.Pattern.{IsForm};
+ghost use Rattle.sv_header.specs.Plain.{part};
 
 /// A mnemonic of a pattern, in its short and its long form, in capitals.
 #[derive(Clone, Copy)]
@@ -17,16 +16,10 @@ pub(crate) struct Node {
 }
 
 impl Node {
-    /// Returns the mnemonics of `left` after the first one, if the first one is a form of this
-    /// node; else `None`.
-    pub(crate) fn behind<'a>(&self, left: &Mnemonics<'a>) -> Option<Mnemonics<'a>>
-        ensures { IsBehind (left_of left.now) (part self.now) result }
+    /// Returns whether the mnemonic is a form of this node.
+    pub(crate) fn fits(&self, mnemonic: &[u8]) -> bool
+        ensures { IsTrue result ↔ IsForm mnemonic.now (part self.now) }
     {
-        let first = left.first?;
-        if first.eq_ignore_ascii_case(self.short) || first.eq_ignore_ascii_case(self.long) {
-            Some(Mnemonics::new(left.kept, left.sent))
-        } else {
-            None
-        }
+        mnemonic.eq_ignore_ascii_case(self.short) || mnemonic.eq_ignore_ascii_case(self.long)
     }
 }

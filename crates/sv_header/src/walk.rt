@@ -4,7 +4,7 @@ ghost use Rattle.std.specs.Prelude.{ℕ, ◌≤◌, length};
 ghost use Rattle.sv_header.specs.Plain.{left_of};
 ghost use Rattle.sv_header.specs.Inside.Walk.{IsFound, Leads, LeadsBelow, OnLeft};
 
-use crate::branch::{Branch, parted};
+use crate::branch::Branch;
 use crate::command::CommandId;
 use crate::left::Mnemonics;
 
@@ -16,10 +16,16 @@ pub(crate) fn walk(left: &Mnemonics<'_>, query: bool, branches: &[Branch]) -> Op
     ensures { (fuel : ℕ) → length branches.now ≤ fuel
         → IsFound result (λ command. Leads fuel query branches.now (left_of left.now) command) }
 {
-    let Some((branch, children, siblings)) = parted(branches) else {
+    let [branch, behind @ ..] = branches else {
         return None;
     };
-    let there = below(branch.node.behind(left), query, branch, children);
+    let (children, siblings) = behind.split_at(branch.below.min(behind.len()));
+    let taken = match left.first {
+        Some(first) if branch.node.fits(first) => Some(Mnemonics::new(left.kept, left.sent)),
+        Some(_) => None,
+        None => None,
+    };
+    let there = below(taken, query, branch, children);
     if there.is_some() {
         return there;
     }
