@@ -1,12 +1,11 @@
 -- A header that fits the table has at most five mnemonics, each of at most 12 characters.
-use Rattle.std.proofs.Common.{◌≡◌, ℕ, zero, suc, ◌+◌, ◌<◌, ◌≤◌, ◌&&◌, Bool, true, List, [], ◌∷◌, ◌++◌, length, refl, sym, ap, ◌∙◌, inl, inr, slice_index_or, arith, leb-true, length-append, subst}
+use Rattle.std.proofs.Common.{◌≡◌, ℕ, zero, suc, ◌+◌, ◌<◌, ◌≤◌, ◌&&◌, Bool, true, List, [], ◌∷◌, ◌++◌, length, refl, sym, ap, ◌∙◌, inl, inr, slice_index_or, arith, leb-true, length-append}
 use Rattle.std.proofs.lemmas.Bool.{and_parts}
 use Rattle.std.specs.Prelude.{nat_le}
 use Rattle.std.specs.List.{list_all}
 use Rattle.std.proofs.lemmas.List.{length-map}
 use Rattle.sv_text.specs.Header.{lead, mnemonics}
 use Rattle.sv_text.specs.declared.header.Lead.{Lead}
-use Rattle.sv_text.specs.declared.header.Lead.TheVariants.{Root, Onward}
 use Rattle.sv_header.specs.declared.command.CommandId.{CommandId}
 use Rattle.sv_header.specs.Pattern.{Part, Row, Same, IsForm, Fits}
 use Rattle.sv_header.specs.Plain.{is_short}
@@ -78,7 +77,7 @@ all_of_suffix test [] behind h = h
 all_of_suffix test (part ∷ front) behind h = all_of_suffix test front behind (and_parts _ _ h).1
 
 -- A path and a header's mnemonics are few enough together, and each of these mnemonics is short.
-abbrev AreSmall : List (List ℕ) → List (List ℕ) → Type 0
+abbrev pub AreSmall : List (List ℕ) → List (List ℕ) → Type 0
 AreSmall path sent = (length path + length sent ≤ 5) × (list_all is_short sent ≡ true)
 
 small_at : (l : Lead) (path sent : List (List ℕ))
@@ -86,18 +85,19 @@ small_at : (l : Lead) (path sent : List (List ℕ))
     → AreSmall (path_before l path) sent
 small_at l path sent h = (omega (arith, h.0, length-append (path_before l path) sent), all_of_suffix is_short (path_before l path) sent h.1)
 
--- A header that names a command from the root is small enough by itself.
-pub root_small : (path : List (List ℕ)) (header : List ℕ) (command : CommandId) → lead header ≡ Root → Resolves path header command
-    → AreSmall [] (mnemonics header)
-root_small path header command e h =
-    let s : AreSmall (path_before (lead header) path) (mnemonics header) =
-    small_at (lead header) path (mnemonics header) (resolves_small path header command h) in
-    subst (λ l. AreSmall (path_before l path) (mnemonics header)) e s
+-- The mnemonics of a header that names a command are small enough together with those before them.
+pub resolved_small : (path : List (List ℕ)) (header : List ℕ) (command : CommandId) → Resolves path header command
+    → AreSmall (path_before (lead header) path) (mnemonics header)
+resolved_small path header command h = small_at (lead header) path (mnemonics header) (resolves_small path header command h)
 
--- A header that names a command relative to a path is small enough together with the path.
-pub onward_small : (path : List (List ℕ)) (header : List ℕ) (command : CommandId) → lead header ≡ Onward → Resolves path header command
-    → AreSmall path (mnemonics header)
-onward_small path header command e h =
-    let s : AreSmall (path_before (lead header) path) (mnemonics header) =
-    small_at (lead header) path (mnemonics header) (resolves_small path header command h) in
-    subst (λ l. AreSmall (path_before l path) (mnemonics header)) e s
+-- The first mnemonic of a header follows those that are looked up before the header's own.
+pub first_follows : (before others path : List (List ℕ)) (first header : List ℕ) → before ≡ path_before (lead header) path
+    → mnemonics header ≡ first ∷ others → AreSmall (path_before (lead header) path) (mnemonics header)
+    → (before ++ first ∷ others ≡ full path header) × (length before + 1 + length others ≤ 5)
+    × (list_all is_short (first ∷ others) ≡ true)
+first_follows before others path first header is sent small = (
+  ap (λ (front : List (List ℕ)). front ++ first ∷ others) is
+      ∙ ap (λ (own : List (List ℕ)). path_before (lead header) path ++ own) (sym sent),
+  (let front = ap length is in let own = ap length sent in omega (arith, small.0, front, own)),
+  ap (list_all is_short) (sym sent) ∙ small.1,
+)

@@ -49,9 +49,7 @@ impl Mnemonic {
         ensures { result ≡ characters.now }
     {
         let mut text = ArrayVec::new();
-        if text.try_extend_from_slice(characters).is_err() {
-            text.clear();
-        }
+        let _fits = text.try_extend_from_slice(characters);
         Mnemonic { text }
     }
 }
@@ -92,22 +90,11 @@ impl Path {
     {
         let parts = header_parts(header);
         match parts.lead {
-            Lead::Root => {
-                self.mnemonics.clear();
-                self.walk(parts.body);
-            }
-            Lead::Onward => self.walk(parts.body),
-            Lead::Common => {}
+            Lead::Common => return,
+            Lead::Root => self.mnemonics.clear(),
+            Lead::Onward => {}
         }
-    }
-
-    /// Appends the mnemonics of `body` to the path, except the last one.
-    fn walk(&mut self, body: &[u8])
-        requires few { length self.old + length (cut_at 58 body.now) ≤ 5 }
-        requires short { list_all is_short (cut_at 58 body.now) ≡ true }
-        ensures { self.new ≡ but_last (self.old ++ cut_at 58 body.now) }
-    {
-        let (mut first, mut behind) = first_part(body, b':');
+        let (mut first, mut behind) = first_part(parts.body, b':');
         while let Some(rest) = behind {
             self.mnemonics.push(Mnemonic::new(first));
             (first, behind) = first_part(rest, b':');
