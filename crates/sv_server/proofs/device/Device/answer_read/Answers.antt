@@ -16,8 +16,9 @@ returns-clause-ends g c = λ config acts before is busy old.
     let device = rw (← c.self.view_is) at old in
     let log = instrument_acts before in
     let given = c.peek-read.ensures.answer log device.1 in
-    let taken = device_ran _ c.take-raised.new.self _ config before (Exchanged (ResponseRead (length c.peek-read.result.bytes.now)) ∷ []) c.take-raised.result device
-    (c.take-raised.ensures log device.1) c.raise.ensures.stands in (
+    let count = length c.peek-read.result.bytes.now in
+    let taken = device_ran _ c.take-raised.new.self _ config before (Exchanged (ResponseRead count) ∷ []) c.take-raised.result
+    device (c.take-raised.ensures log device.1) c.raise.ensures.stands in (
       subst (λ (o : Outcome). IsConnection c.answer.new.self (Replied (reply_record c.args.xid Success (result_fields o)) ∷ acts))
           (read_is c.peek-read.result _ c.args.most c.args.term given) (c.answer.ensures acts is busy),
       subst (λ (n : ℕ). IsDevice c.raise.new.self config (Applied (Exchanged (ResponseRead n)) ∷ before)) given.size taken,

@@ -6,8 +6,8 @@ pub returns-in-Ok-clause-told : goal.returns-in-Ok-clause-told
 returns-in-Ok-clause-told g c = λ config log rep.
     rw c.in-Ok.is (told_applied c.args.line config (plain c.args.event) log c.in-Ok.field-0 c.args.self.now c.act-done.new.self
     c.tell_settling.new.self c.list_all.new.shown _ _ _ _ _ _ _ _ _ _ _ rep (c.in-Ok.ensures.acts config log rep)
-    (c.list_all.ensures config log rep (c.unlisted-shown.ensures config log rep)) (c.tell_before.ensures config log rep) c.tell_tick.ensures c.tell.ensures
-    c.tell_settling.ensures)
+    (c.list_all.ensures config log rep (c.unlisted-shown.ensures config log rep)) (c.tell_before.ensures config log rep)
+    c.tell_tick.ensures c.tell.ensures c.tell_settling.ensures)
 
 pub returns-in-Err-clause-told : goal.returns-in-Err-clause-told
 returns-in-Err-clause-told g c = λ config log rep.
