@@ -9,9 +9,10 @@ ghost use Rattle.sv_instrument.specs.Inside.Acted.{Counts, Behaves, Advances};
 
 use crate::command::order::Order;
 use crate::queries::ask;
-use crate::scanning::{configure, initiate, measure, read, set, trigger};
+use crate::scanning::{configure, unless_refused};
 use crate::unit_effects::{carry_out, end, hold};
 use std::alloc::Allocator;
+use sv_errors::Source;
 use sv_header::Action;
 use sv_layers::{Awaited, Change, Layers};
 use sv_scan::ScanAct;
@@ -35,13 +36,20 @@ pub(crate) fn perform<A: Allocator>(
         Order::Do(action) => return act(layers, action),
         Order::Ask(question) => return ask(layers, answer, question),
         Order::Apply(change) => Change::Status(change),
-        Order::Set(setting) => return set(layers, setting),
+        Order::Set(setting) => {
+            let allowed = layers.scanner().may_set(&setting);
+            unless_refused(allowed, ScanAct::Configure(setting))
+        }
         Order::Configure(list) => {
             configure(layers, list);
             end(layers);
             return None;
         }
-        Order::Measure(list) => return measure(layers, list),
+        Order::Measure(list) => {
+            configure(layers, list);
+            layers.apply(Change::Scan(ScanAct::Init));
+            return hold(layers, Awaited::Readings);
+        }
     };
     carry_out(layers, change)
 }
@@ -60,11 +68,24 @@ fn act<A: Allocator>(layers: &mut Layers<A>, action: Action) -> Option<Awaited>
         Action::TellComplete => Change::AskComplete,
         Action::Wait => return hold(layers, Awaited::Nothing),
         Action::WaitAndTell => return hold(layers, Awaited::One),
-        Action::Trigger => return trigger(layers),
+        Action::Trigger => match layers.trigger(Source::Bus) {
+            Ok(()) => {
+                end(layers);
+                return None;
+            }
+            Err(ignored) => return carry_out(layers, Change::Report(ignored)),
+        },
         Action::Preset => Change::Preset,
-        Action::Initiate => return initiate(layers),
+        Action::Initiate => unless_refused(layers.scanner().may_init(), ScanAct::Init),
         Action::Abort => Change::Scan(ScanAct::Abort),
-        Action::Read => return read(layers),
+        Action::Read => match layers.scanner().may_read() {
+            Ok(()) => {
+                layers.apply(Change::Scan(ScanAct::Abort));
+                layers.apply(Change::Scan(ScanAct::Init));
+                return hold(layers, Awaited::Readings);
+            }
+            Err(deadlock) => return carry_out(layers, Change::Report(deadlock)),
+        },
     };
     carry_out(layers, change)
 }

@@ -3,26 +3,32 @@
 ghost use Rattle.std.specs.Prelude.{◌≡◌};
 ghost use Rattle.sv_layers.specs.declared.change.StatusChange.TheVariants as status;
 ghost use Rattle.sv_instrument.specs.declared.command.order.Order.TheVariants as order;
-ghost use Rattle.sv_instrument.specs.Command.Order.{parameter_of as given_by, order_of, set_order};
+ghost use Rattle.sv_instrument.specs.Command.Order.{set_order};
+ghost use Rattle.sv_instrument.specs.Command.Unit.{order_of_unit};
 
 use crate::command::order::Order;
-use crate::command::values::{count, list, list_if_given, mask, monitor, word};
-use sv_errors::Code;
+use crate::command::values::{list, list_if_given, mask, monitor, word};
+use sv_errors::{Code, MOST_SCANS};
 use sv_header::{CommandId, SettingName};
 use sv_layers::{RegisterChange, StatusChange};
-use sv_lexer::Token;
+use sv_lexer::{Token, Unit};
 use sv_scan::Setting;
 use sv_status::RegisterName;
-use sv_value::{boolean, keyword, microvolts};
+use sv_value::{boolean, keyword, microvolts, whole};
 
 /// All bits of a mask but bit 6.
 const ALL_BUT_SIX: u8 = 191;
 
-/// Returns the order of a command with this parameter, or without a parameter (`None`); or returns
-/// the error, if the parameter is wrong or missing.
-pub(crate) fn order(command: CommandId, given: Option<Token<'_>>) -> Result<Order, Code>
-    ensures { result ≡ order_of command (given_by given.entry) }
+/// Returns the order of a command, given the unit with its parameters; or the first error of the
+/// parameters.
+pub(crate) fn order(command: CommandId, unit: &Unit<'_>) -> Result<Order, Code>
+    ensures { result ≡ order_of_unit command unit.now }
 {
+    let parameters = unit.parameters()?;
+    if parameters.count() > command.most_parameters() {
+        return Err(Code::ParameterNotAllowed);
+    }
+    let given = parameters.get(0);
     match command {
         CommandId::Do(action) => Ok(Order::Do(action)),
         CommandId::Ask(question) => Ok(Order::Ask(question)),
@@ -68,7 +74,7 @@ fn set(name: SettingName, token: &Token<'_>) -> Result<Order, Code>
         SettingName::LowerLimit => Setting::Lower(microvolts(token)?),
         SettingName::Limits => Setting::Limits(boolean(token)?),
         SettingName::Source => Setting::Source(keyword(token)?),
-        SettingName::Count => Setting::Count(count(token)?),
+        SettingName::Count => Setting::Count(whole(token, 1, u16::from(MOST_SCANS))? as u8),
     };
     Ok(Order::Set(setting))
 }

@@ -1,11 +1,10 @@
 //! The values of parameters, in the form that settings and orders have.
 
-ghost use Rattle.std.specs.Prelude.{◌≡◌, Ok};
-ghost use Rattle.sv_errors.specs.Limits.{most_scans};
+ghost use Rattle.std.specs.Prelude.{◌≡◌};
 ghost use Rattle.sv_value.specs.Value.{read_whole, read_channels};
 ghost use Rattle.sv_instrument.specs.Command.Order.{parameter_of as given_by, only_channel, channels_in};
 
-use sv_errors::{Code, MOST_SCANS};
+use sv_errors::Code;
 use sv_lexer::Token;
 use sv_scan::ScanList;
 use sv_value::{channel_list, whole};
@@ -22,13 +21,6 @@ pub(crate) fn word(token: &Token<'_>) -> Result<u16, Code>
     ensures { result ≡ read_whole 0 65535 token.now.kind token.now.text.now }
 {
     whole(token, 0, u16::MAX)
-}
-
-/// Reads how many scans a measurement has.
-pub(crate) fn count(token: &Token<'_>) -> Result<u8, Code>
-    ensures { result ≡ read_whole 1 most_scans token.now.kind token.now.text.now }
-{
-    Ok(whole(token, 1, u16::from(MOST_SCANS))? as u8)
 }
 
 /// Reads the channels of a scan.
@@ -48,19 +40,12 @@ pub(crate) fn list_if_given(given: Option<Token<'_>>) -> Result<Option<ScanList>
     }
 }
 
-/// Reads the monitored channel: a list of one channel.
+/// Reads the monitored channel: a list of exactly one channel. Returns -223 if the list has more
+/// channels.
 pub(crate) fn monitor(token: &Token<'_>) -> Result<u8, Code>
     ensures { result ≡ only_channel (read_channels token.now.kind token.now.text.now) }
 {
-    only(channel_list(token)?.as_slice())
-}
-
-/// Returns the channel of a list that has to have exactly one channel; -223 if the list has more
-/// channels.
-fn only(channels: &[u8]) -> Result<u8, Code>
-    ensures { result ≡ only_channel (Ok channels.now) }
-{
-    match channels {
+    match channel_list(token)?.as_slice() {
         [channel] => Ok(*channel),
         [] => Err(Code::InvalidExpression),
         [_, _, ..] => Err(Code::TooMuchData),
