@@ -57,21 +57,14 @@ impl<A: Allocator> Instrument<A> {
         }
     }
 
-    /// Takes the step of message exchange that is due. Returns whether a step was due.
+    /// Takes the step of message exchange that is due; if a unit is held, this step is its end, which
+    /// is due if no measurement is under way any more. Returns whether a step was due.
     fn take_step(&mut self) -> bool
         ensures { Steps result self.old self.new }
     {
-        match self.held {
-            Some(awaited) => self.release(awaited),
-            None => self.next_step(),
-        }
-    }
-
-    /// Ends the held unit, if no measurement is under way any more. Returns whether the unit ended.
-    fn release(&mut self, awaited: Awaited) -> bool
-        requires { self.old.held ≡ Some awaited }
-        ensures { Steps result self.old self.new }
-    {
+        let Some(awaited) = self.held else {
+            return self.next_step();
+        };
         match self.layers.scanner().state() {
             State::Idle => {
                 unit_start::release(&mut self.layers, &mut self.answer, awaited);
@@ -83,16 +76,24 @@ impl<A: Allocator> Instrument<A> {
         }
     }
 
-    /// Takes the step of message exchange that is due. The caller must know that no unit is held.
-    /// Returns whether a step was due.
+    /// Takes the step of message exchange that is due. The caller must know that no unit is held. If
+    /// a new message interrupts the response, its first unit also starts. Returns whether a step was
+    /// due.
     fn next_step(&mut self) -> bool
         requires { self.old.held ≡ None }
         ensures { Steps result self.old self.new }
     {
         match self.layers.exchange().next_unit() {
             Next::Nothing => return false,
-            Next::Overrun => self.overran(),
-            Next::Interrupt => self.interrupt(),
+            Next::Overrun => {
+                self.layers.overran();
+                self.layers.apply(Change::Report(Code::InputBufferOverrun));
+            }
+            Next::Interrupt => {
+                self.layers.interrupt();
+                self.layers.apply(Change::Report(Code::QueryInterrupted));
+                self.start();
+            }
             Next::Unit(_text) => self.start(),
             Next::Finish => {
                 self.path = Path::root();
@@ -100,32 +101,6 @@ impl<A: Allocator> Instrument<A> {
             }
         }
         true
-    }
-
-    /// Reports the error that the message is too long.
-    fn overran(&mut self)
-        requires free { self.old.held ≡ None }
-        requires due { next_of self.old.layers.exchange ≡ OverrunDue }
-        ensures runs { (start log : List Act) → Runs start self.old log → Runs start self.new
-            (Reported InputBufferOverrun ∷ Exchanged Overran ∷ log) }
-        ensures measure { instrument_measure self.new < instrument_measure self.old }
-    {
-        self.layers.overran();
-        self.layers.apply(Change::Report(Code::InputBufferOverrun));
-    }
-
-    /// Drops the response to the previous message, because the new message interrupts it. Then
-    /// starts the unit that is due.
-    fn interrupt(&mut self)
-        requires free { self.old.held ≡ None }
-        requires due { next_of self.old.layers.exchange ≡ InterruptDue }
-        ensures starts { (start log : List Act) → Runs start self.old log
-            → StartsUnit start (after_interrupt log) self.new }
-        ensures measure { instrument_measure self.new < instrument_measure self.old }
-    {
-        self.layers.interrupt();
-        self.layers.apply(Change::Report(Code::QueryInterrupted));
-        self.start();
     }
 
     /// Starts the unit that is due.

@@ -1,7 +1,8 @@
-use Rattle.std.proofs.Common.{◌∙◌, sym, ap, refl, rules}
+use Rattle.std.proofs.Common.{◌∙◌, sym, ap, refl, subst, rules}
 use Rattle.sv_exchange.specs.Exchange.{InterruptDue, OverrunDue, FinishDue}
-use Rattle.sv_exchange.specs.Contents.{next_of}
+use Rattle.sv_exchange.specs.Contents.{Contents, IsUnitDue, next_of}
 use Rattle.sv_layers.specs.Act.{exchange_acts}
+use Rattle.sv_instrument.specs.Step.{after_interrupt}
 use Rattle.sv_instrument.proofs.Counting.{counts, runs_at_start}
 use Rattle.sv_instrument.proofs.NextStep.{step_of, start_is_due_step, nothing_due, none_due_if_nothing_due}
 use Rattle.sv_instrument.proofs.Paths.{finished_path}
@@ -25,8 +26,12 @@ returns-in-Overrun g c = (
   λ log h.
       let s = rw (← c.self.view_is) at h in
       let is = c.in-Overrun.ensures.answer (exchange_acts log) (c.exchange.ensures.stands log s.layers.stands) in
-      (_, step_of log _ _ OverrunDue (sym c.requires ∙ h.held) is refl, c.overran.ensures.runs log log (runs_at_start h)),
-  c.overran.ensures.measure,
+      let runs = rw (← c.self.view_is) at (runs_at_start h) in (
+        _,
+        step_of log _ _ OverrunDue (sym c.requires ∙ h.held) is refl,
+        record { layers = counts c.apply.ensures.applied (counts c.overran.ensures.applied runs.layers); held = runs.held; path = runs.path },
+      ),
+  search rules,
 )
 
 pub returns-in-Interrupt : goal.returns-in-Interrupt
@@ -34,9 +39,11 @@ returns-in-Interrupt g c = (
   λ log h.
       let s = rw (← c.self.view_is) at h in
       let is = c.in-Interrupt.ensures.answer (exchange_acts log) (c.exchange.ensures.stands log s.layers.stands) in
-      let unit = c.interrupt.ensures.starts log log (runs_at_start h) in
+      let runs = rw (← c.self.view_is) at (runs_at_start h) in
+      let told = counts c.apply-in-Interrupt.ensures.applied (counts c.interrupt.ensures.applied runs.layers) in
+      let unit = c.start.ensures.starts log (after_interrupt log) (record { layers = told; held = runs.held; path = runs.path }) in
       (unit.new, step_of log unit.new _ InterruptDue (sym c.requires ∙ h.held) is (unit.unit, unit.next, unit.starts), unit.runs),
-  c.interrupt.ensures.measure,
+  search rules,
 )
 
 pub returns-in-Unit : goal.returns-in-Unit
@@ -44,9 +51,9 @@ returns-in-Unit g c = (
   λ log h.
       let s = rw (← c.self.view_is) at h in
       let is = c.in-Unit.ensures.answer (exchange_acts log) (c.exchange.ensures.stands log s.layers.stands) in
-      let unit = c.start.ensures.starts log log (runs_at_start h) in
+      let unit = c.start-in-Unit.ensures.starts log log (runs_at_start h) in
       (unit.new, start_is_due_step log unit.new unit.unit _ (sym c.requires ∙ h.held) is unit.next unit.starts, unit.runs),
-  c.start.ensures.measure,
+  c.start-in-Unit.ensures.measure,
 )
 
 pub returns-in-Finish : goal.returns-in-Finish
@@ -63,23 +70,18 @@ returns-in-Finish g c = (
   search rules,
 )
 
-pub overran-requires-clause-free : goal.overran-requires-clause-free
-overran-requires-clause-free g c = c.requires
-
-pub overran-requires-clause-due : goal.overran-requires-clause-due
-overran-requires-clause-due g c = rw (← c.self.view_is) (ap next_of (sym c.exchange.ensures.value) ∙ sym c.in-Overrun.ensures.value)
-
-pub interrupt-requires-clause-free : goal.interrupt-requires-clause-free
-interrupt-requires-clause-free g c = c.requires
-
-pub interrupt-requires-clause-due : goal.interrupt-requires-clause-due
-interrupt-requires-clause-due g c = rw (← c.self.view_is) (ap next_of (sym c.exchange.ensures.value) ∙ sym c.in-Interrupt.ensures.value)
-
 pub start-requires-clause-free : goal.start-requires-clause-free
-start-requires-clause-free g c = c.requires
+start-requires-clause-free g c = rw (← c.self.view_is) at c.requires
+
+pub start-requires-clause-due : goal.start-requires-clause-due
+start-requires-clause-due g c =
+    subst (λ (held : Contents). IsUnitDue (next_of held)) (sym c.apply-in-Interrupt.ensures.exchange) c.interrupt.ensures.next
+
+pub start-requires-in-Unit-clause-free : goal.start-requires-in-Unit-clause-free
+start-requires-in-Unit-clause-free g c = c.requires
 
 pub finish-requires : goal.finish-requires
 finish-requires g c = ap next_of (sym c.exchange.ensures.value) ∙ sym c.in-Finish.ensures.value
 
-pub start-requires-clause-due : goal.start-requires-clause-due
-start-requires-clause-due g c = rw (← c.self.view_is) (_, ap next_of (sym c.exchange.ensures.value) ∙ sym c.in-Unit.ensures.value)
+pub start-requires-in-Unit-clause-due : goal.start-requires-in-Unit-clause-due
+start-requires-in-Unit-clause-due g c = rw (← c.self.view_is) (_, ap next_of (sym c.exchange.ensures.value) ∙ sym c.in-Unit.ensures.value)
