@@ -57,8 +57,8 @@ impl<A: Allocator> Instrument<A> {
         }
     }
 
-    /// Takes the step of message exchange that is due; if a unit is held, this step is its end, which
-    /// is due if no measurement is under way any more. Returns whether a step was due.
+    /// Takes the step of message exchange that is due. If a unit is held, this step is its end,
+    /// which is due if no measurement is under way any more. Returns whether a step was due.
     fn take_step(&mut self) -> bool
         ensures { Steps result self.old self.new }
     {
@@ -76,9 +76,9 @@ impl<A: Allocator> Instrument<A> {
         }
     }
 
-    /// Takes the step of message exchange that is due. The caller must know that no unit is held. If
-    /// a new message interrupts the response, its first unit also starts. Returns whether a step was
-    /// due.
+    /// Takes the step of message exchange that is due. The caller must know that no unit is held.
+    /// If a new message interrupts the response, its first unit also starts. Returns whether a step
+    /// was due.
     fn next_step(&mut self) -> bool
         requires { self.old.held ≡ None }
         ensures { Steps result self.old self.new }

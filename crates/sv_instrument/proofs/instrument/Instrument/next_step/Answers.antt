@@ -29,7 +29,11 @@ returns-in-Overrun g c = (
       let runs = rw (← c.self.view_is) at (runs_at_start h) in (
         _,
         step_of log _ _ OverrunDue (sym c.requires ∙ h.held) is refl,
-        record { layers = counts c.apply.ensures.applied (counts c.overran.ensures.applied runs.layers); held = runs.held; path = runs.path },
+        record {
+          layers = counts c.apply.ensures.applied (counts c.overran.ensures.applied runs.layers);
+          held = runs.held;
+          path = runs.path;
+        },
       ),
   search rules,
 )
