@@ -173,7 +173,7 @@ class Limits(unittest.TestCase):
             end = found.end()
             self.assertLess(time.monotonic() - began, within(2 + 1))
             self.assertIn("due           its timeout at 500,000 ms, in 500,000 ms", end)
-            self.assertNotRegex(end, "would not .*only time")
+            self.assertNotRegex(end, "would not .*time alone")
             connection.close()
 
     def test_nothing_is_left(self) -> None:

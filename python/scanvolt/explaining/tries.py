@@ -20,7 +20,7 @@ LIMIT = 2.0  # seconds of real time for all tries
 SCANS = 16  # scans that a measurement may have
 PATIENCE = 600000  # milliseconds that pass in a try
 ABORTED = 3  # calls whose abort is tried
-TIME = "only time"
+TIME = "time alone"
 HELD = -1  # the number of a write that shows when a message ends, if no call waits for that
 Act = Callable[[Trial], None]
 
