@@ -1,5 +1,5 @@
 //! Headers of commands: which command a header names, how many parameters this command takes, and
-//! which path the header leaves for the next header (SCPI-1999, volume 1, chapter 6).
+//! from which path the next header starts (SCPI-1999, volume 1, chapter 6).
 //!
 //! Only [`Table::new`] allocates.
 #![tactic(auto)]

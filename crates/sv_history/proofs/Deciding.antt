@@ -1,4 +1,5 @@
--- Which reply the header of a call determines, before its arguments are read.
+-- Which calls are answered from their header alone, before their arguments are read, and with which
+-- reply.
 use Rattle.std.proofs.Common.{◌≡◌, Bool, true, false, cond, Option, Some, None, refl}
 use Rattle.std.specs.Prelude.{not, ◌==◌, if◌then◌else◌}
 use Rattle.sv_rpc.specs.declared.reply.Reply.{Reply}

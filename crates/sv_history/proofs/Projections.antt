@@ -1,4 +1,5 @@
--- How adding acts to a log changes the acts of one connection and those of the device.
+-- After acts are added to a log: which acts are those of one connection, and which those of the
+-- device.
 use Rattle.std.proofs.Common.{◌≡◌, ◌≢◌, ℕ, List, [], ◌∷◌, ◌++◌, refl, sym, ap, ◌∙◌, append_assoc, eq-eqb, eqb, inl, inr}
 use Rattle.std.specs.Prelude.{map}
 use Rattle.std.proofs.lemmas.Bool.{ne_eqb, cases_Bool}

@@ -1,5 +1,5 @@
-//! The specification of the server: events, the log of what they did, and the server's answers,
-//! recomputed from the log.
+//! The specification of the server: definitions of events, of the log of what they did, and of the
+//! answers that the log determines; and lemmas about them.
 //!
 //! Nothing here runs. `sv_server` is the code; its contracts cite these definitions.
 #![tactic(auto)]

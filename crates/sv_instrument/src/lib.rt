@@ -1,5 +1,5 @@
-//! The instrument: reads what each unit tells it to do, and executes every command by changing its
-//! layers (IEEE 488.2; SCPI-1999; VXI-11).
+//! The instrument: reads each program message unit (a command or a query), and executes it by
+//! changing the instrument's layers (IEEE 488.2; SCPI-1999; VXI-11).
 //!
 //! The caller calls a function for each thing that happens to the instrument. Then the caller calls
 //! [`Instrument::fire`] and [`Instrument::step`], in this order, until neither of them does

@@ -1,4 +1,4 @@
--- What an event adds first to a connection's log, and to the log of the interrupt channels.
+-- Which act an event adds first to a connection's log, and to the log of the interrupt channels.
 -- These statements are for the crates that depend on this one.
 use Rattle.std.specs.Prelude.{◌≡◌, ℕ, ◌+◌, filter, ◌<◌, ◌==◌, Bool, true, false, List, [], ◌∷◌, ◌++◌, length, Option, Some, None, Result, Ok, Err, ⊤, if◌then◌else◌}
 use Rattle.sv_links.specs.declared.request.Peer.{Peer}

@@ -1,4 +1,5 @@
--- The clock counts the Ticks of a history, and a Tick is refused only at the clock's last value.
+-- The clock counts the Ticks of a history, and a Tick is refused only if the clock has its greatest
+-- value.
 use Rattle.std.proofs.Common.{◌≡◌, ℕ, ◌+◌, Bool, true, false, cond, eqb, List, [], ◌∷◌, length, filter, Some, refl, sym, ap, ◌∙◌, arith, eq-eqb}
 use Rattle.std.specs.Prelude.{Result, Ok, Err}
 use Rattle.std.proofs.lemmas.Bool.{ne_eqb}

@@ -1,5 +1,5 @@
-//! The laws of the specification: statements that hold of every history, by the definitions of
-//! `sv_history` alone. Nothing here runs.
+//! The laws of the specification: statements about every history, which follow from the definitions
+//! of `sv_history`, without the server's code. Nothing here runs.
 #![tactic(auto)]
 
 pub mod laws;

@@ -1,5 +1,5 @@
--- At power on, each status register's condition is 0 and its enable mask fits in 16 bits; equal
--- acts and summaries give equal conditions.
+-- At power on, each status register's condition is 0 and its enable mask fits in 16 bits; two logs
+-- with equal acts of the scanner and equal summaries give equal conditions.
 use Rattle.std.proofs.Common.{◌≡◌, ◌+◌, ◌<◌, ◌^◌, Bool, List, [], refl, ap, ◌∙◌, arith}
 use Rattle.sv_status.specs.declared.register_name.RegisterName.{RegisterName}
 use Rattle.sv_status.specs.declared.register_name.RegisterName.TheVariants.{Operation, Questionable, Limit}

@@ -1,5 +1,5 @@
--- In the questionable condition, the limit register's summary is the one that the general
--- definition of a summary gives.
+-- The summary bit of the limit register, in the condition of the QUEStionable register, is what the
+-- general definition of a summary gives.
 use Rattle.std.proofs.Common.{◌≡◌, ℕ, ◌<◌, ◌^◌, Bool, true, false, List, [], ◌∷◌, refl, ap, ◌∙◌, sym, arith, inl, inr, get_or}
 use Rattle.std.specs.Prelude.{◌↔◌, ◌&&◌, ◌||◌, Some, None, unwrap_or, if◌then◌else◌}
 use Rattle.std.specs.Int.{bit_at}

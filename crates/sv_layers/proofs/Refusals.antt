@@ -1,4 +1,5 @@
--- A refused act has the error that the definition names; for an act that is done, it names none.
+-- If a layer refuses to do an act, it returns the error that the definition names; if it does the
+-- act, the definition names none.
 use Rattle.std.proofs.Common.{◌≡◌, refl}
 use Rattle.std.specs.Prelude.{Option, Some, None, Ok, Err}
 use Rattle.sv_errors.specs.declared.code.Code.{Code}

@@ -1,5 +1,5 @@
--- The test whether a condition bit's transition passes its filter agrees with the register's
--- definition.
+-- The function that decides whether a transition of a condition bit passes its filter agrees with
+-- the register's definition.
 use Rattle.std.proofs.Common.{◌≡◌, ℕ, Bool, true, false, List, refl, ◌⊎◌, arith, eq-eqb}
 use Rattle.std.specs.Prelude.{◌↔◌, not, ◌&&◌, ◌||◌}
 use Rattle.std.specs.Int.{bit_at}

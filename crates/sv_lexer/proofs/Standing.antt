@@ -1,4 +1,5 @@
--- Where parts of a text begin: a prefix, a suffix, and the text without white space around it.
+-- At which position a part of a text begins: a prefix, a suffix, or the text without the white
+-- space around it.
 use Rattle.std.proofs.Common.{◌≡◌, ℕ, suc, ◌+◌, ◌-◌, ◌≤◌, Bool, true, false, cond, List, [], ◌∷◌, ◌++◌, length, take, drop, refl, sym, ap, ◌∙◌, slice_range, arith}
 use Rattle.std.specs.Prelude.{reverse}
 use Rattle.std.proofs.lemmas.List.{append_assoc, append-nil, length-append, length-drop, length-take-le, reverse-append, reverse-reverse, take-append-drop}

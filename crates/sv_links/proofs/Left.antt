@@ -1,4 +1,4 @@
--- What is still to be sent of interrupt calls after the peer took some of their bytes.
+-- Which bytes of the interrupt calls are still to be sent, after the peer took some of them.
 use Rattle.std.proofs.Common.{◌≡◌, ℕ, zero, suc, ◌+◌, ◌-◌, ◌*◌, ◌<◌, ◌≤◌, ltb, List, [], ◌∷◌, ◌++◌, length, drop, refl, sym, ap, ◌∙◌, arith, inl, inr}
 use Rattle.std.specs.Prelude.{map, sum}
 use Rattle.std.specs.List.{concat, AllByRecursion}

@@ -1,5 +1,5 @@
--- A property of an act and the acts before it: if it holds of each act of two lists, it holds of
--- each act of the joined list.
+-- If each act of a log has a property, which may depend on the acts before it, and each act that is
+-- added to the log has it too, each act of the longer log has it.
 use Rattle.std.proofs.Common.{List, [], ◌∷◌, ◌++◌, sym, subst, append_assoc}
 use Rattle.std.specs.Prelude.{⊤}
 

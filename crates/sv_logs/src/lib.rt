@@ -1,5 +1,5 @@
-//! Searches of a log, the list of all that happened. Its elements are called acts, and the newest
-//! comes first. A place of a log is one of its suffixes.
+//! Searching a log, which is a list of acts, the newest first. A place of a log is one of its
+//! suffixes.
 //!
 //! There is no code here: `specs/` defines the searches, and `proofs/` has their laws.
 #![tactic(auto)]

@@ -1,5 +1,5 @@
-//! Records what the server's driver does: which methods of its wire it calls, or which events its
-//! server applies.
+//! Records a run of the server's driver as one of two lists: the calls of its wire's methods, or
+//! the events that its server applied.
 //!
 //! The laws of `sv_driver_laws` are about a trace: the calls of the methods of a driver's wire,
 //! with their answers. If a [`Recorder`] is the wire, the trace is the list of calls that it

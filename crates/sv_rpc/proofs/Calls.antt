@@ -1,5 +1,5 @@
--- Reading a record as a call returns the call, or the fault, that the definition gives for its
--- bytes.
+-- Reading a record as a call returns what the definition gives for its bytes: the same call, or the
+-- same fault.
 use Rattle.std.proofs.Common.{◌≡◌, ◌≢◌, ℕ, ◌≤◌, cond, eqb, List, length, drop, Result, Ok, Err, refl, sym, subst, ◌∙◌, inl, inr}
 use Rattle.std.proofs.lemmas.Bool.{cases_Bool, cond-true, cond-false, eqb-true, eqb-false, ne_eqb}
 use Rattle.sv_xdr.specs.declared.fault.XdrFault.{XdrFault}

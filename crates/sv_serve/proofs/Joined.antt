@@ -1,5 +1,5 @@
--- A sweep takes a step for each connection, in order. These lemmas say what holds after one more
--- step.
+-- A sweep serves the connections one after the other, in the order of their numbers. These lemmas
+-- say what holds after one more step.
 use Rattle.std.proofs.Common.{◌≡◌, ℕ, suc, subst, sym, rules, refl, zero, List, [], ◌∷◌, drop, Some, ◌<◌, ◌≤◌, inl, inr, arith}
 use Rattle.std.proofs.Math.Nat.{eq-or-lt_of_le}
 use Rattle.std.specs.List.{slice_get}

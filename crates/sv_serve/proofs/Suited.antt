@@ -1,4 +1,4 @@
--- From its wire's answers, the driver makes only events that the server's methods allow. So the
+-- The driver makes events of its wire's answers; the server's methods allow each of them. So the
 -- server applies them.
 use Rattle.std.proofs.Common.{◌≡◌, ℕ, ◌<◌, ◌≤◌, Bool, true, false, List, [], ◌∷◌, length, Option, Some, None, Result, Ok, Err, refl, sym, ap, subst, ◌∙◌, arith, le-ltb}
 use Rattle.std.specs.Prelude.{min, not, ◌||◌}

@@ -1,5 +1,6 @@
--- The status byte after one more act: whether service is requested (`request_..`), whether this
--- request is new (`raised_..`), and that the stored bits agree with the acts (`stands_for_..`).
+-- The status byte after one more act: whether service is requested (lemmas `request_..`), whether
+-- this request is new (lemmas `raised_..`), and that the stored bits agree with the acts (lemmas
+-- `stands_for_..`).
 use Rattle.std.proofs.Common.{◌≡◌, ◌≢◌, ◌⊎◌, ℕ, Bool, true, false, ◌&&◌, ◌||◌, eqb, List, [], ◌∷◌, refl, ap, ◌∙◌, sym, inl, inr, bit_and, bit_or, ◌<◌, arith}
 use Rattle.std.specs.Prelude.{◌↔◌, not, bit_xor}
 use Rattle.std.specs.Int.{bit_at}

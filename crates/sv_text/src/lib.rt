@@ -1,5 +1,5 @@
-//! Splitting program text: white space, the first position of a byte, the parts between separators,
-//! and the parts of a header (IEEE 488.2, 7.4).
+//! Splitting the text of program messages: white space, the first position of a byte, the parts
+//! between separators, and the parts of a header (IEEE 488.2, 7.4).
 //!
 //! Nothing allocates: the functions return positions in the bytes or slices of them.
 #![tactic(auto)]

@@ -1,5 +1,5 @@
-//! Runs the test cases, called rows, of the standard input. No row depends on an earlier row.
-//! Prints the title of each row, and then the results of the row.
+//! Reads test cases, called rows, from the standard input, and runs them. No row depends on an
+//! earlier row. Prints the title of each row, and then the results of the row.
 //!
 //! A title is a line `= WORDS`. The text of a row begins after its title and ends before the next
 //! title. The new line right before that title doesn't belong to the text. So an empty line before

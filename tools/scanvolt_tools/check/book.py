@@ -287,10 +287,11 @@ def lines_like(repository: Repository, pattern: str, wanted: str) -> int:
 
 def crate_page(sources: Sources) -> Iterator[str]:
     yield (
-        "# The crates\n\nA clause is one statement in the contract of an exported function, or in a law. "
-        "[ARCHITECTURE](ARCHITECTURE.md#words)\nexplains act, log, layer, row, mutant and settle.\n"
+        "# The crates\n\nA clause is one statement in the contract of an exported function, or in a law (a proved statement, "
+        "mostly about every\nhistory). [ARCHITECTURE](ARCHITECTURE.md#words) explains the words: act, log, history, "
+        "device, wire and others.\n"
     )
-    yield "| Crate | What it is | Uses | Clauses of functions | Clauses of laws | Mutants | Rows |"
+    yield "| Crate | What it is | Uses directly | Clauses of functions | Clauses of laws | Mutants | Rows |"
     yield "|---|---|---|---|---|---|---|"
     order = list(sources.order)
     repository = sources.repository
@@ -306,7 +307,7 @@ def crate_page(sources: Sources) -> Iterator[str]:
             " | ".join("{:,}".format(count) if count else "" for count in found),
         )
     yield "| all | | | %s |" % " | ".join("{:,}".format(count) for count in sums)
-    yield "\n## Lemmas that other crates cite\n\n| Crate | Lemmas | What they say | Cited by |\n|---|---|---|---|"
+    yield "\n## Lemmas that other crates cite\n\n| Crate | File of lemmas | What they say | Cited by |\n|---|---|---|---|"
     cited = lemmas(repository)
     for path in sorted(cited, key=lambda path: (order.index(path.split("/")[0]), path)):
         crate = path.split("/")[0]
