@@ -218,7 +218,7 @@ def text_of(printed: object) -> str:
 def first_page(readme: str) -> str:
     """A script that runs the PyVISA client of README.md, and compares what it prints with the line that follows it there."""
     client = re.search(
-        r"^\$ (/usr/bin/python3 -c '\n(.*\n)*?.*'\n)(SCANVOLT.*\n)", readme, flags=re.M
+        r"^\$ (/usr/bin/python3 -c '(.*\n)*?.*'\n)(SCANVOLT.*\n)", readme, flags=re.M
     )
     if client is None:
         return "echo README.md has no client of PyVISA; exit 1"
