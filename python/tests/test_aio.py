@@ -199,14 +199,14 @@ class Virtual(unittest.TestCase):
                     link = await meter.connect().create_link()
                     await asyncio.sleep(1)
                     told.append(("sleeps", await link.readstb(), meter.clock))
-                    await meter.advance(3600000)
+                    await meter.advance(60000)
                     told.append(("sleeps", "again", meter.clock))
 
                 await asyncio.gather(reads(), sleeps())
 
         self.run_with(session())
         self.assertEqual(
-            told, [("sleeps", 0, 1000), ("reads", 2047, 2048), ("sleeps", "again", 3601000)]
+            told, [("sleeps", 0, 1000), ("reads", 2047, 2048), ("sleeps", "again", 61000)]
         )
 
     def test_a_lock_and_a_request(self) -> None:
@@ -230,7 +230,7 @@ class Virtual(unittest.TestCase):
         """A call that nothing can end raises NoAnswer; one with a timeout of asyncio ends at its millisecond."""
 
         async def session() -> None:
-            async with aio.Meter() as meter:
+            async with aio.Meter(patience=15000) as meter:
                 link = await meter.connect().create_link(io_timeout=LONG)
                 await link.write("TRIG:SOUR EXT;:INIT;*OPC?")
                 with self.assertRaises(asyncio.TimeoutError):
