@@ -67,11 +67,6 @@ some_is_injective c d e = cc
 pub none_not_some : {A : Type 0} (c : ℕ) → None ≡ Some c → A
 none_not_some {A} c e = absurd cc
 
-pub last_is_reason : (c d : ℕ) (config : Config) (history : List PlainEvent) (last : Heard) (older : List Heard)
-    → ends_port (Intr c) last ≡ true → Some c ≡ Some d → IsEnd d config history (last ∷ older)
-last_is_reason c d config history last older ends e =
-    inl (last, older, refl, subst (λ (n : ℕ). ends_port (Intr n) last ≡ true) (some_is_injective c d e) ends)
-
 pub shut_is_reason : (c d : ℕ) (config : Config) (history : List PlainEvent) (trace : List Heard) (log : List Act)
     → IsLogOf config history log
     → is_port_shut (Intr c) log ≡ true → filter is_outer history ≡ flat_map event_of trace → Some c ≡ Some d → IsEnd d config history trace

@@ -1,12 +1,10 @@
 -- What is printed in several calls, or in a loop, is the specified text.
 use Rattle.std.proofs.Common.{◌≡◌, ℕ, suc, add-one, ◌+◌, ◌<◌, ◌≤◌, ◌-◌, min, Bool, true, false, List, [], ◌∷◌, ◌++◌, length, take, drop, map, Option, subst, refl, sym, ap, ◌∙◌, append_assoc, append-nil, slice_index_or, arith}
 use Rattle.std.specs.Prelude.{not, if◌then◌else◌}
-use Rattle.std.specs.List.{concat, range_with_len}
+use Rattle.std.specs.List.{concat}
 use Rattle.std.specs.Borrow.{Bor}
 use Rattle.std.proofs.Math.Seq.{drop-cons}
 use Rattle.std.proofs.lemmas.List.{length-drop}
-use Rattle.std.proofs.lemmas.List.Folds.{concat-append}
-use Rattle.std.proofs.lemmas.List.FromFn.{map-range_with_len_more}
 use Rattle.sv_print.specs.Printed.{Prints}
 use Rattle.sv_print.proofs.Taking.{prints_then, prints_equal_text, texts_all}
 use Rattle.sv_explain.specs.declared.value.Value.{Value}
@@ -127,15 +125,6 @@ without_lines line other (link ∷ links) = step (has_link other link.lid) refl 
     step false e rest = rw e (ap (λ (l : List ℕ). line link ++ l) rest)
 
 -- ---- texts by number
-
--- The text of another number is printed.
-pub prints_next : (f : ℕ → List ℕ) (n : ℕ) (old mid new : Option (List ℕ)) (a b c : Bool)
-    → Prints old a mid b (concat (map f (range_with_len 0 n))) → Prints mid b new c (f n)
-    → Prints old a new c (concat (map f (range_with_len 0 (n + 1))))
-prints_next f n old mid new a b c x y = prints_equal_text old new a c _ _
-    (sym (ap concat (map-range_with_len_more f 0 n n (omega arith)) ∙ concat-append (map f (range_with_len 0 n)) (f n ∷ [])
-    ∙ ap (λ (l : List ℕ). concat (map f (range_with_len 0 n)) ++ l) (append-nil (f n))))
-    (prints_then old mid new a b c (concat (map f (range_with_len 0 n))) (f n) x y)
 
 pub prints_of_equals : {X : Type 0} (text : X → X → List ℕ) (a b c d : X) (old new : Option (List ℕ)) (f g : Bool) → a ≡ c → b ≡ d
     → Prints old f new g (text a b) → Prints old f new g (text c d)

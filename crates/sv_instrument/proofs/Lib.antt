@@ -5,6 +5,5 @@ pub mod Words
 pub mod Dues
 pub mod FewActs
 pub mod NextStep
-pub mod First
 pub mod OneReading
 pub mod OneStep

@@ -1,21 +1,19 @@
 -- Each step that the instrument takes is the one that is due, and less work remains after it.
 use Rattle.std.proofs.Common.{◌≡◌, ℕ, ◌+◌, ◌*◌, ◌<◌, ◌≤◌, true, false, List, [], ◌∷◌, length, drop, ap, sym, subst, ◌∙◌, arith}
 use Rattle.std.specs.Prelude.{Option, Some, None}
-use Rattle.sv_errors.specs.declared.code.Code.{Code}
-use Rattle.sv_scan.specs.declared.setting.State.TheVariants.{Waiting, Scanning}
 use Rattle.sv_exchange.specs.Exchange.{Due, NothingDue, OverrunDue, InterruptDue, UnitDue, FinishDue, due, next_unit, is_something}
-use Rattle.sv_exchange.specs.Contents.{Contents, IsUnitDue, next_of, shown_by, exchange_measure}
+use Rattle.sv_exchange.specs.Contents.{Contents, IsUnitDue, next_of, shown_by}
 use Rattle.sv_exchange.proofs.Dues.{unit_due_state}
 use Rattle.sv_layers.specs.declared.change.Awaited.{Awaited}
 use Rattle.sv_layers.specs.Act.{Act, exchange_acts}
 use Rattle.sv_layers.specs.Condition.{is_idle}
-use Rattle.sv_layers.specs.Inside.Representation.{LayerState, state_by}
+use Rattle.sv_layers.specs.Inside.Representation.{LayerState}
 use Rattle.sv_instrument.specs.HeldUnit.{held_unit}
 use Rattle.sv_instrument.specs.Path.{IsPath}
 use Rattle.sv_instrument.specs.Step.{StepOf, IsStep, Starts, is_held}
 use Rattle.sv_instrument.specs.Looking.{IsDue, IsNoneDue}
 use Rattle.sv_instrument.specs.declared.looking.Step.TheVariants as step
-use Rattle.sv_instrument.specs.Representation.{Kept, IsHeldRight, one_if_unheld, waits}
+use Rattle.sv_instrument.specs.Representation.{Kept, IsHeldRight}
 use Rattle.sv_instrument.specs.Inside.Acted.{Behaves, Follows, StartsUnit}
 use Rattle.sv_instrument.proofs.Paths.{started_path}
 use Rattle.sv_instrument.proofs.Dues.{unit_is_next}
@@ -59,9 +57,6 @@ none_while_held log awaited is busy (step.Interrupt place unit) (none, so, more,
 none_while_held log awaited is busy (step.Unit place unit) (none, so, placed) = absurd (let z : Some awaited ≡ None = is ∙ none in cc)
 none_while_held log awaited is busy step.Finish (none, so) = absurd (let z : Some awaited ≡ None = is ∙ none in cc)
 
-pub fault_isnt_none : {fault : Option Code} {code : Code} → fault ≡ Some code → fault ≡ None → ⊥
-fault_isnt_none {fault} {code} is none = absurd cc
-
 -- The unit that is due is the next unit of the message, so the step that is due starts it.
 pub start_is_due_step : (log new : List Act) (unit text : List ℕ) → None ≡ held_unit log → UnitDue text ≡ due (exchange_acts log)
     → next_unit (exchange_acts log) ≡ Some unit → Starts unit log new → IsStep log new
@@ -87,17 +82,6 @@ stands_after_start start log unit path kept free next here b =
         path = started_path log b.new unit path kept.path read.0 free b.begins next here read.1;
       };
     }
-
--- An immediate trigger ends the wait for a trigger, so the measure of the remaining steps
--- decreases.
-pub trigger_lowers_measure : (new old : LayerState) (kept : Option Awaited) → new.exchange ≡ old.exchange → state_by old ≡ Waiting
-    → state_by new ≡ Scanning → 2 * (2 * exchange_measure new.exchange + one_if_unheld kept) + waits (state_by new)
-    < 2 * (2 * exchange_measure old.exchange + one_if_unheld kept) + waits (state_by old)
-trigger_lowers_measure new old kept exchange waiting scanning =
-    let work : exchange_measure new.exchange ≡ exchange_measure old.exchange = ap (λ (c : Contents). exchange_measure c) exchange in
-    let before : waits (state_by old) ≡ 1 = ap waits waiting in
-    let after : waits (state_by new) ≡ 0 = ap waits scanning in
-    omega (arith, work, before, after)
 
 -- A read takes no bytes from an empty response. So it changes nothing while a unit is held, since a
 -- unit is due only if there is no response.

@@ -1,5 +1,5 @@
 -- Text cut at the commas outside parentheses, one part after the other.
-use Rattle.std.proofs.Common.{◌≡◌, ℕ, zero, suc, ◌+◌, ◌<◌, ◌≤◌, ◌==◌, ◌&&◌, Bool, true, false, not, cond, List, [], ◌∷◌, ◌++◌, length, take, drop, refl, ap, ◌∙◌, slice_index_or, arith}
+use Rattle.std.proofs.Common.{◌≡◌, ℕ, zero, suc, ◌+◌, ◌<◌, ◌≤◌, ◌==◌, ◌&&◌, Bool, true, false, not, cond, List, [], ◌∷◌, ◌++◌, length, take, drop, refl, ap, ◌∙◌, arith}
 use Rattle.std.proofs.lemmas.Bool.{eqb-true}
 use Rattle.std.specs.List.{sum_by}
 use Rattle.std.proofs.lemmas.List.Sums.{sum_by-append}
@@ -63,14 +63,6 @@ pub last_part_index : (k : ℕ) (cut : List (List ℕ)) (part : List ℕ) → dr
 last_part_index zero cut part h = ap length h
 last_part_index (suc k) [] part h = absurd cc
 last_part_index (suc k) (x ∷ cut) part h = let l = last_part_index k cut part h in omega (arith, l)
-
--- The first of the remaining parts is the one with the next index.
-pub remaining_part : (k : ℕ) (cut others : List (List ℕ)) (part : List ℕ) → drop k cut ≡ part ∷ others
-    → (k < length cut) × (slice_index_or cut k [] ≡ part)
-remaining_part zero [] others part h = absurd cc
-remaining_part zero (x ∷ cut) others part h = (omega arith, cc)
-remaining_part (suc k) [] others part h = absurd cc
-remaining_part (suc k) (x ∷ cut) others part h = let l = remaining_part k cut others part h in (omega (arith, l.0), l.1)
 
 pub remaining_after : (k : ℕ) (cut others : List (List ℕ)) (part : List ℕ) → drop k cut ≡ part ∷ others → drop (k + 1) cut ≡ others
 remaining_after zero [] others part h = absurd cc

@@ -28,13 +28,6 @@ white_size_over_white (b ∷ lead) xs e =
     let more = white_size_over_white lead xs parts.1 in
     ap (λ (t : Bool). cond t (1 + white_size (lead ++ xs)) 0) parts.0 ∙ omega (arith, more)
 
-pub white_size_of_white : (xs : List ℕ) → list_all is_white xs ≡ true → white_size xs ≡ length xs
-white_size_of_white [] e = refl
-white_size_of_white (b ∷ xs) e =
-    let parts = and_parts (is_white b) (list_all is_white xs) e in
-    let more = white_size_of_white xs parts.1 in
-    ap (λ (t : Bool). cond t (1 + white_size xs) 0) parts.0 ∙ omega (arith, more)
-
 -- After another byte, more bytes don't change how much white space leads.
 pub white_size_of_append : (xs ys : List ℕ) → list_all is_white xs ≡ false → white_size (xs ++ ys) ≡ white_size xs
 white_size_of_append [] ys e = let f : true ≡ false = e in absurd cc

@@ -232,13 +232,6 @@ is_queue_anew conn wait last acts xs is = record {
 
 -- ---- a connection without an entry
 
-pub free_from_find : (conn : ℕ) (xs : List Entry) → entry_of conn xs ≡ None → IsFree conn xs
-free_from_find conn [] h = tt
-free_from_find conn (x ∷ xs) h = elim (cases_Bool (eqb x.conn conn)) [
-  | inl e ↦ absurd (true≢false (ap is_some (rw e at h)))
-  | inr e ↦ (eqb-false x.conn conn e, free_from_find conn xs (rw e at h))
-]
-
 pub anew_none : (conn : ℕ) (wait : Wait) (last : Option ℕ) (xs : List Entry) → IsFree conn xs → map (anew conn wait last) xs ≡ xs
 anew_none conn wait last [] h = refl
 anew_none conn wait last (x ∷ xs) h = rw (ne_eqb x.conn conn h.0, anew_none conn wait last xs h.1) refl

@@ -1,8 +1,8 @@
 -- A channel's queue agrees with the acts when a call is appended or the peer takes bytes.
-use Rattle.std.proofs.Common.{◌≡◌, ℕ, ◌+◌, ◌<◌, ◌≤◌, Bool, true, false, List, [], ◌∷◌, ◌++◌, length, drop, Some, refl, sym, ap, subst, ◌∙◌, arith}
-use Rattle.std.specs.Prelude.{map, nat_lt, if◌then◌else◌}
+use Rattle.std.proofs.Common.{◌≡◌, ℕ, ◌+◌, ◌<◌, ◌≤◌, Bool, true, List, [], ◌∷◌, ◌++◌, length, drop, Some, refl, sym, ap, subst, ◌∙◌, arith}
+use Rattle.std.specs.Prelude.{map, if◌then◌else◌}
 use Rattle.std.specs.List.{concat}
-use Rattle.std.proofs.lemmas.Bool.{lt-ltb, le-ltb, and_right}
+use Rattle.std.proofs.lemmas.Bool.{lt-ltb}
 use Rattle.std.proofs.lemmas.List.{length-append, length-drop, length-map, length_push, map_push}
 use Rattle.sv_links.specs.declared.channel.Stage.{Stage}
 use Rattle.sv_links.specs.declared.channel.Stage.TheVariants.{Closed, Open}
@@ -50,12 +50,6 @@ pub may_call_with_room : (kept : Channel) (count : ℕ) (calls : List (List ℕ)
     → kept.made < 4294967295 → may_call count calls ≡ true
 may_call_with_room kept count calls is h k =
     rw (← sizes_are kept count calls is, ← is.0, lt-ltb (length kept.sizes) max_calls h, lt-ltb kept.made 4294967295 k) refl
-
-pub no_number_is_left : (kept : Channel) (count : ℕ) (calls : List (List ℕ)) → IsQueued kept count calls → 4294967295 ≤ kept.made
-    → may_call count calls ≡ false
-no_number_is_left kept count calls is h =
-    rw (← is.0) (and_right (nat_lt (length (calls_left count calls)) max_calls) (nat_lt kept.made 4294967295)
-    (le-ltb kept.made 4294967295 h))
 
 -- The calls, with one more if it may be appended.
 abbrev calls_with_one_more : Peer → List ℕ → List (List ℕ) → Bool → List (List ℕ)

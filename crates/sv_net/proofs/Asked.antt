@@ -69,9 +69,3 @@ explain_fault texts BadWords e none = words_ask_nothing texts (λ ports is asks.
     (λ ports is asks. none ports asks) (λ serve is asks. explain_serve (same_Some _ _ (sym e ∙ is)))
 explain_fault texts (Run fault) e is = is
 explain_fault texts Socket e never = never
-
--- Any other first word asks for nothing.
-pub other_word_asks_nothing : (texts : List Text) (word : Text) → slice_get texts 0 ≡ Some word → (word ≡ codes "replay" → ⊥)
-    → (word ≡ codes "explain" → ⊥) → (word ≡ codes "serve" → ⊥) → (asked : Words) → AsksFor texts asked → ⊥
-other_word_asks_nothing texts word e replay explain serve = words_ask_nothing texts (λ ports is asks. replay (same_Some _ _ (sym e ∙ is)))
-    (λ ports is asks. explain (same_Some _ _ (sym e ∙ is))) (λ server is asks. serve (same_Some _ _ (sym e ∙ is)))

@@ -178,8 +178,3 @@ stands_for_cleared start latches acts is = record {
   enable = is.enable;
   event = λ k. zero_has_no_bit k (EventStands k (Clear ∷ acts)) (event_cleared k acts);
 }
-
--- The enable after a preset is the one at first.
-pub stands_for_start : (start : ℕ) (latches : Latches) (acts : List RegisterAct) → StandsFor start latches acts
-    → StandsFor latches.start latches acts
-stands_for_start start latches acts is = subst (λ (s : ℕ). StandsFor s latches acts) (sym is.begins) is

@@ -133,16 +133,6 @@ pub stands_for_updated : (before now : ℕ) (latches : Latches) (acts : List Sta
 stands_for_updated before now latches acts word mask is was asks =
     record { bits = refl; enable = refl; request = request_is before now latches acts word mask is was asks }
 
--- A serial poll ends the request.
-pub stands_for_polled : (latches : Latches) (acts : List StatusAct) → StandsFor latches acts
-    → StandsFor (record latches { request = false }) (Poll ∷ acts)
-stands_for_polled latches acts is = record {
-  bits = is.bits;
-  enable = is.enable;
-  request =
-      ((λ h. absurd cc), (λ s. absurd (request_polled acts s)));
-}
-
 -- ---- the status byte as it is returned
 
 -- These bits, with bit 6 set to the flag.

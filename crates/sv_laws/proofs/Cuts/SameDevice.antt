@@ -48,10 +48,6 @@ act_keeps_same_device (Applied act) acts other v =
     assumption (act_keeps_same_instrument act (instrument_acts acts) (instrument_acts other) v.instrument)
 act_keeps_same_device Ticked acts other v = assumption (ap (λ (n : ℕ). n + 1) v.clock)
 
-pub device_more : (adds acts other : List DeviceAct) → SameDevice acts other → SameDevice (adds ++ acts) (adds ++ other)
-device_more [] acts other v = v
-device_more (act ∷ adds) acts other v = act_keeps_same_device act (adds ++ acts) (adds ++ other) (device_more adds acts other v)
-
 -- ---- the log of the interrupt channels
 
 -- Each log of the interrupt channels that the acts of the one lead to is one for the other too.

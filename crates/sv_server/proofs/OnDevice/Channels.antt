@@ -55,9 +55,6 @@ pub has_channel_if_open : (c : ℕ) (log : List Act) → is_channel_shut c log �
 has_channel_if_open c log unshut =
     not-false (has_channel c (device_acts log)) (or_parts (nat_lt 15 c) (not (has_channel c (device_acts log))) unshut).1
 
-pub channel_beyond : (c : ℕ) (log : List Act) → 16 ≤ c → is_channel_shut c log ≡ true
-channel_beyond c log above = rw (lt-ltb 15 c (omega arith)) refl
-
 -- A Took of one channel leaves the bytes that wait on another.
 pub took_leaves_other_channel : (c d count : ℕ) (channel_log : List ChannelAct) → d ≢ c
     → channel_waiting c (ChannelTaken d count ∷ channel_log) ≡ channel_waiting c channel_log

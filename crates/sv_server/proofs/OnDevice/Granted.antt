@@ -121,9 +121,6 @@ create_link_waits_for_lock c _ acts wait until e makes = absurd (let z : false �
 -- Only create_intr_chan waits until its peer is connected, and then its connection has no interrupt
 -- channel.
 
-same_wait : (a b : Wait) (x y : Option ℕ) → Awaits a x ≡ Awaits b y → a ≡ b
-same_wait a b x y e = cc
-
 lock_never : (lock : Option LockWait) (until : Option ℕ) → option_map lock_stop lock ≡ Some (Awaits Dial until) → ⊥
 lock_never None until e = cc
 lock_never (Some wait) until e = by wait.waits e
@@ -174,18 +171,6 @@ dialing_has_no_channel c DestroyIntrChan acts until e = absurd cc
 pub link_numbered : (n : ℕ) (lid : ℤ) → Some n ≡ lid_of (Some lid) → lid ≡ pos n
 link_numbered n (pos m) e = ap pos (sym (same_Some n m e))
 link_numbered n (negsuc m) e = absurd cc
-
--- A call that names a link by a negative number fails.
-pub own_nameless : (config : Config) (polled c : ℕ) (lid : ℤ) (call : LinkCall) (acts : List DeviceAct) → None ≡ lid_of (Some lid)
-    → own_call config polled c (OnLink lid call) acts ≡ only (failure (OnLink lid call) InvalidLink)
-own_nameless config polled c (pos m) call acts e = absurd cc
-own_nameless config polled c (negsuc m) call acts e = refl
-
--- A write that is too long fails.
-pub own_too_long : (config : Config) (polled c n : ℕ) (call : LinkCall) (acts : List DeviceAct) → is_too_long call ≡ true
-    → own_call config polled c (OnLink (pos n) call) acts ≡ only (failure (OnLink (pos n) call) ParameterError)
-own_too_long config polled c n (DeviceWrite timeout lock_timeout flags bytes) acts long = rw long refl
-own_too_long config polled c n _ acts long = absurd cc
 
 -- A call that would have to wait for the device times out.
 pub own_times_out : (config : Config) (polled c n : ℕ) (call : LinkCall) (acts : List DeviceAct) → is_too_long call ≡ false
@@ -308,10 +293,6 @@ may_make_link _ kept acts c may = tt
 pub measure_one_is_not_lock : (wait : Wait) → wait_measure wait ≡ 1 → wait ≡ Lock → ⊥
 measure_one_is_not_lock Lock e same = absurd cc
 measure_one_is_not_lock _ e same = cc
-
-pub measure_one_is_no_lock_wait : (wait : Wait) (b : Bool) → wait_measure wait ≡ 1 → (is_lock (Some wait) && b) ≡ true → ⊥
-measure_one_is_no_lock_wait Lock b e both = cc
-measure_one_is_no_lock_wait _ b e both = cc
 
 pub free_lock_excludes_nobody : (holder : Option ℕ) (lid : ℕ) → is_locked_out holder None ≡ false → is_locked_out holder (Some lid) ≡ false
 free_lock_excludes_nobody (Some other) lid e = absurd cc

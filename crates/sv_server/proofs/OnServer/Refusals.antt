@@ -30,11 +30,7 @@ pub refusable_is : (acts : List ConnAct) (role : Role) (found : Option (List ℕ
 refusable_is acts role found opened next = ap (λ (r : Option Role). refusable_call (request_for r (next_call acts))) opened
     ∙ ap (λ (bytes : Option (List ℕ)). refusable_call (request_for (Some role) bytes)) next
 
--- A Refuse is refused if there is no call that it can answer. It isn't refused if there is one and
--- the reply fits.
-pub refuse_without_call : (acts : List ConnAct) → refusable acts ≡ None → refuse_refusal acts ≡ Some NotRefusable
-refuse_without_call acts e = rw e refl
-
+-- A Refuse succeeds if there is a call that it can answer, and room for the reply.
 pub refuse_allowed : (acts : List ConnAct) (call : CoreCall) → refusable acts ≡ Some call → nat_lt (free acts) longest_reply ≡ false
     → refuse_refusal acts ≡ None
 refuse_allowed acts call e roomy = rw (e, roomy) refl

@@ -8,11 +8,6 @@ use Rattle.sv_history.specs.History.{is_shut}
 use Rattle.sv_history.specs.Queries.{IsUsed}
 use Rattle.sv_history.proofs.Projections.{of_own_act, of_other_act}
 
--- An open connection has acts.
-pub open_used : (acts : List ConnAct) → is_open acts ≡ true → acts ≢ []
-open_used [] opened none = absurd cc
-open_used (act ∷ acts) opened none = absurd cc
-
 -- A connection with a pending call has acts.
 pub unanswered_used : (acts : List ConnAct) (call : List ℕ) → pending_call acts ≡ Some call → acts ≢ []
 unanswered_used [] call known none = absurd cc
