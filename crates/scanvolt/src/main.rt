@@ -5,7 +5,7 @@ mod serving;
 
 use std::alloc::Global;
 use std::env;
-use std::io::{self, BufWriter, Error, ErrorKind};
+use std::io::{self, BufWriter, Error, ErrorKind, Printer};
 use std::process::ExitCode;
 use sv_net::{ProgramFault, Words, read_words};
 use sv_replay::{Ports, RunFault, run_explain, run_replay};
@@ -48,16 +48,19 @@ fn words_fault(error: &Error) -> ProgramFault {
     }
 }
 
+/// Returns a buffer for what is printed to the standard output.
+fn printer(rt: &HostRuntime) -> Result<BufWriter<Printer<'_, HostRuntime>, Global>, RunFault> {
+    BufWriter::new(rt.alloc(), io::writer(rt)).map_err(|_| RunFault::Memory)
+}
+
 /// Replays the script of the standard input. Prints to the standard output.
 fn replay(rt: &HostRuntime, ports: Ports) -> Result<(), RunFault> {
-    let alloc = rt.alloc();
-    let mut writer = BufWriter::new(alloc, io::writer(rt)).map_err(|_| RunFault::Memory)?;
-    run_replay(alloc, ports, &mut rt.reader(), &mut writer)
+    let mut writer = printer(rt)?;
+    run_replay(rt.alloc(), ports, &mut rt.reader(), &mut writer)
 }
 
 /// Explains the script of the standard input. Prints to the standard output.
 fn explain(rt: &HostRuntime, ports: Ports) -> Result<(), RunFault> {
-    let alloc = rt.alloc();
-    let mut writer = BufWriter::new(alloc, io::writer(rt)).map_err(|_| RunFault::Memory)?;
-    run_explain(alloc, ports, &mut rt.reader(), &mut writer)
+    let mut writer = printer(rt)?;
+    run_explain(rt.alloc(), ports, &mut rt.reader(), &mut writer)
 }

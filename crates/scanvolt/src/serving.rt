@@ -91,20 +91,21 @@ fn print_ready(rt: &HostRuntime, words: &Serve<'_>) -> Result<(), ProgramFault> 
     printed.map_err(|_| ProgramFault::Run(RunFault::Output))
 }
 
-/// Makes the sweeps.
+/// Prints `ready` and the ports, and makes the sweeps.
 fn sweep<J: Journal + Drop>(
     rt: &HostRuntime,
+    words: &Serve<'_>,
     watch: &mut Watch<Global>,
     control: &mut Option<Control>,
     driver: &mut Driver<Net<HostRuntime>, Global, J>,
-    sweeps: u32,
 ) -> Result<(), ProgramFault> {
+    print_ready(rt, words)?;
     let mut machine = System::begin(rt, watch, control).map_err(|_| ProgramFault::Socket)?;
-    sv_net::serve(&mut machine, driver, sweeps).map_err(|_| ProgramFault::Socket)
+    sv_net::serve(&mut machine, driver, words.sweeps).map_err(|_| ProgramFault::Socket)
 }
 
 /// Listens on the ports, prints `ready` and the ports, and makes the sweeps. Returns the journal,
-/// with the fault that ended the sweeps, if there was one.
+/// with the fault that ended the session, if there was one.
 fn run<J: Journal + Drop>(
     rt: &HostRuntime,
     words: &Serve<'_>,
@@ -114,8 +115,7 @@ fn run<J: Journal + Drop>(
     let (mut watch, net) = listen(rt, words)?;
     let mut control = control(rt, words, &watch)?;
     let mut driver = driver(rt, words, net, scenario, journal)?;
-    print_ready(rt, words)?;
-    let made = sweep(rt, &mut watch, &mut control, &mut driver, words.sweeps);
+    let made = sweep(rt, words, &mut watch, &mut control, &mut driver);
     Ok((driver.into_journal(), made))
 }
 
