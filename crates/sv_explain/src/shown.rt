@@ -14,7 +14,7 @@ pub const MOST_LINKS: usize = 32;
 pub const CONNECTIONS: usize = 16;
 
 /// What is told of the standard events and of the status byte (IEEE 488.2, 11.2 and 11.5).
-#[derive(Clone, Copy, Debug, PartialEq, Eq)]
+#[derive(Clone, Copy, PartialEq, Eq)]
 pub struct StatusShown {
     /// Whether an `*OPC` is pending.
     pub opc: bool,
@@ -31,7 +31,7 @@ pub struct StatusShown {
 }
 
 /// What is told of a status register (SCPI-1999, volume 1, chapter 9).
-#[derive(Clone, Copy, Debug, PartialEq, Eq)]
+#[derive(Clone, Copy, PartialEq, Eq)]
 pub struct RegisterShown {
     /// The enable.
     pub enable: u16,
@@ -46,7 +46,7 @@ pub struct RegisterShown {
 }
 
 /// What is told of the settings, without the scan list.
-#[derive(Clone, Copy, Debug)]
+#[derive(Clone, Copy)]
 pub struct SettingsShown {
     /// The source of triggers.
     pub source: Word,
@@ -65,7 +65,7 @@ pub struct SettingsShown {
 }
 
 /// What is told of the measurement.
-#[derive(Clone, Copy, Debug)]
+#[derive(Clone, Copy)]
 pub struct MeasurementShown {
     /// The state of the trigger system.
     pub state: Word,
@@ -78,7 +78,7 @@ pub struct MeasurementShown {
 }
 
 /// What is told of message exchange, and of the errors that the queue had no place for.
-#[derive(Clone, Copy, Debug, PartialEq, Eq)]
+#[derive(Clone, Copy, PartialEq, Eq)]
 pub struct MessageShown {
     /// Bytes of the message that hasn't ended; `None` if it has ended, or is too long.
     pub text: Option<u32>,
@@ -93,7 +93,7 @@ pub struct MessageShown {
 }
 
 /// A link in a list.
-#[derive(Clone, Copy, Debug, Default)]
+#[derive(Clone, Copy, Default)]
 pub struct Listed {
     /// The number of the link.
     pub lid: u32,
@@ -102,7 +102,7 @@ pub struct Listed {
 }
 
 /// What is told of a suspended call.
-#[derive(Clone, Copy, Debug, PartialEq, Eq)]
+#[derive(Clone, Copy, PartialEq, Eq)]
 pub struct CallShown {
     /// What it waits for.
     pub wait: Word,
@@ -113,7 +113,7 @@ pub struct CallShown {
 }
 
 /// What is told of a connection and its interrupt channel.
-#[derive(Clone, Copy, Debug)]
+#[derive(Clone, Copy)]
 pub struct ConnShown {
     /// Its role.
     pub role: Word,
@@ -161,7 +161,7 @@ pub struct ExchangeShown {
 }
 
 /// What is told of the status registers and of the status byte.
-#[derive(Clone, Copy, Debug)]
+#[derive(Clone, Copy)]
 pub struct StatusesShown {
     /// The limit register.
     pub limit: RegisterShown,

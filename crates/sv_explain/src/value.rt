@@ -4,7 +4,7 @@ ghost use Rattle.std.specs.Prelude.{◌≡◌, true};
 ghost use Rattle.sv_explain.specs.Value.{same_value, word_text};
 
 /// A word that is told.
-#[derive(Clone, Copy, Debug, PartialEq, Eq)]
+#[derive(Clone, Copy, PartialEq, Eq)]
 pub enum Word {
     /// There is no such value.
     None,
@@ -51,7 +51,7 @@ pub enum Word {
 }
 
 /// A value that is told.
-#[derive(Clone, Copy, Debug)]
+#[derive(Clone, Copy)]
 pub enum Value {
     /// A number.
     Number(u64),

@@ -3,7 +3,7 @@
 use thiserror::Error;
 
 /// The program that a connection serves.
-#[derive(Clone, Copy, Debug, PartialEq, Eq)]
+#[derive(Clone, Copy, Debug)]
 pub enum Role {
     /// The core channel.
     Core,
@@ -14,7 +14,7 @@ pub enum Role {
 }
 
 /// Where the server sends bytes: a connection, or the interrupt channel of a connection.
-#[derive(Clone, Copy, Debug, PartialEq, Eq)]
+#[derive(Clone, Copy, Debug)]
 pub enum Port {
     /// The connection of this number.
     Conn(u8),
@@ -23,7 +23,7 @@ pub enum Port {
 }
 
 /// What happens to the server.
-#[derive(Clone, Copy, Debug, PartialEq, Eq)]
+#[derive(Clone, Copy)]
 pub enum Event<'a> {
     /// A connection opens.
     Open {
@@ -82,7 +82,7 @@ pub enum Event<'a> {
 }
 
 /// What an event that wasn't refused did.
-#[derive(Clone, Copy, Debug, PartialEq, Eq)]
+#[derive(Clone, Copy)]
 pub enum Did {
     /// The event was applied.
     Done,
@@ -91,7 +91,7 @@ pub enum Did {
 }
 
 /// The configuration of a server.
-#[derive(Clone, Copy, Debug, PartialEq, Eq)]
+#[derive(Clone, Copy)]
 pub struct Config {
     /// The TCP port of the core channel.
     pub core: u16,
@@ -103,7 +103,7 @@ pub struct Config {
 }
 
 /// Where to connect an interrupt channel to: its peer's address and port.
-#[derive(Clone, Copy, Debug, PartialEq, Eq)]
+#[derive(Clone, Copy, Debug)]
 pub struct Dial {
     /// The IPv4 address as a number, with its first byte as the most significant one.
     pub addr: u32,
@@ -113,7 +113,7 @@ pub struct Dial {
 
 /// Why an event was refused. A refused event changed nothing, and isn't in the history. A replay
 /// prints the number of the refusal, which is `refused as u8`.
-#[derive(Clone, Copy, Debug, PartialEq, Eq, Error)]
+#[derive(Clone, Copy, Debug, Error)]
 pub enum Refused {
     /// The server got no memory for a link or an interrupt channel.
     #[error("no memory was left")]

@@ -12,7 +12,7 @@ use crate::text::LONGEST_LINE;
 use sv_server::{Event, input_refusal};
 
 /// What happens to a server in a scenario.
-#[derive(Clone, Copy, Debug)]
+#[derive(Clone, Copy)]
 pub enum Stimulus {
     /// The input of a channel changes.
     Input {
@@ -26,7 +26,7 @@ pub enum Stimulus {
 }
 
 /// An entry of a scenario: what happens, and when.
-#[derive(Clone, Copy, Debug)]
+#[derive(Clone, Copy)]
 pub struct Entry {
     /// When the stimulus comes, in ticks of one millisecond each, from 0 to
     /// 999,999,999,999,999,999.

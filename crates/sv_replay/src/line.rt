@@ -11,7 +11,7 @@ use crate::number::{byte, plain, voltage};
 use sv_server::{Event, Port, Role};
 
 /// The meaning of a line of a replay.
-#[derive(Clone, Copy, Debug)]
+#[derive(Clone, Copy)]
 pub enum Line<'a> {
     /// The line is empty: nothing happens.
     Blank,

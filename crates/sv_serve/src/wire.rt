@@ -5,7 +5,7 @@ ghost use Rattle.std.specs.Prelude.{length, option_map};
 use sv_server::{Dial, Port, Role};
 
 /// What a wire's method returns. The method doesn't wait.
-#[derive(Clone, Copy, Debug, PartialEq, Eq)]
+#[derive(Clone, Copy, Debug)]
 pub enum Answer<T> {
     /// The method succeeded, with this result.
     Got(T),
