@@ -7,6 +7,7 @@ import os
 import re
 import time
 
+from ..capturing.growing import snapshot
 from ..program import Server
 from .explanation import Explanation
 from .given import script
@@ -47,13 +48,14 @@ def captured(server: Server, start: float, capture: str) -> tuple[Explanation, l
     """
     time.sleep(FLUSHED)
     warnings: list[str] = []
-    given = argparse.Namespace(
-        file=capture,
-        program=server.program,
-        start=f"{start:.6f}",
-        core=server.core,
-        abort=server.abort,
-        portmap=server.port_mapper,
-        scenario=None if server.scenario == os.devnull else server.scenario,
-    )
-    return Explanation(script(given, warnings.append), server.program), warnings
+    with snapshot(capture) as front:
+        given = argparse.Namespace(
+            file=front,
+            program=server.program,
+            start=f"{start:.6f}",
+            core=server.core,
+            abort=server.abort,
+            portmap=server.port_mapper,
+            scenario=None if server.scenario == os.devnull else server.scenario,
+        )
+        return Explanation(script(given, warnings.append), server.program), warnings
