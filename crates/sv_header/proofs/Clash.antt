@@ -1,4 +1,4 @@
--- No header fits two entries of the table of commands; this is proved by computing all pairs.
+-- No header fits two entries of the table of commands. This is computed for all pairs of entries.
 use Rattle.std.proofs.Common.{◌≡◌, ℕ, zero, suc, ◌<◌, ◌&&◌, ◌||◌, ◌==◌, not, Bool, true, false, List, [], ◌∷◌, length, map, refl, sym, ap, ◌∙◌, subst, inl, inr, slice_index_or, arith, eq-eqb}
 use Rattle.std.specs.List.{list_all}
 use Rattle.std.specs.Char.{to_ascii_lowercase}

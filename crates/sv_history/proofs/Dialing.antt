@@ -1,4 +1,4 @@
--- What create_intr_chan returns after connecting to its peer has succeeded or failed.
+-- What create_intr_chan returns when the server is connected to its peer, or when this has failed.
 use Rattle.std.proofs.Common.{◌≡◌, ℕ, Bool, true, false, [], ◌∷◌, Option, Some, None, refl}
 use Rattle.sv_vxi.specs.declared.error_code.ErrorCode.TheVariants.{NoError, NotEstablished}
 use Rattle.sv_vxi.specs.Arguments.{Arguments, CreateIntrChan}

@@ -1,5 +1,5 @@
--- The function that decides whether a transition of a condition bit passes its filter agrees with
--- the register's definition.
+-- A function decides whether a transition of a condition bit passes the register's filter. It
+-- agrees with the definition.
 use Rattle.std.proofs.Common.{◌≡◌, ℕ, Bool, true, false, List, refl, ◌⊎◌, arith, eq-eqb}
 use Rattle.std.specs.Prelude.{◌↔◌, not, ◌&&◌, ◌||◌}
 use Rattle.std.specs.Int.{bit_at}

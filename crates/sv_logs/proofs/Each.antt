@@ -1,5 +1,5 @@
--- If each act of a log has a property, which may depend on the acts before it, and each act that is
--- added to the log has it too, each act of the longer log has it.
+-- A property of an act may depend on the acts before this act. If all acts of a log have such a
+-- property, and all acts that are added have it, then all acts of the longer log have it.
 use Rattle.std.proofs.Common.{List, [], ◌∷◌, ◌++◌, sym, subst, append_assoc}
 use Rattle.std.specs.Prelude.{⊤}
 

@@ -287,8 +287,8 @@ def lines_like(repository: Repository, pattern: str, wanted: str) -> int:
 
 def crate_page(sources: Sources) -> Iterator[str]:
     yield (
-        "# The crates\n\nA clause is one statement in the contract of an exported function, or in a law (a proved statement, "
-        "mostly about every\nhistory). [ARCHITECTURE](ARCHITECTURE.md#words) explains the words: act, log, history, "
+        "# The crates\n\nA clause is one statement in the contract of an exported function, or in a law (a proved statement). "
+        "A mutant can violate\nseveral clauses. [ARCHITECTURE](ARCHITECTURE.md#words) explains the words: act, log, history, "
         "device, wire and others.\n"
     )
     yield "| Crate | What it is | Uses directly | Clauses of functions | Clauses of laws | Mutants | Rows |"
