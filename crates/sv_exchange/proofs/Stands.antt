@@ -1,4 +1,4 @@
--- After each act, what message exchange has stored agrees with the acts.
+-- After each act, the values that message exchange has stored agree with the acts.
 use Rattle.std.proofs.Common.{◌≡◌, ◌≢◌, ℕ, zero, suc, ◌+◌, ◌≤◌, ◌<◌, ◌==◌, Bool, true, false, not, ◌&&◌, ◌||◌, cond, List, [], ◌∷◌, ◌++◌, length, take, drop, refl, sym, ap, ◌∙◌, nat_lt, append_assoc, IsTrue, arith}
 use Rattle.std.proofs.lemmas.Bool.{lt-ltb, le-ltb, ltb-true}
 use Rattle.std.proofs.lemmas.List.{length-append, take-append-drop, drop-drop, drop_all, length-take-le}

@@ -1,4 +1,4 @@
--- At most one suspended call is the oldest of those with a property.
+-- Of the suspended calls that have a given property, at most one is the oldest.
 use Rattle.std.proofs.Common.{◌≡◌, ℕ, eqb, List, [], ◌∷◌, length, Option, Some, None, refl, sym, ap, ◌∙◌, arith, inl, inr, suc}
 use Rattle.std.proofs.lemmas.Bool.{cases_Bool, eqb-true}
 use Rattle.sv_links.specs.Waiting.{WaitAct, Entered, Again, Left, waits, arrival, enters, IsOldest}

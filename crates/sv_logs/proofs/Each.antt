@@ -1,5 +1,5 @@
--- A property of an act may depend on the acts before this act. If all acts of a log have such a
--- property, and all acts that are added have it, then all acts of the longer log have it.
+-- If all acts of a log have a property, and all acts that are added have it, then all acts of the
+-- longer log have it. The property of an act may depend on the acts before this act.
 use Rattle.std.proofs.Common.{List, [], ◌∷◌, ◌++◌, sym, subst, append_assoc}
 use Rattle.std.specs.Prelude.{⊤}
 
