@@ -1,4 +1,4 @@
--- What create_intr_chan returns when the server is connected to its peer, or when this has failed.
+-- What create_intr_chan returns when the server has connected to its peer, or has failed to.
 use Rattle.std.proofs.Common.{◌≡◌, ℕ, Bool, true, false, [], ◌∷◌, Option, Some, None, refl}
 use Rattle.sv_vxi.specs.declared.error_code.ErrorCode.TheVariants.{NoError, NotEstablished}
 use Rattle.sv_vxi.specs.Arguments.{Arguments, CreateIntrChan}

@@ -1,5 +1,5 @@
--- An act of a connection or of an interrupt channel makes no step due. No step is due after the
--- last one, or in the empty log.
+-- No step becomes due through an act of a connection or of an interrupt channel. No step is due
+-- after the last one, or in the empty log.
 use Rattle.std.proofs.Common.{◌≡◌, ℕ, ◌+◌, List, ◌∷◌, ◌++◌, Some, refl, sym, subst, inl, inr, zero, suc, [], None}
 use Rattle.std.specs.Prelude.{map}
 use Rattle.sv_links.specs.Waiting.{waits, IsOldest, IsExpired}

@@ -1,5 +1,5 @@
--- Reading a record as a call returns what the definition gives for its bytes: the same call, or the
--- same fault.
+-- If a record is read as a call, the result is what the definition gives for the record's bytes:
+-- the same call, or the same fault.
 use Rattle.std.proofs.Common.{◌≡◌, ◌≢◌, ℕ, ◌≤◌, cond, eqb, List, length, drop, Result, Ok, Err, refl, sym, subst, ◌∙◌, inl, inr}
 use Rattle.std.proofs.lemmas.Bool.{cases_Bool, cond-true, cond-false, eqb-true, eqb-false, ne_eqb}
 use Rattle.sv_xdr.specs.declared.fault.XdrFault.{XdrFault}
