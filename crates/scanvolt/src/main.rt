@@ -8,7 +8,7 @@ use std::env;
 use std::io::{self, BufWriter, Error, ErrorKind, Printer};
 use std::process::ExitCode;
 use sv_net::{ProgramFault, Words, read_words};
-use sv_replay::{Ports, RunFault, run_explain, run_replay};
+use sv_replay::{Mode, Ports, RunFault, run_script};
 
 /// Runs the program. The command `replay` replays a script from the standard input; the command
 /// `explain` does so too, and says what each step changes; the command `serve` serves clients over
@@ -27,8 +27,8 @@ fn main(rt: HostRuntime) -> ExitCode {
 fn program(rt: &HostRuntime) -> Result<(), ProgramFault> {
     let words = own_words(rt)?;
     match read_words(rt.alloc(), words.get(1..).unwrap_or(&[]))? {
-        Words::Replay(ports) => Ok(replay(rt, ports)?),
-        Words::Explain(ports) => Ok(explain(rt, ports)?),
+        Words::Replay(ports) => Ok(script(rt, ports, Mode::Plain)?),
+        Words::Explain(ports) => Ok(script(rt, ports, Mode::Explained)?),
         Words::Server(serve) => serving::serve(rt, &serve),
     }
 }
@@ -48,19 +48,13 @@ fn words_fault(error: &Error) -> ProgramFault {
     }
 }
 
+/// Runs the script of the standard input. Prints to the standard output.
+fn script(rt: &HostRuntime, ports: Ports, mode: Mode) -> Result<(), RunFault> {
+    let mut writer = printer(rt)?;
+    run_script(rt.alloc(), ports, mode, &mut rt.reader(), &mut writer)
+}
+
 /// Returns a buffer for what is printed to the standard output.
 fn printer(rt: &HostRuntime) -> Result<BufWriter<Printer<'_, HostRuntime>, Global>, RunFault> {
     BufWriter::new(rt.alloc(), io::writer(rt)).map_err(|_| RunFault::Memory)
-}
-
-/// Replays the script of the standard input. Prints to the standard output.
-fn replay(rt: &HostRuntime, ports: Ports) -> Result<(), RunFault> {
-    let mut writer = printer(rt)?;
-    run_replay(rt.alloc(), ports, &mut rt.reader(), &mut writer)
-}
-
-/// Explains the script of the standard input. Prints to the standard output.
-fn explain(rt: &HostRuntime, ports: Ports) -> Result<(), RunFault> {
-    let mut writer = printer(rt)?;
-    run_explain(rt.alloc(), ports, &mut rt.reader(), &mut writer)
 }

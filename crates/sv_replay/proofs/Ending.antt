@@ -15,8 +15,8 @@ use Rattle.sv_replay.specs.declared.mode.Mode.{Mode}
 use Rattle.sv_replay.specs.declared.mode.Mode.TheVariants.{Plain, Explained}
 use Rattle.sv_replay.specs.declared.fault.RunFault.{RunFault}
 use Rattle.sv_replay.specs.declared.fault.RunFault.TheVariants.{BadLine, Input, Output, Memory}
-use Rattle.sv_replay.specs.Run.{Runs, RunsExplained}
-use Rattle.sv_replay.specs.Stage.{StepsRun, RunsIn, ScriptRuns}
+use Rattle.sv_replay.specs.Run.{Runs, RunsExplained, RunsIn}
+use Rattle.sv_replay.specs.Stage.{StepsRun, ScriptRuns}
 use Rattle.sv_replay.proofs.Staged.{output_fault_replaces}
 use Rattle.std.proofs.KnownBytes.{Consumes-nil}
 

@@ -13,7 +13,7 @@ use Rattle.sv_server.specs.Explain.Telling.{clock_at}
 use Rattle.sv_replay.specs.declared.fault.RunFault.{RunFault}
 use Rattle.sv_replay.specs.declared.fault.RunFault.TheVariants.{BadLine, Input, Output, Memory}
 use Rattle.sv_replay.specs.declared.mode.Mode.{Mode}
-use Rattle.sv_replay.specs.declared.mode.Mode.TheVariants.{Explained}
+use Rattle.sv_replay.specs.declared.mode.Mode.TheVariants.{Plain, Explained}
 use Rattle.sv_replay.specs.declared.ports.Ports.{Ports}
 use Rattle.sv_replay.specs.Script.{ScriptEvent, parts, IsScript, IsBad, Prints, Stops}
 
@@ -74,3 +74,8 @@ RunsExplained config read rest (Ok all) text = (front last : List ℕ) × Printe
 RunsExplained config read rest (Err Output) text = Runs config Explained read rest (Err Output) text
     ⊎ ((front last part : List ℕ) × PrintedToEnd config (parts read) front last × IsFront part last × IsAtEnd rest × (text ≡ front ++ part))
 RunsExplained config read rest (Err fault) text = Runs config Explained read rest (Err fault) text
+
+-- what a run prints for the text that it read, in each mode
+abbrev pub RunsIn : Config → Mode → List ℕ → Option (List ℕ) → Result ⊤ RunFault → List ℕ → Type 0
+RunsIn config Plain read rest result text = Runs config Plain read rest result text
+RunsIn config Explained read rest result text = RunsExplained config read rest result text

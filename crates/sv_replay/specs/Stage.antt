@@ -7,13 +7,12 @@ use Rattle.sv_history.specs.declared.event.Config.{Config}
 use Rattle.sv_history.specs.Event.{PlainEvent}
 use Rattle.sv_server.specs.Server.State.{State, StandsFor}
 use Rattle.sv_replay.specs.declared.mode.Mode.{Mode}
-use Rattle.sv_replay.specs.declared.mode.Mode.TheVariants.{Plain, Explained}
 use Rattle.sv_replay.specs.declared.run_state.Run.{Run}
 use Rattle.sv_replay.specs.declared.fault.RunFault.{RunFault}
 use Rattle.sv_replay.specs.declared.fault.RunFault.TheVariants.{BadLine, Input, Output, Memory}
 use Rattle.sv_replay.specs.Line.{Line, Says}
 use Rattle.sv_replay.specs.Script.{ScriptEvent, parts, events_of, IsScript, IsBad, Prints, Stops}
-use Rattle.sv_replay.specs.Run.{Runs, RunsExplained}
+use Rattle.sv_replay.specs.Run.{Runs, RunsIn}
 
 -- The first `number` lines of the text that was read are executed, and all that they print was
 -- written. `left` is the text after these lines.
@@ -93,11 +92,6 @@ abbrev pub StepsRun : Config → Mode → State → Option (List ℕ) → Option
     → Type 0
 StepsRun config mode server reader after first last result =
     (read text : List ℕ) × Consumes reader after read × Appends first last text × Ends config mode server read after result text
-
--- what a run prints for the text that it read, in each mode
-abbrev pub RunsIn : Config → Mode → List ℕ → Option (List ℕ) → Result ⊤ RunFault → List ℕ → Type 0
-RunsIn config Plain read rest result text = Runs config Plain read rest result text
-RunsIn config Explained read rest result text = RunsExplained config read rest result text
 
 -- A run from the first line of a script to its end, or to a fault, reads the bytes between `reader`
 -- and `after`, and prints those between `first` and `last`.

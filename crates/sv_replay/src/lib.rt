@@ -24,5 +24,5 @@ pub use input::{InputFault, Source};
 pub use line::{Line, read_line};
 pub use mode::Mode;
 pub use ports::Ports;
-pub use run::{run_explain, run_replay};
+pub use run::run_script;
 pub use scenario::{ScenarioFault, read_scenario};

@@ -12,7 +12,7 @@ ghost use Rattle.sv_explain.specs.Steps.{end_line};
 ghost use Rattle.sv_server.specs.Explain.Telling.{clock_at};
 ghost use Rattle.sv_server.specs.Server.State.{StandsFor};
 ghost use Rattle.sv_replay.specs.Text.{first_end, nothing_held};
-ghost use Rattle.sv_replay.specs.Run.{config_of, Runs, RunsExplained};
+ghost use Rattle.sv_replay.specs.Run.{config_of, RunsIn};
 ghost use Rattle.sv_replay.specs.Reads.{Turns, IsReadOut, OnInput};
 ghost use Rattle.sv_replay.specs.Stage.{LineRuns, WhileGoing, Progress, Moves, StepsRun, ScriptRuns};
 
@@ -28,18 +28,20 @@ use std::alloc::Allocator;
 use std::io::{BufWriter, Write};
 use sv_server::Server;
 
-/// Replays a script on a new server with these ports: reads the script line by line, and prints to
-/// the writer. The writer is flushed before each read. So a peer that waits for an answer before it
-/// sends more gets the answer. The writer is also flushed at the end, whatever stopped the run.
+/// Runs a script on a new server with these ports: reads the script line by line, and prints to the
+/// writer what `mode` says. In the mode `Explained`, the last line tells the clock, unless a fault
+/// stops the run. The writer is flushed before each read. So a peer that waits for an answer before
+/// it sends more gets the answer. The writer is also flushed at the end, whatever stopped the run.
 ///
 /// # Errors
 /// The first fault that happens is returned. `Memory`: memory was refused at the start or for an
 /// event. `Input`: the reader failed, or was read 4,294,967,294 times. `BadLine`: a line isn't a
 /// line of a replay, or has more than 65,536 bytes. `Output`: the writer failed. But if the final
 /// flush fails, `Output` is returned in place of an earlier fault.
-pub fn run_replay<A: Allocator + Copy, R: Source, W: Write + Drop, B: Allocator>(
+pub fn run_script<A: Allocator + Copy, R: Source, W: Write + Drop, B: Allocator>(
     alloc: A,
     ports: Ports,
+    mode: Mode,
     reader: &mut R,
     writer: &mut BufWriter<W, B>,
 ) -> Result<(), RunFault>
@@ -47,7 +49,7 @@ pub fn run_replay<A: Allocator + Copy, R: Source, W: Write + Drop, B: Allocator>
         × Consumes (R.remaining reader.old) (R.remaining reader.new) read
         × Appends (writer_contents W.contents writer.old)
         (writer_contents W.contents writer.new) text
-        × Runs (config_of ports) Mode.Plain read (R.remaining reader.new) result text }
+        × RunsIn (config_of ports) mode read (R.remaining reader.new) result text }
     ensures end { OnOk result (IsAtEnd (R.remaining reader.new)) }
     // The reader is read at most 4,294,967,294 times. The fault `Input` means that the last read
     // failed, or that the reader was read that many times.
@@ -55,36 +57,8 @@ pub fn run_replay<A: Allocator + Copy, R: Source, W: Write + Drop, B: Allocator>
     // Unless the output failed, no printed byte remains in the writer's buffer.
     ensures flushed { result ≢ Err RunFault.Output → writer_buffer writer.new ≡ [] }
 {
-    let answer = run_lines(alloc, ports, Mode::Plain, reader, writer);
+    let answer = run_lines(alloc, ports, mode, reader, writer);
     pass_on(writer, answer)
-}
-
-/// Replays a script as [`run_replay`] does, and prints before the lines of each event which steps
-/// the server takes, and what each of them changes. If no fault stops the run, the last line tells
-/// the clock.
-///
-/// # Errors
-/// As for [`run_replay`].
-pub fn run_explain<A: Allocator + Copy, R: Source, W: Write + Drop, B: Allocator>(
-    alloc: A,
-    ports: Ports,
-    reader: &mut R,
-    writer: &mut BufWriter<W, B>,
-) -> Result<(), RunFault>
-    ensures runs { (read text : List ℕ)
-        × Consumes (R.remaining reader.old) (R.remaining reader.new) read
-        × Appends (writer_contents W.contents writer.old)
-        (writer_contents W.contents writer.new) text
-        × RunsExplained (config_of ports) read (R.remaining reader.new) result text }
-    ensures end { OnOk result (IsAtEnd (R.remaining reader.new)) }
-    // The reader is read at most 4,294,967,294 times. The fault `Input` means that the last read
-    // failed, or that the reader was read that many times.
-    ensures reads { IsReadOut R.gives reader.old reader.new result }
-    // Unless the output failed, no printed byte remains in the writer's buffer.
-    ensures flushed { result ≢ Err RunFault.Output → writer_buffer writer.new ≡ [] }
-{
-    let told = run_lines(alloc, ports, Mode::Explained, reader, writer);
-    pass_on(writer, told)
 }
 
 /// Flushes the writer. Returns `answer`, or `Output` if the flush fails.

@@ -7,7 +7,7 @@ use failing_alloc::FailingAllocator;
 use std::alloc::Global;
 use std::cell::RefCell;
 use std::io::{self, BufWriter, Read, Write};
-use sv_replay::run_replay;
+use sv_replay::{Mode, run_script};
 
 /// Appends bytes to `noted`, the record of what the input gave and the output took.
 fn note(noted: &RefCell<Vec<u8>>, bytes: &[u8]) -> io::Result<()> {
@@ -75,7 +75,7 @@ pub(crate) fn play<W: Write + Drop>(
         noted: &noted,
     };
     let mut answers = BufWriter::new(alloc, Answers { noted: &noted })?;
-    if run_replay(&heap, PORTS, &mut lines, &mut answers).is_err() {
+    if run_script(&heap, PORTS, Mode::Plain, &mut lines, &mut answers).is_err() {
         return Err(bad());
     }
     match noted.try_borrow() {

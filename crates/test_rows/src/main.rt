@@ -68,7 +68,7 @@ use driver::{failing, pacing, sweeps};
 use sockets::row;
 use std::alloc::Global;
 use std::io::{self, BufWriter, Error, ErrorKind, Write};
-use sv_replay::{Ports, run_replay};
+use sv_replay::{Mode, Ports, run_script};
 use sv_server::Config;
 
 /// The ports of a server, unless its row names others.
@@ -111,7 +111,7 @@ fn show<W: Write + Drop>(rt: HostRuntime, row: &str, writer: &mut BufWriter<W>) 
 
 /// Replays a script. Prints the output of the replay, and its fault if the replay fails.
 fn replay<W: Write + Drop>(alloc: Global, text: &str, writer: &mut BufWriter<W>) -> io::Result<()> {
-    match run_replay(alloc, PORTS, &mut text.as_bytes(), writer) {
+    match run_script(alloc, PORTS, Mode::Plain, &mut text.as_bytes(), writer) {
         Ok(()) => Ok(()),
         Err(fault) => writeln!(writer, "{fault}"),
     }
@@ -145,10 +145,10 @@ fn play_with<W: Write + Drop>(
     writer: &mut BufWriter<W>,
 ) -> io::Result<()> {
     if let Some(ending) = kind.strip_prefix("without ") {
-        return replays::play_without(alloc, false, ending, text, writer);
+        return replays::play_without(alloc, Mode::Plain, ending, text, writer);
     }
     if let Some(ending) = kind.strip_prefix("explain without ") {
-        return replays::play_without(alloc, true, ending, text, writer);
+        return replays::play_without(alloc, Mode::Explained, ending, text, writer);
     }
     match kind.strip_prefix("peers ") {
         Some(count) => failing::play(alloc, count, text, writer),

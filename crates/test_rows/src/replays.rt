@@ -7,7 +7,7 @@ use crate::words::{bad, cut, number, value_of};
 use failing_alloc::FailingAllocator;
 use std::alloc::Global;
 use std::io::{self, BufWriter, Write};
-use sv_replay::{Ports, RunFault, run_explain, run_replay};
+use sv_replay::{Mode, Ports, RunFault, run_script};
 
 /// In a `! reads` row, one run of the replay reads from its input fewer times than this.
 const MOST_READS: u64 = 1_000;
@@ -47,7 +47,7 @@ fn manner_of(words: &str) -> io::Result<Manner> {
             ..ample
         }),
         "explain" => Ok(Manner {
-            explains: true,
+            mode: Mode::Explained,
             ..ample
         }),
         "memory" => Ok(ample),
@@ -113,11 +113,7 @@ fn read_out(
         was_interrupted: false,
     };
     let mut writer = BufWriter::new(alloc, sink)?;
-    let answer = if manner.explains {
-        run_explain(heap, manner.ports, &mut source, &mut writer)
-    } else {
-        run_replay(heap, manner.ports, &mut source, &mut writer)
-    };
+    let answer = run_script(heap, manner.ports, manner.mode, &mut source, &mut writer);
     let narrow = manner.room < usize::MAX;
     let told = told(alloc, writer.get_ref().taken.as_slice(), narrow, answer)?;
     Ok((told, source.reads))
@@ -149,14 +145,14 @@ pub(crate) fn play<W: Write + Drop>(
 /// `ending`.
 pub(crate) fn play_without<W: Write + Drop>(
     alloc: Global,
-    explains: bool,
+    mode: Mode,
     ending: &str,
     script: &str,
     writer: &mut BufWriter<W>,
 ) -> io::Result<()> {
     let heap = FailingAllocator::new(alloc);
     let manner = Manner {
-        explains,
+        mode,
         ..Manner::ample()
     };
     let outcome = outcome(alloc, &heap, manner, script)?;

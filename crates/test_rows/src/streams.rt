@@ -2,7 +2,7 @@
 
 use crate::PORTS;
 use std::io::{Error, ErrorKind, Read, Result, Write};
-use sv_replay::Ports;
+use sv_replay::{Mode, Ports};
 
 /// How a reader gives bytes, how a writer takes bytes, and what is done with the script.
 #[derive(Clone, Copy)]
@@ -18,8 +18,8 @@ pub(crate) struct Manner {
     pub(crate) room: usize,
     /// Whether a full writer reports no fault and takes no bytes. If false, a full writer fails.
     pub(crate) is_silent: bool,
-    /// Whether the script is explained. If false, it is replayed.
-    pub(crate) explains: bool,
+    /// What is printed of the script.
+    pub(crate) mode: Mode,
     /// The ports of the server.
     pub(crate) ports: Ports,
 }
@@ -34,7 +34,7 @@ impl Manner {
             fails_at: 0,
             room: usize::MAX,
             is_silent: false,
-            explains: false,
+            mode: Mode::Plain,
             ports: PORTS,
         }
     }

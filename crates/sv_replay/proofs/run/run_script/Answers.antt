@@ -1,12 +1,11 @@
-use Rattle.sv_replay.specs.declared.mode.Mode.TheVariants.{Plain}
 use Rattle.sv_replay.specs.Run.{config_of}
 use Rattle.sv_replay.proofs.Heard.{read_out_after_flush}
 use Rattle.sv_replay.proofs.Ending.{run_after_flush, at_end_after_flush}
-use Rattle.sv_replay.proofs.run.run_replay.Goals as goal
+use Rattle.sv_replay.proofs.run.run_script.Goals as goal
 
 pub returns-clause-runs : goal.returns-clause-runs
 returns-clause-runs g c =
-    run_after_flush (config_of c.args.ports) Plain _ _ _ _ _ c.run_lines-answer.result c.pass_on.result c.run_lines-answer.ensures.end
+    run_after_flush (config_of c.args.ports) c.args.mode _ _ _ _ _ c.run_lines-answer.result c.pass_on.result c.run_lines-answer.ensures.end
     c.pass_on.ensures.answer
     c.pass_on.ensures.kept c.run_lines-answer.ensures.runs
 
