@@ -43,17 +43,17 @@ memory_refused_at_start config mode reader first (Err e) failed is = (
 )
 
 -- If a step stops with a fault, the run stops with this fault.
-pub fault_ends_run : (config : Config) (mode own : Mode) (server : State) (reader after first last : Option (List ℕ)) (fault : RunFault)
-    (result : Result ⊤ RunFault) → own ≡ mode → IsErr result → IsErrAnd result (λ e. e ≡ fault)
-    → StepsRun config own server reader after first last (Err fault) → ScriptRuns config mode reader after first last result
-fault_ends_run config mode own server reader after first last fault (Ok all) same failed is steps = absurd cc
-fault_ends_run config mode own server reader after first last fault (Err e) same failed is (read, text, took, put, runs) = (
+pub fault_ends_run : (config : Config) (mode : Mode) (server : State) (reader after first last : Option (List ℕ)) (fault : RunFault)
+    (result : Result ⊤ RunFault) → IsErr result → IsErrAnd result (λ e. e ≡ fault)
+    → StepsRun config mode server reader after first last (Err fault) → ScriptRuns config mode reader after first last result
+fault_ends_run config mode server reader after first last fault (Ok all) failed is steps = absurd cc
+fault_ends_run config mode server reader after first last fault (Err e) failed is (read, text, took, put, runs) = (
   read,
   text,
   took,
   put,
   subst (λ (f : RunFault). RunsIn config mode read after (Err f) text) (sym is)
-      (fault_in_both_modes config mode read text after fault (subst (λ (m : Mode). Runs config m read after (Err fault) text) same runs)),
+      (fault_in_both_modes config mode read text after fault runs),
 )
 
 -- A plain replay prints nothing after its last line.

@@ -91,11 +91,7 @@ fn run_lines<A: Allocator + Copy, R: Source, W: Write>(
     ensures reads { IsReadOut R.gives reader.old reader.new result }
 {
     let mut run = start(alloc, ports, mode)?;
-    run.to_end(reader, writer)?;
-    match mode {
-        Mode::Plain => Ok(()),
-        Mode::Explained => put_end(&run.server, writer),
-    }
+    run.play(reader, writer)
 }
 
 /// Writes the last line of an explained script.
@@ -154,6 +150,24 @@ fn do_line<A: Allocator, W: Write>(
 }
 
 impl<A: Allocator> Run<A> {
+    /// Runs a script to its end, but doesn't flush the writer after the last line.
+    fn play<R: Source, W: Write>(&mut self, reader: &mut R, writer: &mut W) -> Result<(), RunFault>
+        requires { (config : Config) × StandsFor self.old.server config []
+            × (self.old.text ≡ nothing_held) × (self.old.lines ≡ 0) }
+        ensures runs { (config : Config) → StandsFor self.old.server config []
+            → ScriptRuns config self.old.mode (R.remaining reader.old) (R.remaining reader.new)
+            (W.contents writer.old) (W.contents writer.new) result }
+        ensures end { OnOk result (IsAtEnd (R.remaining reader.new)) }
+        ensures reads { IsReadOut R.gives reader.old reader.new result }
+    {
+        let mode = self.mode;
+        self.to_end(reader, writer)?;
+        match mode {
+            Mode::Plain => Ok(()),
+            Mode::Explained => put_end(&self.server, writer),
+        }
+    }
+
     /// Executes the lines of a script up to its end, but doesn't flush the writer after the last
     /// lines.
     fn to_end<R: Source, W: Write>(
