@@ -1,6 +1,7 @@
 mod Placed
 mod Pausing
 mod Running
+mod Added
 mod Among
 mod Asked
 mod OptionsRead

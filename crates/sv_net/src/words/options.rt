@@ -39,23 +39,24 @@ fn optional<'a>(alloc: Global, name: &'a str) -> Arg<'a>
 pub(crate) fn replay_command<'a>(alloc: Global) -> Result<Command<'a>, AllocError>
     ensures { IfOk result (λ command. app_of command ≡ replay_command) }
 {
-    Command::new(alloc, "replay")
-        .arg(optional(alloc, "core"))?
-        .arg(optional(alloc, "abort"))
+    let args = vec![in alloc; optional(alloc, "core"), optional(alloc, "abort")]?;
+    Command::new(alloc, "replay").args(args)
 }
 
 /// Makes clap's command `serve`, with its seven options.
 pub(crate) fn serve_command<'a>(alloc: Global) -> Result<Command<'a>, AllocError>
     ensures { IfOk result (λ command. app_of command ≡ serve_command) }
 {
-    Command::new(alloc, "serve")
-        .arg(option(alloc, "core"))?
-        .arg(option(alloc, "abort"))?
-        .arg(option(alloc, "portmap"))?
-        .arg(option(alloc, "scenario"))?
-        .arg(option(alloc, "sweeps"))?
-        .arg(optional(alloc, "record"))?
-        .arg(optional(alloc, "control"))
+    let args = vec![in alloc;
+        option(alloc, "core"),
+        option(alloc, "abort"),
+        option(alloc, "portmap"),
+        option(alloc, "scenario"),
+        option(alloc, "sweeps"),
+        optional(alloc, "record"),
+        optional(alloc, "control"),
+    ]?;
+    Command::new(alloc, "serve").args(args)
 }
 
 /// Whether a word begins with a plus. A number on the command line must not begin with a plus.
