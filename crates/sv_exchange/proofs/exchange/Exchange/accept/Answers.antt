@@ -52,3 +52,6 @@ returns-then-self-clause-bounded g c = grind (arith, common_steps)
 
 pub returns-else-self-clause-bounded : goal.returns-else-self-clause-bounded
 returns-else-self-clause-bounded g c = grind (arith, common_steps)
+
+pub invariant_of-self-else-self : goal.invariant_of-self-else-self
+invariant_of-self-else-self g c = grind (arith, common_steps)

@@ -1,4 +1,4 @@
-use Rattle.std.proofs.Common.{◌≡◌, false, Some, None, refl}
+use Rattle.std.proofs.Common.{◌≡◌, false, Some, None, refl, rules}
 use Rattle.std.specs.Prelude.{Option, Err, is_none}
 use Rattle.sv_errors.specs.declared.code.Code.{Code}
 use Rattle.sv_scan.specs.Answered.{refused_by}
@@ -13,3 +13,6 @@ pub returns-in-Err : goal.returns-in-Err
 returns-in-Err g c = λ log s.
     let held = rw (← c.self.view_is) at s in
     has_fault _ c.in-Err._ignored (c.in-Err.ensures.answer (scan_acts log) (c.scanner.ensures.stands log held.layers.stands))
+
+pub returns-in-Ok : goal.returns-in-Ok
+returns-in-Ok g c = search rules

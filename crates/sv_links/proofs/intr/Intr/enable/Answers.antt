@@ -67,3 +67,6 @@ returns-clause-stands g c short room acts is =
     let now = are_channels_enabled (record old { channels = c.self.inside.channels.items }) c.insert.new.self.items link acts place before
     in
     rw (← c.new.ensures.link.0, ← c.new.ensures.link.1, ← c.new.ensures.handle short) now
+
+pub returns-clause-ready : goal.returns-clause-ready
+returns-clause-ready g c = search rules

@@ -49,3 +49,9 @@ returns-clause-limit g c acts is =
     held.upper (c.last_reading-last.ensures acts is) (c.is_below.ensures ∙ ap (is_below _) lower_fits)
     (c.is_above.ensures ∙ ap (is_above _) upper_fits)
     (outside_by_comparisons (effective acts) _ _ _ live_is (lower_fits ∙ held.lower) (upper_fits ∙ held.upper))
+
+pub returns-clause-operation : goal.returns-clause-operation
+returns-clause-operation = search rules
+
+pub returns-clause-questionable : goal.returns-clause-questionable
+returns-clause-questionable = search rules
