@@ -1,5 +1,5 @@
 -- Each step that the instrument takes is the one that is due, and less work remains after it.
-use Rattle.std.proofs.Common.{◌≡◌, ℕ, ◌+◌, ◌*◌, ◌<◌, ◌≤◌, true, false, List, [], ◌∷◌, length, drop, ap, sym, subst, ◌∙◌, arith}
+use Rattle.std.proofs.Common.{◌≡◌, ℕ, ◌≤◌, false, List, [], ◌∷◌, length, drop, ap, sym, subst, ◌∙◌, arith}
 use Rattle.std.specs.Prelude.{Option, Some, None}
 use Rattle.sv_exchange.specs.Exchange.{Due, NothingDue, OverrunDue, InterruptDue, UnitDue, FinishDue, due, next_unit, is_something}
 use Rattle.sv_exchange.specs.Contents.{Contents, IsUnitDue, next_of, shown_by}
@@ -11,7 +11,7 @@ use Rattle.sv_layers.specs.Inside.Representation.{LayerState}
 use Rattle.sv_instrument.specs.HeldUnit.{held_unit}
 use Rattle.sv_instrument.specs.Path.{IsPath}
 use Rattle.sv_instrument.specs.Step.{StepOf, IsStep, Starts, is_held}
-use Rattle.sv_instrument.specs.Looking.{IsDue, IsNoneDue}
+use Rattle.sv_instrument.specs.Looking.{IsNoneDue}
 use Rattle.sv_instrument.specs.declared.looking.Step.TheVariants as step
 use Rattle.sv_instrument.specs.Representation.{Kept, IsHeldRight}
 use Rattle.sv_instrument.specs.Inside.Acted.{Behaves, Follows, StartsUnit}

@@ -1,5 +1,5 @@
 -- Arguments that are added to a command in turn are its rules, in their order.
-use Rattle.std.proofs.Common.{◌≡◌, ◌∙◌, ap, ap₂, sym, refl, List, [], ◌∷◌, false}
+use Rattle.std.proofs.Common.{◌≡◌, ◌∙◌, ap, ap₂, sym, List, [], ◌∷◌, false}
 use Rattle.std.specs.Prelude.{⊤}
 use Rattle.clap.specs.Words.{App, Rule, with_rule, app_of, AddsArg, AddsInTurn}
 use Rattle.clap.specs.Walk.{rule_of}
