@@ -6,7 +6,8 @@ use Rattle.clap.specs.Walk.{rule_of}
 use Rattle.clap.specs.declared.builder.arg.Arg.{Arg}
 use Rattle.clap.specs.declared.builder.command.Command.{Command}
 
--- These are the rules of the arguments, and no argument is one of all subcommands.
+-- These are the rules of the arguments. No argument is global, as clap calls one that each
+-- subcommand has too.
 abbrev pub HaveRules : List Arg → List Rule → Type 0
 HaveRules [] [] = ⊤
 HaveRules (arg ∷ args) (rule ∷ rules) = (arg.global ≡ false) × (rule_of arg ≡ rule) × HaveRules args rules
