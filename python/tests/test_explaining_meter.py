@@ -89,7 +89,7 @@ class AtOnce(WithMeter):
         self.asked(
             self.link,
             r"(?s)device_read \(c0 link 1\) can't be answered.*EXTernal trigger \(scan 1 of 3\)"
-            r".*3 EXTernal triggers, at 24 ms: \"1",
+            r".*3 EXTernal triggers, it ends at 24 ms: \"1",
         )
 
     def test_behind_another(self) -> None:

@@ -268,8 +268,8 @@ class Shown(WithPanel):
         whole, part = (
             json.loads(self.ask("GET", "/session" + more)[1])["end"] for more in ("?all=1", "")
         )
-        self.assertIn("EXTernal trigger, at", whole)
-        self.assertNotIn("EXTernal trigger, at", part)
+        self.assertIn("EXTernal trigger, it ends at", whole)
+        self.assertNotIn("EXTernal trigger, it ends at", part)
 
     def test_a_followed_session_has_the_last_calls(self) -> None:
         link = self.link()

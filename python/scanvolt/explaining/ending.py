@@ -84,7 +84,7 @@ class Ending:
         """What ended the wait when it was tried: when, and with which reply."""
         assert self._tried is not None
         rows = [
-            (one.what, f"at {millis(one.clock)}: {one.words}")
+            (one.what, f"it ends at {millis(one.clock)}: {one.words}")
             for one in self._tried.of(call)
             if one.is_end
         ]

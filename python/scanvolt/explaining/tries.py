@@ -39,7 +39,7 @@ class Outcome:
         return self.words is not None
 
     def __str__(self) -> str:
-        return f"{self.what}, at {millis(self.clock)}: {self.words}"
+        return f"{self.what}, it ends at {millis(self.clock)}: {self.words}"
 
 
 @dataclass(frozen=True)
