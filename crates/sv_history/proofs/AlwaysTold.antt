@@ -1,5 +1,5 @@
--- For each list of acts there is a byte that a serial poll returns, and a log of the interrupt
--- channels.
+-- Whatever the acts were, the definitions give a byte for a serial poll. They also give a log of the
+-- interrupt channels.
 use Rattle.std.proofs.Common.{◌≡◌, ℕ, Bool, true, false, eqb, List, [], ◌∷◌, refl, ◌⊎◌, inl, inr, bit_and, bit_or, arith}
 use Rattle.std.specs.Prelude.{◌↔◌, ◌&&◌, ◌||◌, not, bit_xor}
 use Rattle.std.specs.Int.{bit_at}

@@ -1,4 +1,5 @@
--- A connection without acts is idle, hasn't failed, and has no channel to connect.
+-- A connection without acts is idle and hasn't failed, and no interrupt channel has to be connected
+-- for it.
 use Rattle.std.proofs.Common.{◌≡◌, ℕ, false, List, [], None, refl, sym, subst, rules}
 use Rattle.std.specs.Prelude.{not}
 use Rattle.sv_rpc.specs.Stream.{read}

@@ -1,5 +1,5 @@
--- If the server's methods say that an event other than Turn, Refuse and Tick is possible now
--- (`Suits`), it isn't refused.
+-- An event other than Turn, Refuse and Tick isn't refused, if the server's methods say that it is
+-- possible now (`Suits`).
 use Rattle.std.proofs.Common.{◌≡◌, ℕ, ◌<◌, Bool, true, false, cond, eqb, List, [], ◌∷◌, ◌++◌, length, filter, Option, Some, None, refl, sym, ap, subst, ◌∙◌, inl, inr, arith, le-ltb, append-nil}
 use Rattle.std.specs.Prelude.{map, not, is_some, ◌||◌, Result, Ok, Err}
 use Rattle.std.proofs.lemmas.Bool.{cases_Bool}

@@ -1,4 +1,4 @@
--- For each log there is exactly one list of the log's acts that change the status byte.
+-- For each log, the definitions give one list of changes of the status byte, and no second one.
 use Rattle.std.proofs.Common.{◌≡◌, ℕ, Bool, true, eqb, List, [], ◌∷◌, refl, bit_and}
 use Rattle.std.specs.Prelude.{◌↔◌, not}
 use Rattle.sv_status.specs.declared.register.RegisterAct.{RegisterAct}

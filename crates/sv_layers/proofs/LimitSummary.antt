@@ -1,5 +1,5 @@
--- The summary bit of the limit register, in the condition of the QUEStionable register, is what the
--- general definition of a summary gives.
+-- One bit of the QUEStionable register's condition is the summary bit of the limit register. It is
+-- what the general definition of a summary gives.
 use Rattle.std.proofs.Common.{◌≡◌, ℕ, ◌<◌, ◌^◌, Bool, true, false, List, [], ◌∷◌, refl, ap, ◌∙◌, sym, arith, inl, inr, get_or}
 use Rattle.std.specs.Prelude.{◌↔◌, ◌&&◌, ◌||◌, Some, None, unwrap_or, if◌then◌else◌}
 use Rattle.std.specs.Int.{bit_at}

@@ -1,5 +1,5 @@
--- The log of message exchange, of the error queue or of the scanner holds exactly those acts of the
--- instrument's log that are acts of this layer.
+-- The own log of each of three layers (message exchange, error queue, scanner) holds exactly those
+-- acts of the instrument's log that are acts of this layer.
 use Rattle.std.proofs.Common.{◌≡◌, List, [], ◌∷◌, refl, ap}
 use Rattle.sv_errors.specs.declared.error_queue.QueueAct.{QueueAct}
 use Rattle.sv_errors.specs.declared.error_queue.QueueAct.TheVariants as queue

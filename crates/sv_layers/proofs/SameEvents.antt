@@ -1,5 +1,4 @@
--- Which bits of a status register's event register are set: the status register's own log and the
--- instrument's log agree on it.
+-- A register's own log and the instrument's log give the same bits of its event register.
 use Rattle.std.proofs.Common.{◌≡◌, ℕ, Bool, true, false, List, [], ◌∷◌, refl, ◌⊎◌}
 use Rattle.std.specs.Prelude.{◌↔◌, not, if◌then◌else◌}
 use Rattle.sv_logs.proofs.Since.{since_unique, step_kept, step_ended, iff_transitive}

@@ -1,5 +1,4 @@
--- A function decides whether a transition of a condition bit passes the register's filter. It
--- agrees with the definition.
+-- Whether a transition of a condition bit passes the register's filter can be computed.
 use Rattle.std.proofs.Common.{◌≡◌, ℕ, Bool, true, false, List, refl, ◌⊎◌, arith, eq-eqb}
 use Rattle.std.specs.Prelude.{◌↔◌, not, ◌&&◌, ◌||◌}
 use Rattle.std.specs.Int.{bit_at}

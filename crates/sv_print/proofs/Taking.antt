@@ -1,4 +1,4 @@
--- How much a writer has accepted of texts that are written one after the other.
+-- How many bytes a writer has accepted, after several texts were written to it.
 use Rattle.std.proofs.Common.{◌≡◌, ℕ, ◌+◌, ◌-◌, ◌<◌, ◌≤◌, ◌/◌, ◌%◌, Bool, true, false, List, [], ◌∷◌, ◌++◌, length, take, drop, map, Option, refl, sym, ap, ◌∙◌, append_assoc, append-nil, slice_index, slice_index_or, subst, arith}
 use Rattle.std.specs.List.{concat}
 use Rattle.std.proofs.lemmas.List.{take_all, take-append-drop, length-drop, map_more, map-append}

@@ -1,5 +1,5 @@
-//! Records a run of the server's driver as one of two lists: the calls of its wire's methods, or
-//! the events that its server applied.
+//! Records a run of the server's driver: either which methods of the wire it called, or which
+//! events its server applied.
 //!
 //! The laws of `sv_driver_laws` are about a trace: the calls of the methods of a driver's wire,
 //! with their answers. If a [`Recorder`] is the wire, the trace is the list of calls that it

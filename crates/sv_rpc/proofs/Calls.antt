@@ -1,5 +1,4 @@
--- If a record is read as a call, the result is what the definition gives for the record's bytes:
--- the same call, or the same fault.
+-- Reading a record gives what the definition gives for the record's bytes: a call, or a fault.
 use Rattle.std.proofs.Common.{◌≡◌, ◌≢◌, ℕ, ◌≤◌, cond, eqb, List, length, drop, Result, Ok, Err, refl, sym, subst, ◌∙◌, inl, inr}
 use Rattle.std.proofs.lemmas.Bool.{cases_Bool, cond-true, cond-false, eqb-true, eqb-false, ne_eqb}
 use Rattle.sv_xdr.specs.declared.fault.XdrFault.{XdrFault}

@@ -1,5 +1,5 @@
--- How a list of lengths divides a buffer's bytes into records, and how much capacity these
--- records use.
+-- How a list of lengths divides a buffer's bytes into records, and how much of the buffer these
+-- records fill.
 use Rattle.std.proofs.Common.{◌≡◌, ℕ, ◌+◌, ◌*◌, ◌≤◌, Bool, List, [], ◌∷◌, ◌++◌, length, take, drop, refl, sym, ap, ◌∙◌, arith}
 use Rattle.std.specs.Prelude.{sum, sum_by}
 use Rattle.std.proofs.lemmas.List.{length-take-le, length-drop, take-append-le, drop-append-le, drop-drop}

@@ -1,4 +1,4 @@
--- If the buffer has room for all that several writes append, each of them appends its bytes.
+-- Several writes to a buffer succeed if the buffer has room for all their bytes.
 use Rattle.std.proofs.Common.{◌≡◌, ℕ, ◌+◌, ◌≤◌, List, ◌∷◌, ◌++◌, length, take, Result, Ok, Err, ap, ◌∙◌, arith}
 use Rattle.std.specs.List.{concat}
 use Rattle.std.proofs.lemmas.List.{length-append, length-take-le}

@@ -291,7 +291,7 @@ def crate_page(sources: Sources) -> Iterator[str]:
         "A mutant can violate\nseveral clauses. [ARCHITECTURE](ARCHITECTURE.md#words) explains the words: act, log, history, "
         "device, wire and others.\n"
     )
-    yield "| Crate | What it is | Uses directly | Clauses of functions | Clauses of laws | Mutants | Rows |"
+    yield "| Crate | What it is | Uses directly | Clauses of functions | Clauses of laws | Mutants | Test cases |"
     yield "|---|---|---|---|---|---|---|"
     order = list(sources.order)
     repository = sources.repository
