@@ -26,7 +26,7 @@ FILES = {
     "crates/one/src/lib.rt": "pub fn one() -> u8\n    ensures { result ≡ 1 }\n{\n    1\n}\n\npub use one;\n",
     "crates/one/specs/One.antt": "-- one\none = 1\n",
     "crates/one/must-fail/one_is_two.edit": "turns: one ensures\nfile: src/lib.rt\nold:     1\nnew:     2\n",
-    "README.md": "the prover rejects all 1.\n",
+    "README.md": "the prover rejects all 1 mutants.\n",
     "docs/EVIDENCE.md": "| 1 | 0 | 0 | 1 | 0 |\n",
 }
 

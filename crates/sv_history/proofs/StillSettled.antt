@@ -1,4 +1,4 @@
--- No step becomes due through an act of a connection or of an interrupt channel. No step is due
+-- An act in the log of a connection or of an interrupt channel makes no step due. No step is due
 -- after the last one, or in the empty log.
 use Rattle.std.proofs.Common.{◌≡◌, ℕ, ◌+◌, List, ◌∷◌, ◌++◌, Some, refl, sym, subst, inl, inr, zero, suc, [], None}
 use Rattle.std.specs.Prelude.{map}

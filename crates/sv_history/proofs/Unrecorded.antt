@@ -1,5 +1,4 @@
--- A connection without acts is idle and hasn't failed, and no interrupt channel has to be connected
--- for it.
+-- A connection without acts is idle, hasn't failed, and isn't waiting for an interrupt channel.
 use Rattle.std.proofs.Common.{◌≡◌, ℕ, false, List, [], None, refl, sym, subst, rules}
 use Rattle.std.specs.Prelude.{not}
 use Rattle.sv_rpc.specs.Stream.{read}

@@ -1,5 +1,5 @@
-//! The specification of the server: definitions of events, of the log of what they did, and of the
-//! answers that the log determines; and lemmas about them.
+//! The specification of the server: it defines events, the log of what events did, and what each
+//! function of the server returns for a log; with lemmas about these.
 //!
 //! Nothing here runs. `sv_server` is the code; its contracts cite these definitions.
 #![tactic(auto)]

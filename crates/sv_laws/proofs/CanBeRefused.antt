@@ -1,5 +1,4 @@
--- If the event Turn, which executes a call, is refused for lack of memory, then the event Refuse,
--- which answers the call with an error, would be applied in its place.
+-- If memory is lacking for the event Turn, then the event Refuse is possible.
 use Rattle.std.proofs.Common.{◌≡◌, ℕ, Bool, true, false, cond, eqb, List, [], ◌∷◌, ◌++◌, Option, Some, None, nat_lt, refl, sym, ap, subst, ◌∙◌, inl, inr, append-nil}
 use Rattle.std.specs.Prelude.{not, is_none, option_map, ◌&&◌}
 use Rattle.std.proofs.lemmas.Bool.{cases_Bool}

@@ -1,5 +1,5 @@
--- An event other than Turn, Refuse and Tick isn't refused, if the server's methods say that it is
--- possible now (`Suits`).
+-- An event that agrees with what the server's methods say (`Suits`), such as bytes for which there
+-- is room, is applied and needs no memory.
 use Rattle.std.proofs.Common.{◌≡◌, ℕ, ◌<◌, Bool, true, false, cond, eqb, List, [], ◌∷◌, ◌++◌, length, filter, Option, Some, None, refl, sym, ap, subst, ◌∙◌, inl, inr, arith, le-ltb, append-nil}
 use Rattle.std.specs.Prelude.{map, not, is_some, ◌||◌, Result, Ok, Err}
 use Rattle.std.proofs.lemmas.Bool.{cases_Bool}

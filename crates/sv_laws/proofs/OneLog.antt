@@ -1,4 +1,4 @@
--- A history has at most one log.
+-- For each history, at most one list of acts is its log.
 use Rattle.std.proofs.Common.{◌≡◌, ℕ, zero, suc, List, [], ◌∷◌, ◌++◌, sym, ap, ◌∙◌, subst}
 use Rattle.sv_layers.specs.StatusByte.{PolledBit}
 use Rattle.sv_layers.proofs.PolledByte.{one_word}

@@ -1,5 +1,5 @@
--- Of the acts that an event adds to a connection's log, all but the first are about calls: a call
--- taken, a fault or a reply.
+-- In a connection's log, an event's acts after its first one are about calls: a call is taken, has
+-- a fault, or is replied to.
 use Rattle.std.proofs.Common.{◌≡◌, ℕ, eqb, true, false, List, [], ◌∷◌, ◌++◌, Option, Some, None, refl, sym, ap, subst, ◌∙◌, inl, inr, append_assoc}
 use Rattle.std.specs.Prelude.{map}
 use Rattle.std.proofs.lemmas.Bool.{cases_Bool}

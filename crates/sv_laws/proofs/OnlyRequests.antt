@@ -1,5 +1,5 @@
--- Of the acts that an event adds to the log of the interrupt channels, all but the first close a
--- channel, or append calls to one.
+-- In the log of the interrupt channels, an event's acts after its first one only close a channel or
+-- append calls to a channel.
 use Rattle.std.proofs.Common.{◌≡◌, ℕ, Bool, true, false, eqb, cond, List, [], ◌∷◌, ◌++◌, Option, Some, None, refl, sym, ap, subst, ◌∙◌, inl, inr, append_assoc, append-nil, add-zero, ◌+◌}
 use Rattle.std.specs.Prelude.{map, ⊤}
 use Rattle.std.specs.List.{fold, AllByRecursion}

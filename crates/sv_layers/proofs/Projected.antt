@@ -1,5 +1,5 @@
--- The own log of each of three layers (message exchange, error queue, scanner) holds exactly those
--- acts of the instrument's log that are acts of this layer.
+-- The scanner's log holds exactly those acts of the instrument's log that are acts of the scanner;
+-- the same for the error queue and for message exchange.
 use Rattle.std.proofs.Common.{◌≡◌, List, [], ◌∷◌, refl, ap}
 use Rattle.sv_errors.specs.declared.error_queue.QueueAct.{QueueAct}
 use Rattle.sv_errors.specs.declared.error_queue.QueueAct.TheVariants as queue

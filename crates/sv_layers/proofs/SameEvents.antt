@@ -1,4 +1,5 @@
--- A register's own log and the instrument's log give the same bits of its event register.
+-- The event bits of a status register, computed from its own acts, are those computed from all acts
+-- of the instrument.
 use Rattle.std.proofs.Common.{◌≡◌, ℕ, Bool, true, false, List, [], ◌∷◌, refl, ◌⊎◌}
 use Rattle.std.specs.Prelude.{◌↔◌, not, if◌then◌else◌}
 use Rattle.sv_logs.proofs.Since.{since_unique, step_kept, step_ended, iff_transitive}

@@ -1,4 +1,4 @@
--- Whether a transition of a condition bit passes the register's filter can be computed.
+-- It can be computed whether a transition of a condition bit passes the register's filter.
 use Rattle.std.proofs.Common.{◌≡◌, ℕ, Bool, true, false, List, refl, ◌⊎◌, arith, eq-eqb}
 use Rattle.std.specs.Prelude.{◌↔◌, not, ◌&&◌, ◌||◌}
 use Rattle.std.specs.Int.{bit_at}

@@ -1,5 +1,5 @@
--- `Since` says that one property held at some act of the log, and that another has held ever since.
--- Lemmas say how one more act changes whether this is true.
+-- When `Since` holds after one more act: it says that one property held at some act of the log, and
+-- that another has held ever since.
 use Rattle.std.proofs.Common.{◌≡◌, ℕ, zero, suc, ◌≤◌, Bool, true, false, refl, List, [], ◌∷◌, length, drop, sym, subst, arith, ◌⊎◌, inl, inr}
 use Rattle.std.specs.Prelude.{◌↔◌, ◌&&◌, ◌||◌}
 use Rattle.std.proofs.lemmas.List.{drop_all}

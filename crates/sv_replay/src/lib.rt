@@ -1,6 +1,6 @@
-//! Replays and explains scripts, and reads scenarios: timed inputs and triggers. A script is the
-//! text of a list of events: its lines are read, the events are applied to a server, and the
-//! replies are printed. A scenario is only read.
+//! Replays and explains scripts (texts of events), and reads scenarios (timed inputs and triggers).
+//! A script's lines are read, the events are applied to a server, and the replies are printed. A
+//! scenario is only read.
 #![tactic(auto)]
 
 mod entry;

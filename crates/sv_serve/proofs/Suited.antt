@@ -1,5 +1,5 @@
--- The driver turns its wire's answers into events. The server's methods allow each of these events.
--- So the server applies them.
+-- The driver makes events from what the wire's methods return. The server's methods allow each of
+-- these events. So the server applies them.
 use Rattle.std.proofs.Common.{◌≡◌, ℕ, ◌<◌, ◌≤◌, Bool, true, false, List, [], ◌∷◌, length, Option, Some, None, Result, Ok, Err, refl, sym, ap, subst, ◌∙◌, arith, le-ltb}
 use Rattle.std.specs.Prelude.{min, not, ◌||◌}
 use Rattle.sv_links.specs.Channels.{ChannelAct, waiting as channel_waiting}

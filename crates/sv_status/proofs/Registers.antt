@@ -1,5 +1,5 @@
--- An event register after one more act: which events are set (lemmas `event_..`), and that the
--- stored words agree with the acts (lemmas `stands_for_..`).
+-- An event register after one more act: which events are set, and that the stored words agree with
+-- the acts.
 use Rattle.std.proofs.Common.{◌≡◌, ℕ, List, [], ◌∷◌, refl, subst, sym, ◌⊎◌, inl, inr, bit_and, bit_or, arith}
 use Rattle.std.specs.Prelude.{◌↔◌, bit_xor}
 use Rattle.std.specs.Int.{bit_at}

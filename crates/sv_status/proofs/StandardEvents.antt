@@ -1,5 +1,5 @@
--- The standard events after one more act: which are set (lemmas `stands_..`), and that the stored
--- words agree with the acts (lemmas `stands_for_..`).
+-- The standard events after one more act: which are set, and that the stored words agree with the
+-- acts.
 use Rattle.std.proofs.Common.{◌≡◌, ℕ, List, [], ◌∷◌, refl, ap, ◌⊎◌, inl, inr, bit_or, arith}
 use Rattle.std.specs.Prelude.{◌↔◌}
 use Rattle.std.specs.Int.{bit_at}

@@ -1,6 +1,5 @@
--- The status byte after one more act: whether service is requested (lemmas `request_..`), whether
--- this request is new (lemmas `raised_..`), and that the stored bits agree with the acts (lemmas
--- `stands_for_..`).
+-- The status byte after one more act: whether service is requested, whether this request is new,
+-- and that the stored bits agree with the acts.
 use Rattle.std.proofs.Common.{◌≡◌, ◌≢◌, ◌⊎◌, ℕ, Bool, true, false, ◌&&◌, ◌||◌, eqb, List, [], ◌∷◌, refl, ap, ◌∙◌, sym, inl, inr, bit_and, bit_or, ◌<◌, arith}
 use Rattle.std.specs.Prelude.{◌↔◌, not, bit_xor}
 use Rattle.std.specs.Int.{bit_at}

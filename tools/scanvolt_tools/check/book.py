@@ -288,8 +288,10 @@ def lines_like(repository: Repository, pattern: str, wanted: str) -> int:
 def crate_page(sources: Sources) -> Iterator[str]:
     yield (
         "# The crates\n\nA clause is one statement in the contract of an exported function, or in a law (a proved statement). "
-        "A mutant can violate\nseveral clauses. [ARCHITECTURE](ARCHITECTURE.md#words) explains the words: act, log, history, "
-        "device, wire and others.\n"
+        "A mutant can violate\nseveral clauses. An act is one thing that an event did. All acts together are the log; a part of "
+        "the server, such as\nthe scanner, has a log of its own: the acts that concern it. The device is what all connections "
+        "share. The wire is\nwhat carries bytes. Turn and Refuse are events that take a connection's next call: Turn executes the "
+        "call,\nRefuse answers the call with an error. [ARCHITECTURE](ARCHITECTURE.md#words) explains more words.\n"
     )
     yield "| Crate | What it is | Uses directly | Clauses of functions | Clauses of laws | Mutants | Test cases |"
     yield "|---|---|---|---|---|---|---|"

@@ -116,7 +116,7 @@ def miscounted(repository: Repository, known: Clauses) -> Iterator[str]:
         "without turns:": sum(not turned(repository.text("crates/" + edit)) for edit in names),
     }
     readme = repository.text("README.md")
-    if "rejects all %d." % len(names) not in readme:
+    if "rejects all %d mutants." % len(names) not in readme:
         yield "README.md: there are %d mutants" % len(names)
     row = "\n| %s |" % " | ".join(map(str, counts.values()))
     if row not in "\n" + repository.text("docs/EVIDENCE.md"):
