@@ -1,5 +1,5 @@
--- The enable mask of each status register fits in 16 bits; its condition is 0 at power on, and
--- depends only on the scanner's acts and the summary bits.
+-- At power on, each status register's condition is 0 and its enable mask fits in 16 bits; the
+-- condition depends only on the scanner's acts and the summary bits.
 use Rattle.std.proofs.Common.{◌≡◌, ◌+◌, ◌<◌, ◌^◌, Bool, List, [], refl, ap, ◌∙◌, arith}
 use Rattle.sv_status.specs.declared.register_name.RegisterName.{RegisterName}
 use Rattle.sv_status.specs.declared.register_name.RegisterName.TheVariants.{Operation, Questionable, Limit}

@@ -1,5 +1,5 @@
--- If a layer can't do what is asked, it returns the error that the definition names; if it can, the
--- definition names none.
+-- If a layer refuses what is asked, it returns the error that the definition names; if it does what
+-- is asked, the definition names none.
 use Rattle.std.proofs.Common.{◌≡◌, refl}
 use Rattle.std.specs.Prelude.{Option, Some, None, Ok, Err}
 use Rattle.sv_errors.specs.declared.code.Code.{Code}
