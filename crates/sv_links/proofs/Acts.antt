@@ -20,6 +20,7 @@ are_channels_disabled kept links lid acts same is = record {
   enabled = same ∙ ap (other_links lid) is.enabled ∙ sym (links_after_disable lid acts);
   each = is.each;
   beyond = is.beyond;
+  opened = is.opened;
 }
 
 -- Several links disable service requests.
@@ -38,6 +39,7 @@ are_channels_enabled kept links link acts same is = record {
   enabled = same ∙ ap (with_link link) is.enabled ∙ sym (links_after_enable link acts);
   each = is.each;
   beyond = is.beyond;
+  opened = is.opened;
 }
 
 channel_requested : (what : Option Peer) (old new : Channel) (count : ℕ) (handles calls : List (List ℕ)) → opened_for old.stage ≡ what
@@ -105,6 +107,7 @@ are_channels_kept kept i old new acts lt within value stage keeps is =
           (λ same. subst (λ k. IsChannel new k acts) (sym same) after)
           (λ apart. is.each k other le);
       beyond = is.beyond;
+      opened = is.opened;
     }
 
 -- A channel is closed.
@@ -123,4 +126,5 @@ are_channels_closed kept i new acts within stage is =
         | inl same ↦ rw (eq-eqb i k same) refl
         | inr apart ↦ rw (ne_eqb i k apart) (is.beyond k past)
       ];
+      opened = is.opened;
     }

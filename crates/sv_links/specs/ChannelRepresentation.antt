@@ -6,7 +6,7 @@ use Rattle.sv_links.specs.declared.request.Peer.{Peer}
 use Rattle.sv_links.specs.declared.channel.Stage.{Stage}
 use Rattle.sv_links.specs.declared.channel.Stage.TheVariants.{Closed, Prepared, Open}
 use Rattle.sv_links.specs.Limits.{max_connections, max_enabled}
-use Rattle.sv_links.specs.Channels.{ChannelAct, enabled_links, peer, bytes_taken, calls, calls_left}
+use Rattle.sv_links.specs.Channels.{ChannelAct, enabled_links, peer, was_opened, bytes_taken, calls, calls_left}
 
 -- the state of one interrupt channel: its stage; how many device_intr_srq calls were appended since
 -- the channel was opened; how many bytes are still to be sent of each call that the peer didn't
@@ -17,10 +17,12 @@ pub record Channel : Type 0 where
   pub sizes : List ℕ
   pub bytes : List ℕ
 
--- the links that have service requests enabled, and the channel of each connection
+-- the links that have service requests enabled, the channel of each connection, and whether a
+-- channel was ever opened
 pub record Channels : Type 0 where
   pub enabled : List Enabled
   pub channels : List Channel
+  pub opened : Bool
 
 -- the client's program to which an open channel sends its calls; `None` if the channel isn't open
 abbrev pub opened_for : Stage → Option Peer
@@ -95,3 +97,4 @@ pub record AreChannels (kept : Channels) (acts : List ChannelAct) : Type 0 where
   pub enabled : kept.enabled ≡ enabled_links acts
   pub each : (c : ℕ) (other : Channel) → c < max_connections → IsChannel (slice_index_or kept.channels c other) c acts
   pub beyond : (c : ℕ) → max_connections ≤ c → peer c acts ≡ None
+  pub opened : kept.opened ≡ was_opened acts

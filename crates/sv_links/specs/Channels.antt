@@ -1,7 +1,7 @@
 -- Interrupt channels (VXI-11 revision 1.0, section B.6: device_enable_srq, create_intr_chan,
 -- destroy_intr_chan, device_intr_srq): which links have service requests enabled, and which bytes
 -- are sent on each channel. In a list of acts the newest act comes first.
-use Rattle.std.specs.Prelude.{ℕ, ◌+◌, ◌-◌, ◌==◌, max, ◌&&◌, Bool, List, [], ◌∷◌, ◌++◌, length, map, filter, drop, Option, Some, None, is_some, nat_lt, if◌then◌else◌}
+use Rattle.std.specs.Prelude.{ℕ, ◌+◌, ◌-◌, ◌==◌, max, ◌&&◌, Bool, true, false, List, [], ◌∷◌, ◌++◌, length, map, filter, drop, Option, Some, None, is_some, nat_lt, if◌then◌else◌}
 use Rattle.std.specs.List.{concat, filter_map, fold, range_with_len}
 use Rattle.sv_links.specs.declared.enabled.Enabled.{Enabled}
 use Rattle.sv_links.specs.declared.request.Peer.{Peer}
@@ -54,6 +54,12 @@ peer c (_ ∷ acts) = peer c acts
 -- whether the channel of a connection is open
 abbrev pub is_channel_open : ℕ → List ChannelAct → Bool
 is_channel_open c acts = is_some (peer c acts)
+
+-- whether a channel was ever opened
+abbrev pub was_opened : List ChannelAct → Bool
+was_opened [] = false
+was_opened (ChannelOpened conn what ∷ acts) = true
+was_opened (_ ∷ acts) = was_opened acts
 
 -- how many bytes the peer took from the channel of a connection since this channel was opened
 abbrev pub bytes_taken : ℕ → List ChannelAct → ℕ

@@ -3,7 +3,7 @@
 
 ghost use Rattle.std.specs.Prelude.{◌≡◌, ◌<◌, ◌≤◌, ◌==◌, ◌++◌, ℕ, List, [], ◌∷◌, map, length, filter, not, slice_get, IfOk, OnOk, OnErr, false, true};
 ghost use Rattle.sv_links.specs.Limits.{max_connections, max_handle, max_queued};
-ghost use Rattle.sv_links.specs.Channels.{ChannelAct, SrqEnabled, SrqDisabled, ChannelOpened, ChannelClosed, Requested, ChannelTaken, is_channel_open, enabled_links, waiting};
+ghost use Rattle.sv_links.specs.Channels.{ChannelAct, SrqEnabled, SrqDisabled, ChannelOpened, ChannelClosed, Requested, ChannelTaken, is_channel_open, was_opened, enabled_links, waiting};
 ghost use Rattle.sv_links.specs.ChannelRepresentation.{AreChannels, IsReady, HasRoomFor, bytes_of, without_links, of_others};
 
 use crate::channel::Channel;
@@ -19,6 +19,8 @@ use std::marker::Model;
 pub struct Intr<A: Allocator = Global> {
     enabled: Vec<Enabled, A>,
     channels: Vec<Channel<A>, A>,
+    /// Whether a channel was ever opened.
+    opened: bool,
 }
 
 impl<A: Allocator> Model for Intr<A> {
@@ -30,7 +32,11 @@ impl<A: Allocator> Model for Intr<A> {
     ghost use Rattle.sv_links.specs.Limits.{max_connections, max_enabled};
     ghost use Rattle.sv_links.specs.ChannelRepresentation.{IsSorted};
 
-    ghost view = { λ a. record { enabled = a.enabled.items; channels = a.channels.items } };
+    ghost view = { λ a. record {
+      enabled = a.enabled.items;
+      channels = a.channels.items;
+      opened = a.opened;
+    } };
 
     ghost invariant = { λ a. (length a.channels.items ≡ max_connections)
         × (length a.enabled.items ≤ max_enabled)
@@ -51,7 +57,11 @@ impl<A: Allocator + Copy> Intr<A> {
         for _ in 0..MAX_CONNECTIONS {
             channels.push(Channel::new(alloc))?;
         }
-        Ok(Intr { enabled, channels })
+        Ok(Intr {
+            enabled,
+            channels,
+            opened: false,
+        })
     }
 }
 
@@ -110,6 +120,7 @@ impl<A: Allocator> Intr<A> {
         ensures enabled { self.new.enabled ≡ self.old.enabled }
     {
         self.channels[usize::from(conn)].open(peer);
+        self.opened = true;
     }
 
     /// Closes the channel of a connection, drops the bytes that wait to be sent on it, and returns
@@ -192,6 +203,13 @@ impl<A: Allocator> Intr<A> {
         for conn in 0..MAX_CONNECTIONS {
             self.channels[conn].request_each(conn as u8, self.enabled.as_slice());
         }
+    }
+
+    /// Whether a channel was ever opened.
+    pub fn was_opened(&self) -> bool
+        ensures { (acts : List ChannelAct) → AreChannels self.now acts → result ≡ was_opened acts }
+    {
+        self.opened
     }
 
     /// The bytes that wait to be sent on the channel of a connection; none if the channel isn't

@@ -2,7 +2,7 @@
 //! treats these bytes as taken by the peers. Of the server, the replay uses queries, `apply`, and
 //! the function that takes bytes from a port.
 
-ghost use Rattle.std.specs.Prelude.{◌≡◌, ℕ, List};
+ghost use Rattle.std.specs.Prelude.{◌≡◌, ◌≤◌, ◌<◌, ℕ, List, []};
 ghost use Rattle.std.specs.Io.KnownBytes.{Appends};
 ghost use Rattle.sv_history.specs.declared.event.Config.{Config};
 ghost use Rattle.sv_history.specs.declared.event.Did.{Did};
@@ -10,6 +10,7 @@ ghost use Rattle.sv_history.specs.Event.{PlainEvent, plain};
 ghost use Rattle.sv_links.specs.Channels.{ChannelAct};
 ghost use Rattle.sv_history.specs.Act.{Act};
 ghost use Rattle.sv_server.specs.Server.State.{StandsFor};
+ghost use Rattle.sv_history.specs.Connection.{waiting_on};
 ghost use Rattle.sv_history.specs.Print.{port_of, is_no_memory};
 ghost use Rattle.sv_server.specs.Replay.Replays.{Replays};
 ghost use Rattle.sv_history.specs.History.{IsLogOf, Answers, history_after};
@@ -96,19 +97,33 @@ impl<A: Allocator> Server<A> {
     }
 
     /// Writes the lines of all ports on which bytes wait to be sent, and drops the bytes that the
-    /// lines show. Connections that were never opened are left out, because they have no bytes.
+    /// lines show.
     fn show_all<W: Write>(&mut self, writer: &mut W) -> Result<(), WriteFault>
         ensures { (config : Config) (history : List PlainEvent) (channel_log : List ChannelAct)
             (log : List Act) → StandsBy self.old config history channel_log log
             → (text : List ℕ) × Appends (W.contents writer.old) (W.contents writer.new) text
             × ShowsAll config history channel_log log result self.new text }
     {
-        for number in 0..32 {
-            if number >= 16 || number < self.connections_used {
-                self.show(port_of(number), writer)?;
-            }
+        for number in 0..self.port_limit() {
+            self.show(port_of(number), writer)?;
         }
         Ok(())
+    }
+
+    /// How many ports, in the order of their lines, can have bytes: connections that were never
+    /// opened have none, and if no interrupt channel was ever opened, no channel has any.
+    fn port_limit(&self) -> u8
+        ensures bounded { result ≤ 32 }
+        ensures none { (config : Config) (history : List PlainEvent)
+            (channel_log : List ChannelAct) (log : List Act) (number : ℕ)
+            → StandsBy self.now config history channel_log log
+            → result ≤ number → number < 32 → waiting_on channel_log (port_of number) log ≡ [] }
+    {
+        if self.device.was_channel_opened() {
+            32
+        } else {
+            self.connections_used.min(16)
+        }
     }
 
     /// Writes the line of a port, if bytes wait to be sent on the port, and drops the bytes that

@@ -1,16 +1,16 @@
 -- The lines of the ports are written one after the other, and a Took of one port leaves the later
 -- ones.
-use Rattle.std.proofs.Common.{◌≡◌, ℕ, zero, suc, ◌-◌, ◌<◌, ◌≤◌, ◌==◌, false, List, [], ◌∷◌, ◌++◌, length, map, Option, refl, sym, ap, inl, inr, subst, ◌∙◌, append_assoc, append-nil, arith}
-use Rattle.std.specs.Prelude.{Result, Ok, Err, ⊤, IsErr}
+use Rattle.std.proofs.Common.{◌≡◌, ℕ, zero, suc, ◌+◌, ◌-◌, ◌<◌, ◌≤◌, ◌==◌, false, List, [], ◌∷◌, ◌++◌, length, map, Option, None, refl, sym, ap, inl, inr, subst, ◌∙◌, append_assoc, append-nil, eq-eqb, arith}
+use Rattle.std.specs.Prelude.{Result, Ok, Err, ⊤, IsErr, min}
 use Rattle.std.specs.Io.KnownBytes.{Appends}
 use Rattle.hex.specs.Hex.{encode_lower}
-use Rattle.std.proofs.lemmas.Bool.{lt-ltb, le-ltb, cases_lt}
+use Rattle.std.proofs.lemmas.Bool.{lt-ltb, le-ltb, cases_lt, cases_eq, ne_eqb}
 use Rattle.std.proofs.lemmas.List.{map-append}
 use Rattle.sv_history.specs.declared.event.Config.{Config}
 use Rattle.sv_history.specs.declared.event.Port.{Port}
 use Rattle.sv_print.specs.declared.writing.WriteFault.{WriteFault}
 use Rattle.sv_history.specs.Event.{PlainEvent}
-use Rattle.sv_links.specs.Channels.{ChannelAct}
+use Rattle.sv_links.specs.Channels.{ChannelAct, SrqEnabled, SrqDisabled, ChannelOpened, ChannelClosed, Requested, ChannelTaken, peer, was_opened}
 use Rattle.sv_history.specs.Act.{Act, BytesTaken, of}
 use Rattle.sv_history.specs.Connection.{waiting, waiting_on}
 use Rattle.sv_server.specs.Server.State.{State}
@@ -125,35 +125,62 @@ so_far_more config history channel_log log n next old new text first mid last up
       ),
     )
 
--- A connection that was never used has no line.
-pub so_far_skip : (config : Config) (history : List PlainEvent) (channel_log : List ChannelAct) (log : List Act) (n next : ℕ)
-    (state : State) (text : List ℕ) → next ≡ suc n → n < 16 → state.connections_used ≤ n
-    → SoFar config history channel_log log n state text → SoFar config history channel_log log next state text
-so_far_skip config history channel_log log n next state text up within unused (is, after, now, (is_log, rep, settled, hears), same) =
-    let none : of n now ≡ [] = rep.connections_used.0 n unused in
-    let here : waiting_on channel_log (port_of n) log ≡ [] = sym (same n (omega arith)) ∙ rw (lt-ltb n 16 within, none) refl in
-    rw up (
-      is ∙ sym (lines_more channel_log n log
-          ∙ (ap (λ (bytes : List ℕ). lines_of channel_log (first_ports n) log ++ port_line (port_of n) bytes) here
-          ∙ append-nil (lines_of channel_log (first_ports n) log))),
-      after,
-      now,
-      subst (λ (h : List PlainEvent). StandsBy state config h after now)
-          (sym (tooks_more channel_log n log history
-          ∙ ap (λ (bytes : List ℕ). with_took (port_of n) bytes (with_tooks channel_log (first_ports n) log history)) here))
-          (is_log, rep, settled, hears),
-      λ m h. same m (omega arith),
-    )
-
-pub so_far_all : (config : Config) (history : List PlainEvent) (channel_log : List ChannelAct) (log : List Act) (n : ℕ) (new : State)
-    (text : List ℕ)
-    → n ≡ 32 → SoFar config history channel_log log n new text → ShowsAll config history channel_log log (Ok tt) new text
-so_far_all config history channel_log log n new text up (is, after, now, s, same) = (
-  is ∙ ap (λ (m : ℕ). lines_of channel_log (first_ports m) log) up,
+-- A port on which no bytes wait has no line.
+so_far_past : (config : Config) (history : List PlainEvent) (channel_log : List ChannelAct) (log : List Act) (n : ℕ)
+    (state : State) (text : List ℕ) → waiting_on channel_log (port_of n) log ≡ []
+    → SoFar config history channel_log log n state text → SoFar config history channel_log log (suc n) state text
+so_far_past config history channel_log log n state text here (is, after, now, s, same) = (
+  is ∙ sym (lines_more channel_log n log
+      ∙ (ap (λ (bytes : List ℕ). lines_of channel_log (first_ports n) log ++ port_line (port_of n) bytes) here
+      ∙ append-nil (lines_of channel_log (first_ports n) log))),
   after,
   now,
-  subst (λ (m : ℕ). StandsBy new config (with_tooks channel_log (first_ports m) log history) after now) up s,
+  subst (λ (h : List PlainEvent). StandsBy state config h after now)
+      (sym (tooks_more channel_log n log history
+      ∙ ap (λ (bytes : List ℕ). with_took (port_of n) bytes (with_tooks channel_log (first_ports n) log history)) here)) s,
+  λ m h. same m (omega arith),
 )
+
+-- If no channel was ever opened, none is open.
+no_peer : (c : ℕ) (channel_log : List ChannelAct) → was_opened channel_log ≡ false → peer c channel_log ≡ None
+no_peer c [] never = refl
+no_peer c (ChannelOpened conn what ∷ acts) never = absurd cc
+no_peer c (ChannelClosed conn ∷ acts) never = elim (cases_eq conn c) [
+  | inl same ↦ rw (eq-eqb conn c same) refl
+  | inr apart ↦ rw (ne_eqb conn c apart) (no_peer c acts never)
+]
+no_peer c (SrqEnabled lid conn handle ∷ acts) never = no_peer c acts never
+no_peer c (SrqDisabled lid ∷ acts) never = no_peer c acts never
+no_peer c (Requested ∷ acts) never = no_peer c acts never
+no_peer c (ChannelTaken conn count ∷ acts) never = no_peer c acts never
+
+-- If no channel was ever opened, bytes wait only on connections that were used.
+pub none_wait_on_unopened : (config : Config) (history : List PlainEvent) (channel_log : List ChannelAct) (log : List Act) (n : ℕ)
+    (state : State) → min state.connections_used 16 ≤ n → StandsBy state config history channel_log log
+    → was_opened channel_log ≡ false → waiting_on channel_log (port_of n) log ≡ []
+none_wait_on_unopened config history channel_log log n state unused (is_log, rep, settled, hears) never = elim (cases_lt n 16) [
+  | inl within ↦
+      let none : of n log ≡ [] = rep.connections_used.0 n (omega (arith, within, unused)) in
+      rw (lt-ltb n 16 within, none) refl
+  | inr beyond ↦ rw (le-ltb n 16 beyond, no_peer (n - 16) channel_log never) refl
+]
+
+-- No bytes wait on the ports that are left, so all lines were written.
+pub so_far_rest : (config : Config) (history : List PlainEvent) (channel_log : List ChannelAct) (log : List Act) (left n : ℕ)
+    (state : State) (text : List ℕ) → n + left ≡ 32
+    → ((m : ℕ) → n ≤ m → m < 32 → waiting_on channel_log (port_of m) log ≡ [])
+    → SoFar config history channel_log log n state text → ShowsAll config history channel_log log (Ok tt) state text
+so_far_rest config history channel_log log zero n state text up none (is, after, now, s, same) =
+    let all : n ≡ 32 = omega (arith, up) in (
+      is ∙ ap (λ (m : ℕ). lines_of channel_log (first_ports m) log) all,
+      after,
+      now,
+      subst (λ (m : ℕ). StandsBy state config (with_tooks channel_log (first_ports m) log history) after now) all s,
+    )
+so_far_rest config history channel_log log (suc left) n state text up none so =
+    so_far_rest config history channel_log log left (suc n) state text (omega (arith, up))
+    (λ m above below. none m (omega (arith, above)) below)
+    (so_far_past config history channel_log log n state text (none n (omega arith) (omega (arith, up))) so)
 
 pub so_far_stop : (config : Config) (history : List PlainEvent) (channel_log : List ChannelAct) (log : List Act) (n : ℕ) (old new : State)
     (text : List ℕ)

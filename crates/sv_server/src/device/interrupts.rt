@@ -6,7 +6,7 @@ ghost use Rattle.sv_vxi.specs.declared.error_code.ErrorCode.TheVariants.{NoError
 ghost use Rattle.sv_vxi.specs.Results.{Plain, plain_result, data_of};
 ghost use Rattle.sv_links.specs.Waiting.{Left};
 ghost use Rattle.sv_links.specs.Queue.{without};
-ghost use Rattle.sv_links.specs.Channels.{ChannelOpened};
+ghost use Rattle.sv_links.specs.Channels.{ChannelOpened, was_opened};
 ghost use Rattle.sv_history.specs.declared.event.Config.{Config as Configured};
 ghost use Rattle.sv_history.specs.Act.{DeviceAct, Waited, Channel, wait_acts};
 ghost use Rattle.sv_history.specs.CallOutcome.{answer_with, only};
@@ -204,6 +204,15 @@ impl<A: Allocator> Device<A> {
         ensures bounded { length result.now ≤ max_queued }
     {
         self.intr.waiting(conn.number)
+    }
+
+    /// Whether an interrupt channel was ever opened.
+    pub fn was_channel_opened(&self) -> bool
+        ensures { (config : Configured) (acts : List DeviceAct) (channel_log : List ChannelAct)
+            → IsDevice self.now config acts → HearsOf acts channel_log
+            → result ≡ was_opened channel_log }
+    {
+        self.intr.was_opened()
     }
 
     /// Drops the first `count` of the bytes that wait on the open interrupt channel of a

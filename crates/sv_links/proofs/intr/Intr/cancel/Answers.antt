@@ -21,7 +21,8 @@ returns-clause-others g c = search rules
 
 pub returns-clause-stands : goal.returns-clause-stands
 returns-clause-stands g c acts is =
-    let kept : Channels = record { enabled = c.self.inside.enabled.items; channels = c.self.inside.channels.items } in
+    let kept : Channels =
+    record { enabled = c.self.inside.enabled.items; channels = c.self.inside.channels.items; opened = c.self.inside.opened } in
     are_channels_kept kept c.from.result c.index_mut.result.now c.cancel.new.self acts (omega (arith, c.requires, c.from.ensures))
     (omega (arith, c.requires, c.from.ensures, c.self.invariant.0)) c.index_mut.ensures.value c.cancel.ensures.open
     c.cancel.ensures.queued (rw (← c.self.view_is) at is)

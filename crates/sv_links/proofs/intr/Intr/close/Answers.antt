@@ -11,7 +11,8 @@ returns-clause-others g c = search rules
 
 pub returns-clause-stands : goal.returns-clause-stands
 returns-clause-stands g c acts is =
-    let kept : Channels = record { enabled = c.self.inside.enabled.items; channels = c.self.inside.channels.items } in
+    let kept : Channels =
+    record { enabled = c.self.inside.enabled.items; channels = c.self.inside.channels.items; opened = c.self.inside.opened } in
     rw (← c.from.ensures) (are_channels_closed kept c.from.result c.close.new.self acts
     (omega (arith, c.requires, c.from.ensures, c.self.invariant.0)) c.close.ensures.closed (rw (← c.self.view_is) at is))
 

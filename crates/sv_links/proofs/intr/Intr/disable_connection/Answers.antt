@@ -24,6 +24,7 @@ pub returns-clause-stands : goal.returns-clause-stands
 returns-clause-stands g c lids acts is same =
     let p : Enabled → Bool = λ other. not (eqb other.conn c.args.conn) in
     let kept = filter_same _ p _ (λ x b f' k. search rules) _ _ c.retain.ensures.filtered in
-    let now : Channels = record { enabled = c.self.inside.enabled.items; channels = c.self.inside.channels.items } in
+    let now : Channels =
+    record { enabled = c.self.inside.enabled.items; channels = c.self.inside.channels.items; opened = c.self.inside.opened } in
     subst (λ (links : List Enabled). AreChannels (record now { enabled = links }) (map SrqDisabled lids ++ acts))
     (rw (← c.self.view_is) at same ∙ sym kept) (are_channels_without now lids acts (rw (← c.self.view_is) at is))

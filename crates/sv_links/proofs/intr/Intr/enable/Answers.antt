@@ -66,7 +66,13 @@ returns-clause-stands g c short room acts is =
     ∙ ap (λ (lid : ℕ). lower_links lid old.enabled ++ link ∷ higher_links lid old.enabled) (sym c.new.ensures.link.0) in
     let now = are_channels_enabled (record old { channels = c.self.inside.channels.items }) c.insert.new.self.items link acts place before
     in
-    rw (← c.new.ensures.link.0, ← c.new.ensures.link.1, ← c.new.ensures.handle short) now
+    let opened = rw (← c.self.view_is) at c.disable.ensures.stands in
+    rw (← c.new.ensures.link.0, ← c.new.ensures.link.1, ← c.new.ensures.handle short) (record {
+      enabled = now.enabled;
+      each = now.each;
+      beyond = now.beyond;
+      opened = (opened acts is).opened;
+    })
 
 pub returns-clause-ready : goal.returns-clause-ready
 returns-clause-ready g c = search rules

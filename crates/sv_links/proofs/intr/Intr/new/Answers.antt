@@ -22,4 +22,5 @@ returns g c = record {
   enabled = c.in_ok-enabled.ensures.items;
   each = λ conn other lt. (ap opened_for (c.loop.invariant.closed conn other (omega (arith, lt, c.loop-test.false))), tt);
   beyond = λ conn past. refl;
+  opened = refl;
 }

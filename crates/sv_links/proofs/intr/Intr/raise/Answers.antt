@@ -18,6 +18,7 @@ loop-conn-preserved g c =
     ∙ ap (λ (kept : Channels). kept.enabled) c.self.view_is in
     record {
       enabled = c.loop-conn.invariant.enabled;
+      opened = c.loop-conn.invariant.opened;
       long = length-set items i new ∙ c.loop-conn.invariant.long;
       sent = λ k other acts lt is.
           after_slice_set (λ kept. IsChannel kept k (Requested ∷ acts)) items i k new other within
@@ -44,4 +45,5 @@ returns-clause-stands g c acts is =
       enabled = links ∙ ap (λ (kept : Channels). kept.enabled) c.self.view_is ∙ is.enabled;
       each = λ k other lt. c.loop-conn.invariant.sent k other acts (omega (arith, lt, c.loop-conn-test.false)) is;
       beyond = is.beyond;
+      opened = c.loop-conn.invariant.opened ∙ ap (λ (kept : Channels). kept.opened) c.self.view_is ∙ is.opened;
     }

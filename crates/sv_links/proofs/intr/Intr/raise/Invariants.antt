@@ -9,6 +9,7 @@ use Rattle.sv_links.proofs.intr.Intr.raise.Given as goal
 abbrev pub invariant-loop-conn : goal.invariant-loop-conn
 invariant-loop-conn g l = record {
   enabled : l.self-inside.enabled ≡ l.initial.self-inside.enabled;
+  opened : l.self-inside.opened ≡ l.initial.self-inside.opened;
   long : length l.self-inside.channels.items ≡ max_connections;
   sent : (c : ℕ) (other : Channel) (acts : List ChannelAct) → c < l.conn → AreChannels l.fn.self acts
       → IsChannel (slice_index_or l.self-inside.channels.items c other) c (Requested ∷ acts);

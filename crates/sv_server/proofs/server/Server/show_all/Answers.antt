@@ -1,4 +1,4 @@
-use Rattle.std.proofs.Common.{[], ◌+◌, ◌<◌, ◌≤◌, ℕ, List, ap, subst, arith}
+use Rattle.std.proofs.Common.{[], ◌+◌, ◌-◌, ℕ, List, subst, arith}
 use Rattle.std.specs.Prelude.{Ok}
 use Rattle.std.specs.Io.KnownBytes.{Appends}
 use Rattle.sv_history.specs.declared.event.Port.{Port}
@@ -8,8 +8,7 @@ use Rattle.sv_links.specs.Channels.{ChannelAct}
 use Rattle.sv_server.specs.Server.State.{State}
 use Rattle.sv_server.specs.Replay.Inside.Showing.{StandsBy, ShowsPort}
 use Rattle.sv_print.proofs.Taking.{appends_none}
-use Rattle.sv_server.proofs.OnReplay.Ports.{so_far_none, so_far_more, so_far_skip, so_far_all, so_far_stop}
-use Rattle.sv_server.proofs.server.Server.show_all.Goals.{then-number-ge16+in_ok-show, else-number-ge16+else-number-self}
+use Rattle.sv_server.proofs.OnReplay.Ports.{so_far_none, so_far_more, so_far_rest, so_far_stop}
 use Rattle.sv_server.proofs.server.Server.show_all.Goals as goal
 
 pub loop-number-init : goal.loop-number-init
@@ -20,30 +19,27 @@ pub returns-in_err-show : goal.returns-in_err-show
 returns-in_err-show g c = λ config history channel_log log s.
     let (text, put, so) = c.loop-number.invariant config history channel_log log s in
     so_far_stop config history channel_log log c.loop-number.number c.loop-number.self c.show.new.self text _ _ _ c.in_err-show.field-0.0
-    c.from_residual.result c.loop-number-test.true so put c.from_residual.ensures.0
-    ((rw c.port_of.ensures at c.in_err-show.ensures) config)
+    c.from_residual.result (omega (arith, c.loop-number-test.true, c.port_limit-number-end.ensures.bounded)) so put
+    c.from_residual.ensures.0 ((rw c.port_of.ensures at c.in_err-show.ensures) config)
 
 pub loop-number-preserved : goal.loop-number-preserved
 loop-number-preserved g c = λ config history channel_log log s.
     let (text, put, so) = c.loop-number.invariant config history channel_log log s in
     let n : ℕ = c.loop-number.number in
     let old : State = c.loop-number.self in
-    elim c.if-number-ge16.branch [
-      | then-number-ge16+in_ok-show w ↦ rw (w.self-is, w.writer-is)
-          (so_far_more config history channel_log log n (n + 1) old w.show.new.self text _ _ _ (omega arith) so put
-          (subst (λ (port : Port). (h : List PlainEvent) (after : List ChannelAct) (now : List Act)
-          → StandsBy old config h after now
-          → (line : List ℕ) × Appends (g.W.Write.contents c.loop-number.writer) (g.W.Write.contents w.show.new.writer) line
-          × ShowsPort port config h after now (Ok tt) w.show.new.self line) w.port_of.ensures (w.in_ok-show.ensures config)))
-      | else-number-ge16+else-number-self w ↦
-          let within : n < 16 = omega (arith, w.if-number-ge16.false) in
-          let seen = ap (λ (st : State). st.connections_used) c.self.view_is in
-          let unused : old.connections_used ≤ n = omega (arith, w.if-number-self.false, seen) in
-          rw (w.self-is, w.writer-is)
-          (text, put, so_far_skip config history channel_log log n (n + 1) old text (omega arith) within unused so)
-    ]
+    so_far_more config history channel_log log n (n + 1) old c.show.new.self text _ _ _ (omega arith) so put
+    (subst (λ (port : Port). (h : List PlainEvent) (after : List ChannelAct) (now : List Act)
+    → StandsBy old config h after now
+    → (line : List ℕ) × Appends (g.W.Write.contents c.loop-number.writer) (g.W.Write.contents c.show.new.writer) line
+    × ShowsPort port config h after now (Ok tt) c.show.new.self line) c.port_of.ensures (c.in_ok-show.ensures config))
 
 pub returns : goal.returns
 returns g c = λ config history channel_log log s.
     let (text, put, so) = c.loop-number.invariant config history channel_log log s in
-    (text, put, so_far_all config history channel_log log c.loop-number.number c.loop-number.self text (omega arith) so)
+    let n : ℕ = c.loop-number.number in (
+      text,
+      put,
+      so_far_rest config history channel_log log (32 - n) n c.loop-number.self text
+          (omega (arith, c.loop-number-test.false, c.port_limit-number-end.ensures.bounded))
+          (λ m above below. c.port_limit-number-end.ensures.none config history channel_log log m s (omega (arith, above)) below) so,
+    )
