@@ -93,7 +93,14 @@ fn append_all(text: &mut ArrayVec<u8, SHORT>, parts: &[Part<'_>]) -> bool
     true
 }
 
-/// Writes two lists of parts: a short text at once, and another one part by part.
+/// Whether one of these parts is hexadecimal.
+#[inline(always)]
+fn has_hex(parts: &[Part<'_>]) -> bool {
+    parts.iter().any(|part| matches!(part, Part::Hex(_)))
+}
+
+/// Writes two lists of parts: a short text without hexadecimal at once, and another one part by
+/// part.
 fn put_together<W: Write>(
     writer: &mut W,
     first: &[Part<'_>],
@@ -103,7 +110,8 @@ fn put_together<W: Write>(
         (parts_text first.now ++ parts_text second.now) }
 {
     let mut text = ArrayVec::new();
-    if append_all(&mut text, first) && append_all(&mut text, second) {
+    let plain = !has_hex(first) && !has_hex(second);
+    if plain && append_all(&mut text, first) && append_all(&mut text, second) {
         return put_bytes(writer, text.as_slice());
     }
     put_parts(writer, first)?;

@@ -8,7 +8,7 @@ ghost use Rattle.sv_print.specs.TakenByWriter.{IsTakenByWriter};
 use std::io::{ErrorKind, Write};
 
 /// The most bytes that are converted to hexadecimal at one time.
-const PIECE: usize = 256;
+const PIECE: usize = 128;
 
 /// The writer failed, or took no byte.
 #[derive(Clone, Copy)]
@@ -50,9 +50,9 @@ pub(crate) fn put_bytes<W: Write>(writer: &mut W, bytes: &[u8]) -> Result<(), Wr
     Err(WriteFault)
 }
 
-/// Writes at most 256 bytes as two hexadecimal digits each, in lower case.
+/// Writes at most 128 bytes as two hexadecimal digits each, in lower case.
 fn put_piece<W: Write>(writer: &mut W, piece: &[u8]) -> Result<(), WriteFault>
-    requires { length piece.now ≤ 256 }
+    requires { length piece.now ≤ 128 }
     ensures { IsTakenByWriter (W.contents writer.old) (W.contents writer.new) result
         (encode_lower piece.now) }
 {
