@@ -1,5 +1,5 @@
--- When `Since` holds after one more act: it says that one property held at some act of the log, and
--- that another has held ever since.
+-- Statements of the form "A held once, and B has held ever since": when they are true after one more
+-- act of the log.
 use Rattle.std.proofs.Common.{◌≡◌, ℕ, zero, suc, ◌≤◌, Bool, true, false, refl, List, [], ◌∷◌, length, drop, sym, subst, arith, ◌⊎◌, inl, inr}
 use Rattle.std.specs.Prelude.{◌↔◌, ◌&&◌, ◌||◌}
 use Rattle.std.proofs.lemmas.List.{drop_all}
