@@ -13,7 +13,7 @@ use Rattle.sv_history.specs.declared.event.Role.{Role}
 use Rattle.sv_history.specs.declared.event.Role.TheVariants.{Core, Abort, Portmap}
 use Rattle.sv_history.specs.declared.event.Port.{Port}
 use Rattle.sv_history.specs.declared.event.Port.TheVariants.{Conn, Intr}
-use Rattle.sv_history.specs.Event.{PlainEvent, Turn, Refuse, Tick}
+use Rattle.sv_history.specs.Event.{PlainEvent, Turn, Refuse, Tick, port_number}
 use Rattle.sv_history.specs.Act.{Act, device_acts, instrument_acts}
 use Rattle.sv_history.specs.Print.{is_no_memory}
 use Rattle.sv_history.specs.Requests.{HearsOf}
@@ -36,8 +36,6 @@ use Rattle.sv_driver_laws.proofs.Recorded.{Records, lift_each, lift_accepts, lif
 use Rattle.sv_driver_laws.proofs.Keeps.{Subject}
 use Rattle.sv_driver_laws.proofs.Peers.{dials, passes, stimulates}
 use Rattle.sv_driver_laws.proofs.Carrying.{accepts, reads, turns, writes, ends}
-use Rattle.sv_history.specs.Event.{port_number}
-use Rattle.sv_history.specs.declared.event.Port.{Port}
 use Rattle.sv_driver_laws.proofs.Alike.{Matches, matches_after_keeps, each_step_matches, View, SameOrForks, Extends, next_step_alike, each_step_alike, same_then, through_records, Any, extends_by, same_answer, same_applied, accepts_alike, reads_alike, dials_alike, writes_alike, same_ends}
 
 -- ---- calls are taken

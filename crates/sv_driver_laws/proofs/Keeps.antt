@@ -22,8 +22,7 @@ use Rattle.sv_serve.specs.DriverView.{DriverView, ForEach}
 use Rattle.sv_serve.specs.Steps.{Given, IsApplied, dialed_of, ClosesChannelOn, ClosesChannel}
 use Rattle.sv_serve.specs.Sweep.{Applies}
 use Rattle.sv_driver_laws.specs.Served.{event_of, is_outer}
-use Rattle.sv_driver_laws.specs.Carried.{ClosesAtOnce}
-use Rattle.sv_driver_laws.specs.Carried.{ends_port}
+use Rattle.sv_driver_laws.specs.Carried.{ClosesAtOnce, ends_port}
 use Rattle.sv_driver_laws.proofs.LettingGo.{ClosesChannelsRightly, IsEnd, ClosesNoChannel, NoneClosesChannel, MayCloseChannel, may_close_none, may_close_one, closes_rightly_more, closes_rightly_event, none_not_some}
 use Rattle.sv_driver_laws.proofs.Handing.{HandsOver, WritesWaiting, AllWriteWaiting, IsNoWrite, NoneWritten, all_fit_none, hands_over_more_events, hands_over_silent, hands_over_event}
 use Rattle.sv_serve.proofs.Suited.{suited_is_applied}

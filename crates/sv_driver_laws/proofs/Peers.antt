@@ -31,8 +31,7 @@ use Rattle.sv_serve.specs.DriverView.{DriverView, ◌then◌}
 use Rattle.sv_serve.specs.Steps.{IsApplied, dialed_of, is_wanted, KeepsDial, CancelsUnwanted, ConnectResult, PollResult, DialsFor, Dials}
 use Rattle.sv_serve.specs.Sweep.{PlaysOne, Plays, Counts, TicksOnce, Passes, Stimulates}
 use Rattle.sv_driver_laws.specs.Served.{event_of, is_outer}
-use Rattle.sv_driver_laws.specs.Carried.{begins, read, taken_bytes}
-use Rattle.sv_driver_laws.specs.Carried.{ends_port}
+use Rattle.sv_driver_laws.specs.Carried.{begins, read, taken_bytes, ends_port}
 use Rattle.sv_driver_laws.proofs.LettingGo.{ClosesChannelsRightly, ClosesNoChannel, MayCloseChannel, may_close_none, none_not_some, shut_is_reason, unwanted_is_shut, some_is_injective}
 use Rattle.sv_driver_laws.proofs.Handing.{HandsOver, IsNoWrite, NoneWritten, fits_none}
 use Rattle.sv_driver_laws.proofs.Reasons.{IsNoFailure, NoneIsFailure, closing_silent}

@@ -2,8 +2,7 @@
 use Rattle.std.proofs.Common.{◌≡◌, ◌≢◌, ℕ, ◌+◌, Bool, true, false, cond, List, [], ◌∷◌, ◌++◌, Option, Some, None, refl, sym, ap, subst, ◌∙◌, inl, inr, ◌⊎◌}
 use Rattle.std.specs.Prelude.{not, pos}
 use Rattle.std.proofs.lemmas.Bool.{eqb-true}
-use Rattle.sv_vxi.specs.declared.error_code.ErrorCode.TheVariants.{NoError, NoLock, OutOfResources}
-use Rattle.sv_vxi.specs.declared.error_code.ErrorCode.TheVariants.{Locked as DeviceLocked}
+use Rattle.sv_vxi.specs.declared.error_code.ErrorCode.TheVariants.{NoError, NoLock, OutOfResources, Locked as DeviceLocked}
 use Rattle.sv_vxi.specs.Arguments.{DeviceLock, Arguments, CreateLink, OnLink}
 use Rattle.sv_vxi.specs.Results.{Outcome, Link, Plain}
 use Rattle.sv_links.specs.Links.{Made, Locked, Unlocked, is_this, links_made, lids_left, holder, is_locked_out}

@@ -1,8 +1,7 @@
 -- The arguments of a call bound how long it waits: first for the lock, and then for the device.
 use Rattle.std.proofs.Common.{◌≡◌, ◌≢◌, ℕ, ◌+◌, ◌≤◌, Bool, true, false, cond, List, Option, Some, None, refl, subst, inl, inr, ◌⊎◌, arith}
 use Rattle.std.specs.Prelude.{not, is_some, ◌&&◌, option_map, ℤ}
-use Rattle.sv_vxi.specs.declared.error_code.ErrorCode.TheVariants.{InvalidLink, ParameterError, NotAccessible, NotSupported, OutOfResources, InvalidAddress, AlreadyEstablished}
-use Rattle.sv_vxi.specs.declared.error_code.ErrorCode.TheVariants.{Locked as DeviceLocked}
+use Rattle.sv_vxi.specs.declared.error_code.ErrorCode.TheVariants.{InvalidLink, ParameterError, NotAccessible, NotSupported, OutOfResources, InvalidAddress, AlreadyEstablished, Locked as DeviceLocked}
 use Rattle.sv_vxi.specs.declared.arguments.LockWait.{LockWait}
 use Rattle.sv_vxi.specs.Arguments.{LinkCall, DeviceWrite, DeviceRead, Arguments, CreateLink, OnLink, CreateIntrChan, DestroyIntrChan, lock_wait}
 use Rattle.sv_links.specs.declared.waiting.Wait.{Wait}

@@ -1,9 +1,8 @@
 -- Text cut at the commas outside parentheses, one part after the other.
 use Rattle.std.proofs.Common.{◌≡◌, ℕ, zero, suc, ◌+◌, ◌<◌, ◌≤◌, ◌==◌, ◌&&◌, Bool, true, false, not, cond, List, [], ◌∷◌, ◌++◌, length, take, drop, refl, ap, ◌∙◌, arith}
 use Rattle.std.proofs.lemmas.Bool.{eqb-true}
-use Rattle.std.specs.List.{sum_by}
+use Rattle.std.specs.List.{sum_by, onto_first as onto}
 use Rattle.std.proofs.lemmas.List.Sums.{sum_by-append}
-use Rattle.std.specs.List.{onto_first as onto}
 use Rattle.sv_lexer.specs.Parameters.{cut_outside, is_open, opens, first_size, part_place}
 
 -- The bytes before a text matter only by whether a parenthesis is open after them.

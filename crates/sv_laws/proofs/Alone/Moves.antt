@@ -1,17 +1,16 @@
 -- The phases of a query that waits for the end of the measurement, and how each step and each quiet
 -- event changes them.
 use Rattle.std.proofs.Common.{append_assoc, ◌≡◌, ◌≢◌, ℕ, zero, suc, ◌+◌, ◌≤◌, Bool, true, false, List, [], ◌∷◌, ◌++◌, length, Option, Some, None, refl, sym, ap, subst, ◌∙◌, inl, inr, ◌⊎◌, arith, eq-eqb}
-use Rattle.std.specs.Prelude.{map, replicate, pos, not}
+use Rattle.std.specs.Prelude.{map, replicate, pos, not, drop}
 use Rattle.std.proofs.lemmas.Bool.{cases_eq}
 use Rattle.std.proofs.lemmas.List.{append_cancel_right, drop_all}
-use Rattle.std.specs.Prelude.{drop}
-use Rattle.sv_errors.specs.declared.source.Source.TheVariants.{Immediate}
+use Rattle.sv_errors.specs.declared.source.Source.TheVariants.{Immediate, External as ExternalSource}
 use Rattle.sv_vxi.specs.Arguments.{DeviceRead, OnLink}
 use Rattle.sv_links.specs.declared.waiting.Wait.{Wait}
 use Rattle.sv_links.specs.declared.waiting.Wait.TheVariants.{Response as ForResponse}
 use Rattle.sv_links.specs.Links.{LinkAct, holder}
 use Rattle.sv_links.specs.Waiting.{WaitAct, Left as LeftCall, waits, IsAble, IsExpired}
-use Rattle.sv_scan.specs.declared.acts.ScanAct.TheVariants.{Trigger}
+use Rattle.sv_scan.specs.declared.acts.ScanAct.TheVariants.{Trigger, Sample, Input as InputTo}
 use Rattle.sv_exchange.specs.Exchange.{ExchangeAct, UnitDone, Answered, Finished, ResponseRead, units, answers, fits_response, has_ended, response, due, Due, FinishDue, NothingDue}
 use Rattle.sv_exchange.specs.Limits.{max_message}
 use Rattle.sv_exchange.proofs.Responses.{response_read}
@@ -22,8 +21,6 @@ use Rattle.sv_instrument.specs.CommandEffect.{done, after_answering}
 use Rattle.sv_instrument.specs.Step.{after_release, is_answerable, StepOf, IsStep}
 use Rattle.std.specs.List.{AllByRecursion}
 use Rattle.sv_errors.specs.declared.code.Code.{Code}
-use Rattle.sv_errors.specs.declared.source.Source.TheVariants.{External as ExternalSource}
-use Rattle.sv_scan.specs.declared.acts.ScanAct.TheVariants.{Sample, Input as InputTo}
 use Rattle.sv_scan.specs.declared.setting.State.{State as ScanState}
 use Rattle.sv_scan.specs.declared.setting.State.TheVariants.{Scanning}
 use Rattle.sv_links.specs.Channels.{ChannelClosed, ChannelTaken}

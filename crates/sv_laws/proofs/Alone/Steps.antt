@@ -10,8 +10,7 @@ use Rattle.sv_layers.specs.Act.{Act as InstrumentAct, Exchanged, EntryTaken, exc
 use Rattle.sv_layers.specs.Standard as standard
 use Rattle.sv_instrument.specs.HeldUnit.{held_unit}
 use Rattle.sv_instrument.specs.Step.{IsStep}
-use Rattle.sv_instrument.proofs.NextStep.{step_of}
-use Rattle.sv_instrument.proofs.NextStep.{nothing_due as none_due}
+use Rattle.sv_instrument.proofs.NextStep.{step_of, nothing_due as none_due}
 use Rattle.sv_history.specs.declared.event.Config.{Config}
 use Rattle.sv_history.specs.Act.{Act, Applied, OnDevice, of, device_acts, link_acts, wait_acts, instrument_acts, ticks}
 use Rattle.sv_history.specs.Settling.{IsNext, IsSettled, SettlesIn}

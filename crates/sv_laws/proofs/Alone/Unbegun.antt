@@ -18,7 +18,7 @@ use Rattle.sv_scan.specs.declared.setting.State.TheVariants.{Scanning}
 use Rattle.sv_scan.specs.Counted.{trigger_fault}
 use Rattle.sv_exchange.specs.Exchange.{has_ended, has_overrun, is_long, current, text, messages, messages_finished, response, is_something}
 use Rattle.sv_exchange.specs.Limits.{max_message}
-use Rattle.sv_layers.specs.Act.{Act as InstrumentAct, Scanned}
+use Rattle.sv_layers.specs.Act.{Act as InstrumentAct, Scanned, exchange_acts as exchanged}
 use Rattle.sv_layers.specs.Condition.{effective_acts}
 use Rattle.sv_instrument.specs.Stimulus.{or_reported, where_scanning, or_nothing}
 use Rattle.sv_instrument.specs.Step.{is_answerable}
@@ -43,7 +43,6 @@ use Rattle.sv_history.proofs.Projections.{device_acts_append, device_effect, ins
 use Rattle.sv_laws.proofs.Facts.{all_append}
 use Rattle.sv_laws.proofs.EveryLog.EachEvent.{induction_over_history, turn_acts_in_order, refuse_keeps, close_acts, device_acts_of_close}
 use Rattle.sv_instrument.specs.HeldUnit.{held_unit}
-use Rattle.sv_layers.specs.Act.{exchange_acts as exchanged}
 use Rattle.sv_laws.proofs.Alone.Texts.{Left as Nothing, rest_unended, rest_short}
 use Rattle.sv_laws.proofs.Alone.Sound.{IsTame, NothingExecuted, Sound, sound_tame, step_sound}
 

@@ -1,9 +1,8 @@
 -- More program text makes no message shorter. Bytes without a new line end no message.
 use Rattle.std.proofs.Common.{◌≡◌, ◌≢◌, ℕ, zero, suc, ◌+◌, ◌<◌, ◌≤◌, Bool, true, false, cond, List, [], ◌∷◌, ◌++◌, length, map, refl, sym, ap, subst, ◌∙◌, append-nil, arith, lt-ltb}
 use Rattle.std.specs.Prelude.{slice_index_or, nat_lt, ◌==◌}
-use Rattle.std.specs.List.{AllByRecursion}
+use Rattle.std.specs.List.{AllByRecursion, onto_first as onto}
 use Rattle.std.proofs.lemmas.Bool.{ltb-true, ne_eqb}
-use Rattle.std.specs.List.{onto_first as onto}
 use Rattle.sv_exchange.specs.Exchange.{ExchangeAct, Accepted, Symbol, Byte, End, end_mark, text, messages, messages_finished, message, has_ended, is_long}
 use Rattle.sv_exchange.specs.Limits.{max_message}
 use Rattle.sv_laws.proofs.Cuts.SameExchange.{cut_write_has_same_text}

@@ -9,8 +9,7 @@ use Rattle.sv_rpc.specs.declared.call.CallFault.TheVariants.{BadHeader, Version}
 use Rattle.sv_rpc.specs.declared.reply.Reply.TheVariants.{ProgUnavail}
 use Rattle.sv_rpc.specs.Call.{PlainCall, call_at}
 use Rattle.sv_vxi.specs.declared.error_code.ErrorCode.{ErrorCode}
-use Rattle.sv_vxi.specs.declared.error_code.ErrorCode.TheVariants.{NoError, InvalidLink, ParameterError, IoTimeout}
-use Rattle.sv_vxi.specs.declared.error_code.ErrorCode.TheVariants.{Locked as DeviceLocked}
+use Rattle.sv_vxi.specs.declared.error_code.ErrorCode.TheVariants.{NoError, InvalidLink, ParameterError, IoTimeout, Locked as DeviceLocked}
 use Rattle.sv_vxi.specs.ErrorCode.{error_number}
 use Rattle.sv_vxi.specs.Arguments.{DeviceWrite, OnLink}
 use Rattle.sv_vxi.specs.Results.{Size}

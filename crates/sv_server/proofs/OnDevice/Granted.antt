@@ -2,8 +2,7 @@
 -- and whether a place and memory are reserved for its link.
 use Rattle.std.proofs.Common.{◌≡◌, ℕ, ◌<◌, ◌&&◌, Bool, true, false, cond, suc, List, [], ◌∷◌, nat_lt, Option, Some, None, refl, sym, ap, subst, ◌∙◌, arith}
 use Rattle.std.specs.Prelude.{ℤ, pos, negsuc, not, ◌||◌, is_none, is_some, option_map, Result, Ok, Err, IfOk, OnOk, OnErr, ◌==◌}
-use Rattle.sv_vxi.specs.declared.error_code.ErrorCode.TheVariants.{InvalidLink, ParameterError, IoTimeout, NotAccessible, NotSupported, OutOfResources, InvalidAddress}
-use Rattle.sv_vxi.specs.declared.error_code.ErrorCode.TheVariants.{Locked as DeviceLocked}
+use Rattle.sv_vxi.specs.declared.error_code.ErrorCode.TheVariants.{InvalidLink, ParameterError, IoTimeout, NotAccessible, NotSupported, OutOfResources, InvalidAddress, Locked as DeviceLocked}
 use Rattle.sv_vxi.specs.declared.arguments.LockWait.{LockWait}
 use Rattle.sv_vxi.specs.Arguments.{LinkCall, DeviceWrite, DeviceRead, Arguments, CreateLink, OnLink, CreateIntrChan, DestroyIntrChan, link, lock_wait, is_create_link}
 use Rattle.sv_links.specs.declared.waiting.Entry.{Entry}

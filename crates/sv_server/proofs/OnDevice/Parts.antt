@@ -5,8 +5,7 @@ use Rattle.std.proofs.lemmas.Bool.{cases_Bool, cases_eq, ne_eqb}
 use Rattle.std.proofs.lemmas.List.{length-append}
 use Rattle.sv_links.specs.declared.waiting.Entry.{Entry}
 use Rattle.sv_links.specs.declared.waiting.Wait.{Wait}
-use Rattle.sv_vxi.specs.declared.error_code.ErrorCode.TheVariants.{NoError, NoLock}
-use Rattle.sv_vxi.specs.declared.error_code.ErrorCode.TheVariants.{Locked as DeviceLocked}
+use Rattle.sv_vxi.specs.declared.error_code.ErrorCode.TheVariants.{NoError, NoLock, Locked as DeviceLocked}
 use Rattle.sv_vxi.specs.Results.{Outcome, Link, Plain}
 use Rattle.sv_links.specs.Links.{LinkAct, Made, Destroyed, Locked, Unlocked, live, links_of, closing, links_made, lids_left, may_make, holder, is_locked_out, is_this}
 use Rattle.sv_links.specs.declared.links.CreateRefused.{CreateRefused}

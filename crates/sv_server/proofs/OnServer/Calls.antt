@@ -4,7 +4,7 @@ use Rattle.std.proofs.Common.{◌≡◌, ℕ, ◌<◌, true, List, [], ◌∷◌
 use Rattle.std.specs.Prelude.{Option, Some, None}
 use Rattle.sv_vxi.specs.Results.{Outcome as VxiOutcome}
 use Rattle.sv_history.specs.declared.event.Config.{Config}
-use Rattle.sv_history.specs.Act.{DeviceAct, Replied}
+use Rattle.sv_history.specs.Act.{DeviceAct, Replied, ConnAct, Waited}
 use Rattle.sv_history.specs.CoreChannel.{own_call}
 use Rattle.sv_history.specs.CallOutcome.{CallOutcome, only}
 use Rattle.sv_history.specs.Effect.{Effect, result_reply, replies, call_effect}
@@ -18,7 +18,6 @@ use Rattle.sv_links.specs.declared.waiting.Wait.TheVariants.{Lock, Input, Respon
 use Rattle.sv_links.specs.Queue.{without, queue_measure}
 use Rattle.sv_links.specs.declared.waiting.Entry.{Entry}
 use Rattle.sv_links.specs.Waiting.{Left}
-use Rattle.sv_history.specs.Act.{ConnAct, Waited}
 use Rattle.sv_history.specs.CoreCall.{CoreCall, creates_link, failure}
 use Rattle.sv_history.specs.Interrupts.{connect_outcome}
 use Rattle.sv_history.specs.Resuming.{leaving, resume_outcome, next_wait}

@@ -20,11 +20,10 @@ use Rattle.sv_server.specs.Connection.Representation.{Connection}
 use Rattle.sv_server.specs.Device.Representation.{Device as KeptDevice}
 use Rattle.sv_history.specs.CoreCall.{creates_link}
 use Rattle.sv_server.specs.Server.State.{State, Represents, IsTaken}
-use Rattle.sv_server.specs.Server.Inside.Ending.{Concludes, ConcludesResumed}
+use Rattle.sv_server.specs.Server.Inside.Ending.{Concludes, ConcludesResumed, HasPlaceOfLink}
 use Rattle.sv_server.specs.declared.device.resuming.WakeReason.TheVariants.{Able}
 use Rattle.sv_server.specs.Server.Inside.Acting.{TakesStep}
 use Rattle.sv_server.specs.Device.Inside.Outcome.{InstrumentSteps, MayResume, MayWaitAnew}
-use Rattle.sv_server.specs.Server.Inside.Ending.{HasPlaceOfLink}
 use Rattle.sv_history.proofs.Projections.{of_others_effect}
 use Rattle.sv_server.proofs.OnDevice.Effects.{acts_of_effect_without_own}
 use Rattle.sv_server.proofs.OnServer.Taken.{taken_after_leaving, taken_anew, holds_for_entry}

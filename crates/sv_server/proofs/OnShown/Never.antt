@@ -1,5 +1,5 @@
 -- `explain` shows a connection without acts as one that was never opened.
-use Rattle.std.proofs.Common.{◌≡◌, ℕ, eqb, nat_lt, Bool, true, false, List, [], ◌∷◌, Some, None, refl, sym, arith, inl, inr}
+use Rattle.std.proofs.Common.{◌≡◌, ℕ, eqb, nat_lt, Bool, true, false, List, [], ◌∷◌, Some, None, refl, sym, arith, inl, inr, ◌<◌}
 use Rattle.std.specs.Prelude.{not}
 use Rattle.std.specs.List.{AllByRecursion}
 use Rattle.std.proofs.lemmas.Bool.{cases_Bool, eqb-true, le-ltb}
@@ -13,7 +13,6 @@ use Rattle.sv_history.proofs.Telling.{channel_open_by_channel_log}
 use Rattle.sv_history.proofs.Unrecorded.{nothing_faulted}
 use Rattle.sv_explain.specs.Shown.{IsConn, never_opened}
 use Rattle.sv_server.specs.Server.State.{State, Represents, IsTaken}
-use Rattle.std.proofs.Common.{◌<◌}
 
 -- A connection without acts has no suspended call.
 no_entry : (log : List Act) (c : ℕ) (entries : List Entry) → of c log ≡ [] → AllByRecursion (IsTaken log) entries

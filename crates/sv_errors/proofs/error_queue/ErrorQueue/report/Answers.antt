@@ -1,8 +1,7 @@
 -- The ring buffer keeps all codes, because there are never more than its capacity.
 use Rattle.std.proofs.Common.{◌≡◌, ℕ, ◌+◌, ◌-◌, ◌<◌, ◌≤◌, List, [], ◌∷◌, ◌++◌, length, take, drop, ap, ◌∙◌, arith, rules, length-append}
-use Rattle.std.proofs.lemmas.List.{length-map}
+use Rattle.std.proofs.lemmas.List.{length-map, length-take-le}
 use Rattle.std.specs.Prelude.{◌==◌, min, nat_le}
-use Rattle.std.proofs.lemmas.List.{length-take-le}
 use Rattle.circular_buffer.specs.Buffer.{keep_last}
 use Rattle.sv_errors.specs.declared.code.Code.{Code}
 use Rattle.sv_errors.specs.declared.code.Code.TheVariants.{QueueOverflow}

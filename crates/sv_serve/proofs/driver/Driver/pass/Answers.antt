@@ -1,6 +1,5 @@
 use Rattle.std.proofs.Common.{refl, arith, ℕ, ◌+◌}
-use Rattle.sv_serve.specs.DriverView.{driver_view}
-use Rattle.sv_serve.specs.DriverView.{◌then◌}
+use Rattle.sv_serve.specs.DriverView.{driver_view, ◌then◌}
 use Rattle.sv_serve.specs.Sweep.{Plays, TicksOnce}
 use Rattle.sv_serve.proofs.Joined.{for_each_one_more, for_each_equal}
 use Rattle.sv_serve.proofs.driver.Driver.pass.Goals as goal

@@ -1,9 +1,8 @@
-use Rattle.std.proofs.Common.{◌∷◌}
+use Rattle.std.proofs.Common.{◌∷◌, ◌++◌}
 use Rattle.sv_links.specs.Links.{closing}
 use Rattle.sv_links.specs.Waiting.{Left}
 use Rattle.sv_history.specs.Act.{Waited, Linked, link_acts, wait_acts}
 use Rattle.std.specs.Prelude.{map}
-use Rattle.std.proofs.Common.{◌++◌}
 use Rattle.sv_server.proofs.OnDevice.Parts.{device_left, device_closed}
 use Rattle.sv_server.proofs.OnDevice.Channeled.{device_cancelled}
 use Rattle.sv_server.proofs.device.Device.close_connection.Goals as goal

@@ -1,9 +1,8 @@
 use Rattle.std.proofs.Common.{None, sym, ap, ◌∙◌}
-use Rattle.sv_history.specs.Act.{of, device_acts}
+use Rattle.sv_history.specs.Act.{of, device_acts, ConnAct}
 use Rattle.sv_history.specs.Connection.{pending_call}
 use Rattle.sv_history.specs.Request.{core_call_in}
 use Rattle.std.specs.Prelude.{List}
-use Rattle.sv_history.specs.Act.{ConnAct}
 use Rattle.sv_server.proofs.OnDevice.Channels.{dial_is, no_dial}
 use Rattle.sv_server.proofs.server.Server.dial.Goals as goal
 
