@@ -40,6 +40,7 @@ impl<A: Allocator> Server<A> {
     /// # Errors
     /// As for `replay`. If the writer fails in the lines that come before, the event is applied,
     /// and no byte counts as taken.
+    #[inline(always)]
     pub fn explain<W: Write>(
         &mut self,
         event: Event<'_>,
