@@ -20,11 +20,20 @@ import rounds
 
 HERE = os.path.dirname(os.path.abspath(__file__))
 HEADER = ("date", "commit", "machine", "bench", "measure", "unit", "value", "round")
-FORMS = {"date": r"\d{4}-\d\d-\d\d", "commit": r"[0-9a-f]{7,40}\+?( over [0-9a-f]{7,40}\+?)?", "value": r"-?\d+(\.\d+)?",
-         "round": r"(of )?[1-9]\d*|"}
+FORMS = {
+    "date": r"\d{4}-\d\d-\d\d",
+    "commit": r"[0-9a-f]{7,40}\+?( over [0-9a-f]{7,40}\+?)?",
+    "value": r"-?\d+(\.\d+)?",
+    "round": r"(of )?[1-9]\d*|",
+}
 AIM = re.compile(r"at (least|most) (-?\d+(?:\.\d+)?)")
-DIGITS = {"ratio": 2, "ms": 1, "percent": 1, "min": 1}      # digits after the point; of other units none
-LAYOUT = "%-70s %12s %-12s %s"
+# Digits after the point; of other units none.
+DIGITS = {"ratio": 2, "ms": 1, "percent": 1, "min": 1}
+
+
+def laid_out(name, found, unit, aim):
+    """A line of the table that a bench prints."""
+    return f"{name:<70} {found:>12} {unit:<12} {aim}".rstrip()
 
 
 class Unknown(ValueError):
@@ -36,11 +45,13 @@ class Measure(collections.namedtuple("Measure", "bench measure unit aim shown"))
 
     def text(self, value):
         """A value as it is shown."""
-        return "{:,.{}f}".format(value, DIGITS.get(self.unit, 0))
+        return f"{value:,.{DIGITS.get(self.unit, 0)}f}"
 
     def plain(self, value):
         """A value as it is kept, with more digits."""
-        return "%d" % value if value == int(value) else "%.*f" % (DIGITS.get(self.unit, 0) + 2, value)
+        if value == int(value):
+            return str(int(value))
+        return f"{value:.{DIGITS.get(self.unit, 0) + 2}f}"
 
     def is_missed(self, value):
         """Whether a value misses the aim."""
@@ -64,7 +75,7 @@ def find(bench, name):
         pattern = re.sub(r"\\\{\w+\\\}", r"\\w+", re.escape(one.measure))
         if one.bench == bench and re.fullmatch(pattern, name):
             return one
-    raise Unknown("%s has no measure `%s`: bench/measures.csv lists all" % (bench, name))
+    raise Unknown(f"{bench} has no measure `{name}`: bench/measures.csv lists all")
 
 
 class Found:
@@ -75,7 +86,7 @@ class Found:
 
     @staticmethod
     def head():
-        print(LAYOUT % ("measure", "found", "unit", "aim"), flush=True)
+        print(laid_out("measure", "found", "unit", "aim"), flush=True)
 
     def row(self, name, value, number=""):
         """Prints a value, and takes it into the results. `number` is its round."""
@@ -96,14 +107,20 @@ class Found:
     def show(self, name, value):
         """Prints a value, and notes whether it misses its aim."""
         measure = find(self.bench, name)
-        print((LAYOUT % (name, measure.text(value), measure.unit, measure.aim)).rstrip(), flush=True)
+        text = measure.text(value)
+        print(laid_out(name, text, measure.unit, measure.aim), flush=True)
         if measure.is_missed(value):
-            self.missed.append("%s: %s, and not %s" % (name, measure.text(value), measure.aim))
+            self.missed.append(f"{name}: {text}, and not {measure.aim}")
 
     def keep(self, *commit):
         """Appends the values to the results, with a commit other than that of the working tree. Returns whether that was done."""
-        text = "".join("%s\t%s\t%s\n" % (name, find(self.bench, name).plain(value), number) for name, value, number in self.rows)
-        done = subprocess.run([rounds.TOP / "tools/results", self.bench, *commit], input=text, text=True, check=False)
+        text = "".join(
+            f"{name}\t{find(self.bench, name).plain(value)}\t{number}\n"
+            for name, value, number in self.rows
+        )
+        done = subprocess.run(
+            [rounds.TOP / "tools/results", self.bench, *commit], input=text, text=True, check=False
+        )
         return done.returncode == 0
 
 
@@ -118,21 +135,24 @@ def faults(folder):
     """What is wrong with the files of results in a folder, a line each."""
     for path, lines in results(folder):
         if not lines or tuple(lines[0][1]) != HEADER:
-            yield "%s:1: its columns aren't %s" % (path, ",".join(HEADER))
+            yield f"{path}:1: its columns aren't {','.join(HEADER)}"
             continue
         for number, fields in lines[1:]:
             row = dict(zip(HEADER, fields))
-            wrong = [name for name, form in FORMS.items() if not re.fullmatch(form, row.get(name, "?"))]
+            wrong = [
+                name for name, form in FORMS.items() if not re.fullmatch(form, row.get(name, "?"))
+            ]
             if len(fields) != len(HEADER) or wrong:
-                yield "%s:%d: no line of results: %s" % (path, number, ", ".join(wrong) or "%d columns" % len(fields))
+                fault = ", ".join(wrong) or f"{len(fields)} columns"
+                yield f"{path}:{number}: no line of results: {fault}"
                 continue
             try:
                 unit = find(row["bench"], row["measure"]).unit
             except Unknown as fault:
-                yield "%s:%d: %s" % (path, number, fault)
+                yield f"{path}:{number}: {fault}"
                 continue
             if row["unit"] != unit or row["bench"] + ".csv" != os.path.basename(path):
-                yield "%s:%d: the bench or the unit isn't that of the measure (%s)" % (path, number, unit)
+                yield f"{path}:{number}: the bench or the unit isn't that of the measure ({unit})"
 
 
 def newest(lines):
@@ -141,8 +161,11 @@ def newest(lines):
     for _, fields in lines[1:]:
         row = dict(zip(HEADER, fields))
         runs.setdefault((row["date"], row["commit"]), []).append(row)
-    told = [(run[0], place, rows) for place, (run, rows) in enumerate(runs.items())
-            if any(find(row["bench"], row["measure"]).shown for row in rows)]
+    told = [
+        (run[0], place, rows)
+        for place, (run, rows) in enumerate(runs.items())
+        if any(find(row["bench"], row["measure"]).shown for row in rows)
+    ]
     return max(told, key=lambda one: one[:2])[2] if told else []
 
 
@@ -151,17 +174,26 @@ def figure(measure, rows):
     each = [float(row["value"]) for row in rows if row["round"].isdigit()]
     if not each:
         return measure.text(float(rows[-1]["value"]))
-    return "%s (%s to %s)" % tuple(map(measure.text, (rounds.median(each), *rounds.interval(each))))
+    middle, least, most = map(measure.text, (rounds.median(each), *rounds.interval(each)))
+    return f"{middle} ({least} to {most})"
 
 
 def figures(folder):
     """The lines of a table: each measure that is shown, in the newest run of its bench."""
     yield "| Bench | Measure | Found | Unit | Aim | Program |"
     yield "|---|---|---|---|---|---|"
-    runs = {os.path.basename(path)[:-len(".csv")]: newest(lines) for path, lines in results(folder)}
+    runs = {
+        os.path.basename(path)[: -len(".csv")]: newest(lines) for path, lines in results(folder)
+    }
     for measure in known():
         rows = [row for row in runs.get(measure.bench, []) if row["measure"] == measure.measure]
         if measure.shown and rows:
-            yield "| [%s](../bench/results/%s.csv) | %s | %s | %s | %s | %s, %s |" % (
-                measure.bench, measure.bench, measure.measure, figure(measure, rows), measure.unit, measure.aim or "none",
-                rows[0]["commit"], rows[0]["date"])
+            fields = (
+                f"[{measure.bench}](../bench/results/{measure.bench}.csv)",
+                measure.measure,
+                figure(measure, rows),
+                measure.unit,
+                measure.aim or "none",
+                f"{rows[0]['commit']}, {rows[0]['date']}",
+            )
+            yield f"| {' | '.join(fields)} |"

@@ -1,4 +1,4 @@
-"""What the commands of bench/ have in common: programs that are measured in turn, their time, the load of servers, and medians."""
+"""What the commands of bench/ share: programs that are measured in turn, their time, the load of servers, and medians."""
 import os
 import pathlib
 import resource
@@ -49,7 +49,7 @@ def interval(values):
     while True:
         ways = ways * (count - left) // (left + 1)
         below += ways
-        if below > 0.025 * 2 ** count:
+        if below > 0.025 * 2**count:
             return ordered[left], ordered[-1 - left]
         left += 1
 
@@ -79,7 +79,7 @@ def make_script(folder, name, kind, *counts):
     """Writes NAME.script, and NAME.expected, what its replay has to print (bench/scripts)."""
     words = [HERE / "scripts", kind, name, *map(str, counts)]
     if subprocess.run(words, cwd=folder, check=False).returncode:
-        raise Failure("the script of %s isn't made" % kind)
+        raise Failure(f"the script of {kind} isn't made")
     return pathlib.Path(folder, name + ".script")
 
 
@@ -91,7 +91,7 @@ def printed_by(program, word, script, printed):
         done = subprocess.run([program, word], stdin=read, stdout=written, check=False)
         took = time.monotonic() - begun
     if done.returncode:
-        raise Failure("on the script %s `%s %s` failed: %d" % (script.stem, program, word, done.returncode))
+        raise Failure(f"on the script {script.stem} `{program} {word}` failed: {done.returncode}")
     after = resource.getrusage(resource.RUSAGE_CHILDREN)
     return took, after.ru_utime - used.ru_utime + after.ru_stime - used.ru_stime
 
@@ -100,10 +100,16 @@ def compiled(folder, name, sources, *words):
     """Compiles a program of C in a folder, and returns its path."""
     if shutil.which("cc") is None:
         raise Failure("a C compiler is missing (Debian's gcc)")
-    done = subprocess.run(["cc", "-O2", "-Wall", "-o", name, *sources, *words], cwd=folder, check=False,
-                          stdout=subprocess.PIPE, stderr=subprocess.STDOUT, text=True)
+    done = subprocess.run(
+        ["cc", "-O2", "-Wall", "-o", name, *sources, *words],
+        cwd=folder,
+        check=False,
+        stdout=subprocess.PIPE,
+        stderr=subprocess.STDOUT,
+        text=True,
+    )
     if done.returncode:
-        raise Failure("%s isn't built:\n%s" % (name, done.stdout))
+        raise Failure(f"{name} isn't built:\n{done.stdout}")
     return str(pathlib.Path(folder, name))
 
 
@@ -117,6 +123,11 @@ def pinned(core):
     return [] if core is None else ["taskset", "-c", core]
 
 
+def load_name(kind, connections, core):
+    """How a load is named in a measure. Any core is used if `core` is None."""
+    return f"{kind} on {connections}{'' if core is None else ', on one core'}"
+
+
 def load(built, kind, port, connections, seconds, core=None):
     """What bench/load.c finds: queries a second, replies, and replies that are lost."""
     words = pinned(core) + [built, kind, str(port), str(connections), str(seconds)]
@@ -124,5 +135,5 @@ def load(built, kind, port, connections, seconds, core=None):
     try:
         rate, replies, lost = map(int, done.stdout.split())
     except ValueError:
-        raise Failure("no load of %s on %d connections" % (kind, connections)) from None
+        raise Failure(f"no load of {kind} on {connections} connections") from None
     return rate, replies, lost

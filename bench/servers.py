@@ -9,20 +9,20 @@ from rounds import Failure
 
 sys.path.insert(0, str(rounds.TOP / "python"))
 
-from scanvolt.lifeline import Tied                              # noqa: E402
-from scanvolt.program import ProgramError, Server, free_ports   # noqa: E402
-from tests.browser import CHROMIUM, Browser                     # noqa: E402
+from scanvolt.lifeline import Tied  # noqa: E402
+from scanvolt.program import ProgramError, Server, free_ports  # noqa: E402
+from tests.browser import CHROMIUM, Browser  # noqa: E402
 
 __all__ = ["CHROMIUM", "Browser", "free_ports", "other", "panel", "scanvolt"]
-PATIENCE = 10       # seconds that another server, or a panel, may take until it is ready
-PAGE = 30           # seconds that the page of a panel may take
-SHOWS = "typeof state == 'object' && state"     # what its script says when it shows the instrument
+PATIENCE = 10  # seconds that another server, or a panel, may take until it is ready
+PAGE = 30  # seconds that the page of a panel may take
+SHOWS = "typeof state == 'object' && state"  # what its script says when it shows the instrument
 
 
 class Endless(Server):
     """It serves until it is stopped."""
 
-    _sweeps = 2 ** 32 - 1
+    _sweeps = 2**32 - 1
 
 
 @contextlib.contextmanager
@@ -49,7 +49,8 @@ def other(command, core=None):
 @contextlib.contextmanager
 def panel(program, browser):
     """A scanvolt with a panel, whose page is open in a browser. Gives the core port."""
-    command = ["env", "PYTHONPATH=%s" % (rounds.TOP / "python"), sys.executable, "-u", "-m", "scanvolt.panel", "--program", program]
+    environment = ["env", f"PYTHONPATH={rounds.TOP / 'python'}"]
+    command = [*environment, sys.executable, "-u", "-m", "scanvolt.panel", "--program", program]
     with Tied(command) as tied:
         address = told(tied.process, b"panel", command).split()[1]
         core = int(told(tied.process, b"ready", command).split()[1])
@@ -76,5 +77,5 @@ def told(process, word, command):
             break
         line += piece
     if not line.startswith(word):
-        raise Failure("`%s` isn't ready" % " ".join(command))
+        raise Failure(f"`{' '.join(command)}` isn't ready")
     return line

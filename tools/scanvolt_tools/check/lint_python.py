@@ -13,7 +13,7 @@ from concurrent.futures import ThreadPoolExecutor
 from ..repository import Repository
 from .writing import printed
 
-FOLDERS = ("python/", "examples/", "tools/")
+FOLDERS = ("python/", "examples/", "tools/", "bench/")
 BLACK = ["black", "--config", "pyproject.toml", "--check"]
 UNFORMATTED = re.compile(r"would reformat (.*)")
 BROKEN = re.compile(r"error: cannot format (.*)")
