@@ -149,12 +149,11 @@ class Telling(unittest.TestCase):
         capture.asks(100, 1, words(7))
         counted = self.folder.write(
             "counted",
-            """#!/bin/sh
+            f"""#!/bin/sh
 echo begun >> "$0.runs"
 [ $(wc -l < "$0.runs") -lt 2 ] || exec sleep 60
-exec %s replay
-"""
-            % self.folder.replay,
+exec {self.folder.replay} replay
+""",
             0o755,
         )
         told_text = self.begin(capture, "--program", counted).decode()

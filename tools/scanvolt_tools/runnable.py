@@ -12,16 +12,16 @@ BEGINNINGS = (b"\x7fELF", b"#!")
 def why_not(path: str) -> str | None:
     """Why a program can't be run; None if it can."""
     if not os.path.exists(path):
-        return "there is no %s" % path
+        return f"there is no {path}"
     if os.path.isdir(path):
-        return "%s is a folder" % path
+        return f"{path} is a folder"
     if not os.path.isfile(path) or not os.access(path, os.R_OK):
-        return "%s is no file that can be read" % path
+        return f"{path} is no file that can be read"
     if not os.access(path, os.X_OK):
-        return "%s may not be executed" % path
+        return f"{path} may not be executed"
     with open(path, "rb") as file:
         if not file.read(4).startswith(BEGINNINGS):
-            return "%s is neither a program nor a script" % path
+            return f"{path} is neither a program nor a script"
     return None
 
 
@@ -29,7 +29,7 @@ def runs(path: str) -> bool:
     """Whether a program can be run. If not, says why."""
     why = why_not(path)
     if why is not None:
-        print("the program can't be run: %s" % why, file=sys.stderr)
+        print(f"the program can't be run: {why}", file=sys.stderr)
     return why is None
 
 

@@ -29,7 +29,7 @@ PRINTS = "#!/bin/sh\nexec cat\n"
 def loaded(path: str) -> Any:
     """A command as a module."""
     loader = importlib.machinery.SourceFileLoader(
-        os.path.basename(path) + "_command", "%s/%s" % (TOP, path)
+        os.path.basename(path) + "_command", f"{TOP}/{path}"
     )
     spec = importlib.util.spec_from_loader(loader.name, loader)
     assert spec is not None
@@ -124,23 +124,23 @@ class Measures(unittest.TestCase):
                 for ending in (", explained", ", explained over replayed")
                 if name in run.EXPLAINS
             }
-            names |= {("turn", "%s %s" % (word, name)) for word in ("replay", "explain")}
+            names |= {("turn", f"{word} {name}") for word in ("replay", "explain")}
         names |= {
-            ("turn", "serve %s on %d%s" % (*load, part))
-            for load in loaded("bench/turn").LOADS
+            ("turn", f"serve {kind} on {count}{part}")
+            for kind, count in loaded("bench/turn").LOADS
             for part in ("", ", on one core")
         }
         for part, loads in ("", serve.ANY_CORE), (", on one core", serve.ONE_CORE):
             for other, (kind, count) in [("peer", one) for one in loads] + [("echo", ("idn", 1))]:
                 names |= {
-                    ("serve", "%s on %d%s, %s" % (kind, count, part, ending))
+                    ("serve", f"{kind} on {count}{part}, {ending}")
                     for ending in ("over the " + other, "beside the " + other, "the " + other)
                 }
         names |= {
-            ("serve", "%s on %d%s, with%s" % (kind, count, part, ending))
+            ("serve", f"{kind} on {count}{part}, with{ending}")
             for kind, count in serve.ANY_CORE
             for what, part in (("record", ", on one core"), ("panel", ""))
-            for ending in (" a %s over without" % what, " a " + what, "out a " + what)
+            for ending in (f" a {what} over without", " a " + what, "out a " + what)
         }
         names |= {
             ("hostile", name + ending)
@@ -195,8 +195,8 @@ class Measures(unittest.TestCase):
                 found = measures.Found(bench)
                 found.take(name, value, "of 3")
                 self.assertTrue(found.keep())
-            self.assertEqual(run.call_args[1]["input"], "%s\t%s\tof 3\n" % (name, kept))
-            self.assertRegex(kept, "^(%s)$" % measures.FORMS["value"])
+            self.assertEqual(run.call_args[1]["input"], f"{name}\t{kept}\tof 3\n")
+            self.assertRegex(kept, f"^({measures.FORMS['value']})$")
 
 
 class Run(Folders):
@@ -263,7 +263,7 @@ class Turn(Folders):
         self.assertEqual(lines[:2], ["A: " + first, "B: " + second])
         self.assertRegex(
             lines[3],
-            r"^replay %s: events a second +[\d,]+ +[\d,]+ +(\d\.\d{3})  \1 to \1$" % self.replayed,
+            rf"^replay {self.replayed}: events a second +[\d,]+ +[\d,]+ +(\d\.\d{{3}})  \1 to \1$",
         )
 
     def test_other_lines_are_told(self) -> None:
@@ -271,13 +271,13 @@ class Turn(Folders):
             self.script("first", PRINTS), self.script("second", "#!/bin/sh\necho other\n")
         )
         self.assertEqual(status, 1)
-        self.assertIn("replay %s: A and B print different lines\n" % self.replayed, told)
+        self.assertIn(f"replay {self.replayed}: A and B print different lines\n", told)
 
     def test_a_program_that_fails_is_told(self) -> None:
         second = self.script("second", "#!/bin/sh\nexit 7\n")
         status, told = self.turn(self.script("first", PRINTS), second)
         self.assertEqual(status, 2)
-        self.assertIn("turn: on the script a `%s replay` failed: 7" % second, told)
+        self.assertIn(f"turn: on the script a `{second} replay` failed: 7", told)
         status, told = self.turn(second, self.folder)
         self.assertEqual(status, 2)
         self.assertIn("is a folder", told)

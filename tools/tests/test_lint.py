@@ -56,12 +56,12 @@ class Linting(Folders):
             for name in names:
                 self.write(name, PASSES + crash + "\n", 0o755)
             self.assertEqual(
-                self.lint(), ["lint: %s ended with status %d" % (name, status) for name in names]
+                self.lint(), [f"lint: {name} ended with status {status}" for name in names]
             )
         for name in names:
             self.write(name, "#!/usr/bin/env python3\nraise KeyError\n", 0o755)
         lines, said = self.linted()
-        self.assertEqual(lines, ["lint: %s ended with status 1" % name for name in names])
+        self.assertEqual(lines, [f"lint: {name} ended with status 1" for name in names])
         self.assertIn("KeyError", said)
 
     def test_a_part_that_crashes_behind_its_lines_is_told(self) -> None:

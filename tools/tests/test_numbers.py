@@ -64,7 +64,8 @@ class Numbers(Folders):
                 with self.subTest(text, name=name):
                     status, told = self.told(name, first + text + "\n")
                     self.assertEqual(status, 1)
-                    self.assertIn("%s:%d: " % (name, 1 + first.count("\n")), told)
+                    number = 1 + first.count("\n")
+                    self.assertIn(f"{name}:{number}: ", told)
 
     def test_what_is_fine(self) -> None:
         for text in FINE:

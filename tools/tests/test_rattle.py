@@ -245,8 +245,8 @@ class Errors(Crates):
             self.assertEqual(status, 1)
             self.assertRegex(
                 lines,
-                r"^crates/one/src/inside.rt:\d+: %s answers a Result, and its comment has no '# Errors'\n$"
-                % name,
+                rf"^crates/one/src/inside.rt:\d+: {name} answers a Result, "
+                r"and its comment has no '# Errors'\n$",
             )
 
     def test_functions_of_an_open_module_want_it(self) -> None:

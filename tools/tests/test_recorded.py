@@ -18,7 +18,7 @@ Entry = tuple[str, int, int, bytes]
 # A connection gets two bytes, and is sent four; its channel is sent two calls. Then another connection has its number.
 RECORD = "open 0 core\nbytes 0 0102\nturn 0\ndialed 0 ok\ntick 5\nclose c0\nopen 0 core\n"
 SENT = b"".join(map(record, (b"\x11", b"\x22", b"\x33")))
-PRINTED = "refused 8\nc0 0a0b\nc0 0c0d\nrefused 8\ni0 %s\nrefused 8\nc0 0e\n" % SENT.hex()
+PRINTED = f"refused 8\nc0 0a0b\nc0 0c0d\nrefused 8\ni0 {SENT.hex()}\nrefused 8\nc0 0e\n"
 FIRST: list[Entry] = [
     ("a", 7, 4096, b""),
     ("o", 7, 0, b""),
@@ -54,7 +54,7 @@ class Compared(Folders):
         program = self.at / "program"
         (self.at / "record").write_text(record)
         (self.at / "out").write_text(printed)
-        program.write_text("#!/bin/sh\ncat > /dev/null\ncat '%s'\n" % (self.at / "out"))
+        program.write_text(f"#!/bin/sh\ncat > /dev/null\ncat '{self.at / 'out'}'\n")
         program.chmod(0o700)
         (self.at / "tap").write_bytes(
             b"".join(

@@ -19,7 +19,7 @@ class Changelog(unittest.TestCase):
         told = debian_changelog.text(0)
         assert told is not None
         version = Repository(TOP).text("VERSION").strip()
-        self.assertTrue(told.startswith("scanvolt (%s) unstable; urgency=medium\n\n  * " % version))
+        self.assertTrue(told.startswith(f"scanvolt ({version}) unstable; urgency=medium\n\n  * "))
         self.assertTrue(told.endswith("  Thu, 01 Jan 1970 00:00:00 +0000\n"))
 
 

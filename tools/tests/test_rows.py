@@ -101,7 +101,7 @@ class Messages(Rows):
         self.assertEqual(Scripts().asked("0 null part=1..2"), ["bytes 0 " + whole[:2].hex()])
         self.assertEqual(Scripts(True).asked("0 null times=2"), ["bytes 0 " + 2 * whole.hex()])
         self.assertEqual(
-            Scripts().asked("0 null singly"), ["bytes 0 %02x" % byte for byte in whole]
+            Scripts().asked("0 null singly"), [f"bytes 0 {byte:02x}" for byte in whole]
         )
 
     def test_replies(self) -> None:
@@ -161,9 +161,7 @@ class Messages(Rows):
             ("reply 0 null xid=9", 9),
             ("reply 1 null", 10),
         ):
-            self.assertEqual(
-                reading.wanted(line), "c%s %s" % (line.split()[1], encode_reply(xid).hex())
-            )
+            self.assertEqual(reading.wanted(line), f"c{line.split()[1]} {encode_reply(xid).hex()}")
         reading.asked("0 null")
         reading.asked("0 close")
         self.assertEqual(reading.asked("0 null")[0].split()[3], "0000000c")
@@ -179,9 +177,7 @@ class Messages(Rows):
         self.assertEqual(driver.read("reply 0 null"), ([], ["write c0 " + reply]))
         self.assertEqual(driver.read("> sweep 0"), ([], ["sweep 0"]))
         self.assertEqual(sockets.read("a null joined"), (["a < " + null], []))
-        self.assertEqual(
-            sockets.read("reply a null"), (["a > %d" % (len(reply) // 2)], ["a " + reply])
-        )
+        self.assertEqual(sockets.read("reply a null"), ([f"a > {len(reply) // 2}"], ["a " + reply]))
         self.assertEqual(
             Parts().read("queue take -> Taken(None)"), (["queue take"], ["-> Taken(None)"])
         )
@@ -218,24 +214,22 @@ def turned(connection: int, call: str, reply: str) -> str:
 
 
 def linked(connection: int, lid: int) -> str:
-    return "%d open core\n" % connection + turned(
+    return f"{connection} open core\n" + turned(
         connection,
         'create_link device="inst0"',
-        "create_link lid=%d abortPort=4097 maxRecvSize=4096" % lid,
+        f"create_link lid={lid} abortPort=4097 maxRecvSize=4096",
     )
 
 
 def written(lid: int, text: str, size: int, more: str = "") -> str:
-    return turned(
-        0, 'device_write lid=%d %s end "%s"' % (lid, more, text), "device_write size=%d" % size
-    )
+    return turned(0, f'device_write lid={lid} {more} end "{text}"', f"device_write size={size}")
 
 
 def read_back(lid: int, text: str, more: str = "") -> str:
     return turned(
         0,
-        "device_read lid=%d requestSize=256 %s" % (lid, more),
-        'device_read reason=end "%s\\n"' % text,
+        f"device_read lid={lid} requestSize=256 {more}",
+        f'device_read reason=end "{text}\\n"',
     )
 
 
@@ -325,7 +319,7 @@ class ShortForms(Rows):
                 with self.assertRaises(TextError) as raised:
                     rows_of(path)
                 self.assertTrue(
-                    str(raised.exception).startswith("%s:2: %s" % (path, said)), raised.exception
+                    str(raised.exception).startswith(f"{path}:2: {said}"), raised.exception
                 )
 
     def test_a_form_needs_a_connection_without_calls_that_wait(self) -> None:
@@ -379,16 +373,14 @@ class Streams(Rows):
         write = calls.device_write(1, b"ab", 0).encode(1)
         self.assertEqual(
             asked,
-            "= one link\nopen 0 core\nbytes 0 %s\nturn 0\n\n= a write\nbytes 0 %s\nturn 0\n"
-            % (spaced, write.hex()),
+            f"= one link\nopen 0 core\nbytes 0 {spaced}\nturn 0\n\n"
+            f"= a write\nbytes 0 {write.hex()}\nturn 0\n",
         )
+        linked = encode_reply(1, words(0, 1, 0, 0)) + encode_reply(2)
+        written = encode_reply(1, words(0, 2))
         self.assertEqual(
             wanted,
-            "= one link\nc0 %s\n= a write\nc0 %s\nrefused 4\na b \n"
-            % (
-                (encode_reply(1, words(0, 1, 0, 0)) + encode_reply(2)).hex(),
-                encode_reply(1, words(0, 2)).hex(),
-            ),
+            f"= one link\nc0 {linked.hex()}\n= a write\nc0 {written.hex()}\nrefused 4\na b \n",
         )
 
     def test_single_bytes_are_made_of_the_others(self) -> None:
@@ -409,14 +401,14 @@ class Streams(Rows):
         path = self.write("one/rows/a.rows", ROWS + "0 nothing\n")
         line = ROWS.count("\n") + 1
         status, told = self.tool("rows", "--check", self.folder + "/one")
-        self.assertEqual((status, told), (1, "%s:%d: no call of VXI-11: nothing\n" % (path, line)))
+        self.assertEqual((status, told), (1, f"{path}:{line}: no call of VXI-11: nothing\n"))
         self.write("one/rows/a.rows", ROWS + "\ntitle a write\n")
         self.assertIn(
             "another row has this title", self.tool("rows", "--check", self.folder + "/one")[1]
         )
         self.write("one/rows/a.rows", ROWS + 500 * "\n")
         self.assertIn(
-            "a.rows: %d lines" % (500 + line - 1),
+            f"a.rows: {500 + line - 1} lines",
             self.tool("rows", "--check", self.folder + "/one")[1],
         )
         self.assertFalse(os.path.exists(self.folder + "/one/stdin"))
@@ -442,7 +434,7 @@ class Differences(Rows):
         status, told = self.told(self.wanted.replace(encode_reply(1, words(0, 2)).hex(), came))
         self.assertEqual(status, 1)
         lines = told.split("\n")
-        self.assertEqual(lines[0], "%s:10: a write" % self.path)
+        self.assertEqual(lines[0], f"{self.path}:10: a write")
         self.assertIn('  call    0 device_write "ab" lid=1 end', lines)
         at = lines.index("  wanted  reply 0 device_write size=2 xid=1")
         self.assertEqual(
@@ -474,10 +466,7 @@ class Differences(Rows):
                 replies[0],
                 encode_reply(1, words(0, 2, 4097, 4096)),
                 'create_link device="inst0"',
-                [
-                    "create_link lid=%d abortPort=4097 maxRecvSize=4096 xid=1" % lid
-                    for lid in (1, 2)
-                ],
+                [f"create_link lid={lid} abortPort=4097 maxRecvSize=4096 xid=1" for lid in (1, 2)],
             ),
             (
                 replies[1],
@@ -524,8 +513,8 @@ class Differences(Rows):
         status, told = self.tool("row-diff", self.folder + "/two")
         self.assertEqual(status, 1)
         self.assertIn(
-            "%s:1: a role\n  kind explain\n  | 0 open core\n  | @ 1 0\n  wanted  = c0.role core\n  came    = c0.role abort\n"
-            % path,
+            f"{path}:1: a role\n  kind explain\n  | 0 open core\n  | @ 1 0\n"
+            "  wanted  = c0.role core\n  came    = c0.role abort\n",
             told,
         )
         self.assertIn("1 of 4 rows differ", told)

@@ -36,7 +36,7 @@ class Beside(threading.Thread):
                     self.slowest = max(self.slowest, time.monotonic() - begun)
                 time.sleep(0.002)
         except (OSError, Lost) as fault:
-            self.fault = "the client beside lost a reply, after %d: %s" % (self.replies, fault)
+            self.fault = f"the client beside lost a reply, after {self.replies}: {fault}"
 
 
 class Requests(threading.Thread):
@@ -71,7 +71,7 @@ class Requests(threading.Thread):
         while len(self.data) >= SIZE:
             self.count += 1
             if self.data[:SIZE] != REQUEST.encode(self.count):
-                raise Lost("request %d has other bytes: %s" % (self.count, self.data[:SIZE].hex()))
+                raise Lost(f"request {self.count} has other bytes: {self.data[:SIZE].hex()}")
             self.data = self.data[SIZE:]
         return True
 
@@ -89,7 +89,7 @@ class Requests(threading.Thread):
             self.take(0.5)
         self.peer.poll()
         if self.count != before + 1:
-            raise Lost("%d requests came instead of one" % (self.count - before))
+            raise Lost(f"{self.count - before} requests came instead of one")
         self.asked += 1
         self.peer.unlock()
 
@@ -100,4 +100,4 @@ class Requests(threading.Thread):
                     self.ask()
                 time.sleep(0.01)
         except (OSError, Lost) as fault:
-            self.fault = "a request was lost, after %d: %s" % (self.asked, fault)
+            self.fault = f"a request was lost, after {self.asked}: {fault}"

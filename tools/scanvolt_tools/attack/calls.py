@@ -92,14 +92,14 @@ class Peer:
         self.send(call.encode(self.xid))
         reply = self.reply()
         if reply != encode_reply(self.xid, reply[RESULT_AT:]):
-            raise Lost("call %d has another reply: %s" % (self.xid, reply.hex()))
+            raise Lost(f"call {self.xid} has another reply: {reply.hex()}")
         return reply[RESULT_AT:]
 
     def do(self, call: Call[Any], expected: bytes = b"") -> None:
         """Makes a call of the core channel. Checks that its result is error 0 and then these bytes."""
         found = self.result(call)
         if found != words(0) + expected:
-            raise Lost("%s returns something else: %s" % (call.name, found.hex()))
+            raise Lost(f"{call.name} returns something else: {found.hex()}")
 
     def make_link(self) -> None:
         call = calls.create_link(client=1)
@@ -109,7 +109,7 @@ class Peer:
         try:
             made = call.read(found)
         except (DeviceError, XdrError) as fault:
-            raise Lost("no link: %s" % fault) from None
+            raise Lost(f"no link: {fault}") from None
         self.link = made.link
 
     def write(self, text: bytes) -> None:
@@ -139,4 +139,4 @@ class Peer:
         try:
             return call.read(found)
         except (DeviceError, XdrError) as fault:
-            raise Lost("no status byte: %s" % fault) from None
+            raise Lost(f"no status byte: {fault}") from None

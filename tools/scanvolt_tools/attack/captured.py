@@ -55,7 +55,7 @@ def main(words: list[str]) -> int:
         try:
             ready = session(program, words[1:], path)
         except (Failed, ProgramError, OSError, subprocess.TimeoutExpired) as fault:
-            print("captured: %s" % fault, file=sys.stderr)
+            print(f"captured: {fault}", file=sys.stderr)
             return 2
         return capture(
             [
@@ -68,7 +68,7 @@ def main(words: list[str]) -> int:
                 "--scenario",
                 SCENARIO,
                 "--start",
-                "%.9f" % ready,
+                f"{ready:.9f}",
                 "--other-starts",
             ]
         )

@@ -117,21 +117,21 @@ class Trial:
                 text=True,
                 timeout=MOST,
             )
-            ended, printed, said = "status %d" % done.returncode, done.stdout, done.stderr
+            ended, printed, said = f"status {done.returncode}", done.stdout, done.stderr
         except subprocess.TimeoutExpired as fault:
             ended, printed, said = (
-                "it takes more than %d s" % MOST,
+                f"it takes more than {MOST} s",
                 text_of(fault.stdout),
                 text_of(fault.stderr),
             )
         if server.process.poll() is not None:
-            print("%s: the server ended" % name)
+            print(f"{name}: the server ended")
         elif ended != "status 0":
-            print("%s: %s" % (name, ended))
+            print(f"{name}: {ended}")
         elif printed != wanted:
-            print("%s: differs from what is stored" % name)
+            print(f"{name}: differs from what is stored")
         else:
-            print("%s: as stored" % name)
+            print(f"{name}: as stored")
             self.same += 1
             return
         lines = difflib.unified_diff(
@@ -153,9 +153,10 @@ class Trial:
             )
             passed, printed = done.returncode == 0, text_of(done.stdout)
         except subprocess.TimeoutExpired as fault:
-            passed, printed = False, text_of(fault.stdout) + "it takes more than %d s\n" % LONGEST
+            passed, printed = False, text_of(fault.stdout) + f"it takes more than {LONGEST} s\n"
         self.same += passed
-        print("%s: %s" % (name, "passes" if passed else "fails\n" + printed.rstrip()), flush=True)
+        told = "passes" if passed else "fails\n" + printed.rstrip()
+        print(f"{name}: {told}", flush=True)
         return printed
 
     def alone(self, name: str, port_mapper: int) -> None:
@@ -184,7 +185,7 @@ class Trial:
         self.alone("scan", 4111)
         self.alone("service_request", 4111)
         self.alone("identify", 111)
-        print("with one server, %d seconds after its start:" % AGE, flush=True)
+        print(f"with one server, {AGE} seconds after its start:", flush=True)
         self.together()
         with self.served("first_page", 4111):
             self.passes("first_page", ["sh", "-c", first_page((TOP / "README.md").read_text())])
@@ -206,7 +207,7 @@ class Trial:
         ):
             self.passes(name + "_captured", [str(TOP / "tools/captured"), self.program, *command])
         self.passes("discovered", [str(TOP / "tools/discovered"), self.program])
-        print("clients: %d of %d are as stored, or pass" % (self.same, self.count))
+        print(f"clients: {self.same} of {self.count} are as stored, or pass")
         return 0 if self.same == self.count else 1
 
 
@@ -222,9 +223,10 @@ def first_page(readme: str) -> str:
     )
     if client is None:
         return "echo README.md has no client of PyVISA; exit 1"
+    command, wanted = client.group(1).rstrip("\n"), client.group(3)
     return (
-        'wanted=$(cat <<\'WANTED\'\n%sWANTED\n)\nfound=$(%s)\n[ "$found" = "$wanted" ] || { echo "$found"; exit 1; }'
-        % (client.group(3), client.group(1).rstrip("\n"))
+        f"wanted=$(cat <<'WANTED'\n{wanted}WANTED\n)\nfound=$({command})\n"
+        '[ "$found" = "$wanted" ] || { echo "$found"; exit 1; }'
     )
 
 
@@ -232,8 +234,8 @@ def scenarios(documents: str) -> str:
     """A script that runs each command of the documents that writes a scenario, and compares it with the stored file."""
     found = re.findall(r"^\$ (tools/scenario .*) > (.*)", documents.replace("\\\n", ""), flags=re.M)
     if len(found) != 2:
-        return "echo %d commands write scenarios; exit 1" % len(found)
-    return "\n".join("%s | cmp - %s" % one for one in found)
+        return f"echo {len(found)} commands write scenarios; exit 1"
+    return "\n".join(f"{command} | cmp - {stored}" for command, stored in found)
 
 
 def main(words: list[str]) -> int:
@@ -245,7 +247,7 @@ def main(words: list[str]) -> int:
         try:
             return Trial(*words[1:]).all()
         except (Failed, ProgramError, OSError) as fault:
-            print("clients: %s" % fault, file=sys.stderr)
+            print(f"clients: {fault}", file=sys.stderr)
             return 2
     if len(words) != 1:
         print("clients: usage: clients PROGRAM", file=sys.stderr)

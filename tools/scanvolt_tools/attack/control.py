@@ -76,7 +76,7 @@ def control_half_close(server: Server, chance: random.Random) -> None:
         except ConnectionError:
             return
         if answers not in (b"", b"ok\n" * count):
-            raise Lost("the control port answered %r to %d lines" % (answers, count))
+            raise Lost(f"the control port answered {answers!r} to {count} lines")
 
 
 ATTACKS = (control_lines, control_noise, control_flood, control_half_close)

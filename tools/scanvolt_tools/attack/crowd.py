@@ -35,7 +35,7 @@ def lateness(peer: Peer, first: int, second: int) -> float:
     found = peer.result(calls.device_lock(second, WAIT))
     late = 1000 * (time.monotonic() - begun) - WAIT
     if found != words(LOCKED):
-        raise Lost("a call that waited for the lock returns something else: %s" % found.hex())
+        raise Lost(f"a call that waited for the lock returns something else: {found.hex()}")
     return late
 
 
@@ -61,5 +61,5 @@ def latest(server: Server) -> float:
         for asking in crowd:
             asking.join(PATIENCE)
     if late > LATEST:
-        raise Lost("a deadline of %d ms came %.0f ms late" % (WAIT, late))
+        raise Lost(f"a deadline of {WAIT} ms came {late:.0f} ms late")
     return late

@@ -18,8 +18,8 @@ from .capture import with_system_tools
 
 PORTS = (5096, 5097, 5111)
 NAME = "SCANVOLT,SV32,0,1.0"
-FOUND = 'Found "%s" on address 127.0.0.1' % NAME
-READY = "ready: core %d, abort %d" % PORTS[:2]
+FOUND = f'Found "{NAME}" on address 127.0.0.1'
+READY = f"ready: core {PORTS[0]}, abort {PORTS[1]}"
 REGISTER = [sys.executable, "-B", "-m", "scanvolt.portmap"]
 OF_OURS = ["--core", str(PORTS[0]), "--abort", str(PORTS[1])]
 PACKAGES = "rpcbind lxi ip unshare".split()
@@ -47,7 +47,7 @@ def done(*command: str) -> str:
     """What a command prints, whose status has to be 0."""
     status, told = ran(*command)
     if status:
-        raise Wrong("%s: status %d: %s" % (" ".join(command), status, told))
+        raise Wrong(f"{' '.join(command)}: status {status}: {told}")
     return told
 
 
@@ -58,7 +58,7 @@ def inside(program: str) -> None:
     done("ip", "link", "set", "lo", "up")
     status, told = ran(*REGISTER, *OF_OURS)
     if status != 2 or "no port mapper answers" not in told:
-        raise Wrong("without rpcbind: status %d" % status)
+        raise Wrong(f"without rpcbind: status {status}")
     done("rpcbind", "-w")
     with Server(program=program, ports=PORTS):
         registrar = subprocess.Popen(
@@ -70,18 +70,18 @@ def inside(program: str) -> None:
         assert registrar.stdout is not None
         line = registrar.stdout.readline()
         if not line.startswith(READY):
-            raise Wrong("scanvolt-portmap prints %r" % line)
+            raise Wrong(f"scanvolt-portmap prints {line!r}")
         told = done("lxi", "discover", "-t", "2")
         if FOUND not in told:
             raise Wrong("lxi discovers none: " + told)
         if done("lxi", "scpi", "--address", "127.0.0.1", "*IDN?").strip() != NAME:
             raise Wrong("lxi gets another name")
         status, told = ran(*REGISTER)
-        if status != 1 or "at port %d;" % PORTS[0] not in told:
-            raise Wrong("a second registration: status %d" % status)
+        if status != 1 or f"at port {PORTS[0]};" not in told:
+            raise Wrong(f"a second registration: status {status}")
         registrar.send_signal(signal.SIGTERM)
         if registrar.wait(MOST):
-            raise Wrong("scanvolt-portmap ends with status %d" % registrar.returncode)
+            raise Wrong(f"scanvolt-portmap ends with status {registrar.returncode}")
         if str(PORTS[0]) in ran("rpcinfo", "-p", "127.0.0.1")[1]:
             raise Wrong("the registration stays")
     print(
@@ -95,7 +95,7 @@ def main(words: list[str]) -> int:
         try:
             inside(words[1])
         except (Wrong, ProgramError, OSError, subprocess.TimeoutExpired) as fault:
-            print("discovered: %s" % fault, file=sys.stderr)
+            print(f"discovered: {fault}", file=sys.stderr)
             return 1
         return 0
     if len(words) != 1:
@@ -106,8 +106,7 @@ def main(words: list[str]) -> int:
     for one in PACKAGES:
         if shutil.which(one) is None:
             print(
-                "discovered: %s is missing: Debian's rpcbind, lxi-tools, iproute2, util-linux"
-                % one,
+                f"discovered: {one} is missing: Debian's rpcbind, lxi-tools, iproute2, util-linux",
                 file=sys.stderr,
             )
             return 2

@@ -81,7 +81,7 @@ def blocks(text: str, name: str) -> list[list[Command]]:
             block[-1].text += "\n" + line
             whole = is_whole(block[-1].text)
         elif block is not None and line.startswith("$ "):
-            block.append(Command("%s:%d" % (name, number), line[2:]))
+            block.append(Command(f"{name}:{number}", line[2:]))
             whole = is_whole(block[-1].text)
         elif block:
             block[-1].lines.append(line)
@@ -112,7 +112,7 @@ class Typist:
         self.folder = folder
         os.mkdir(folder + "/bin")
         os.symlink(program, folder + "/bin/scanvolt")
-        path = "%s/bin:%s" % (folder, os.environ["PATH"])
+        path = f"{folder}/bin:{os.environ['PATH']}"
         self.environment = dict(
             os.environ, SERVER=program, SCANVOLT=program, LC_ALL="C.UTF-8", PATH=path
         )
@@ -146,7 +146,7 @@ class Typist:
             else:
                 made.append(path)
         if why:
-            self.left.append("%s: $ %s: %s" % (command.place, command.text, why))
+            self.left.append(f"{command.place}: $ {command.text}: {why}")
             return cwd
         self.typed += 1
         text = command.text.replace(BUILT, self.program) if cwd == TOP else command.text
@@ -159,7 +159,7 @@ class Typist:
     def run(self, command: Command, text: str, cwd: str) -> str:
         """Runs a command to its end."""
         behind = os.path.join(self.folder, "cwd")
-        script = "%s\nstatus=$?\npwd > %s\nexit $status" % (text, behind)
+        script = f"{text}\nstatus=$?\npwd > {behind}\nexit $status"
         with open(os.path.join(self.folder, "printed"), "w+b") as printed:
             child = subprocess.Popen(
                 ["bash", "-c", script],
@@ -174,14 +174,14 @@ class Typist:
             try:
                 status = str(child.wait(PATIENCE))
             except subprocess.TimeoutExpired:
-                status = "none within %d seconds" % PATIENCE
+                status = f"none within {PATIENCE} seconds"
             finally:
                 if child.poll() is None:
                     end(child)
             printed.seek(0)
             lines = printed.read().decode(errors="replace").splitlines()
         if status != "0":
-            self.fault(command, "status %s" % status, lines)
+            self.fault(command, f"status {status}", lines)
         elif command.lines and not fits(command.lines, lines):
             self.fault(command, "it prints something else", lines)
         try:
@@ -231,7 +231,7 @@ class Typist:
     def fault(self, command: Command, what: str, lines: Sequence[str]) -> None:
         """Prints a difference."""
         self.faults += 1
-        print("%s: $ %s: %s" % (command.place, command.text, what), flush=True)
+        print(f"{command.place}: $ {command.text}: {what}", flush=True)
         for line in list(
             difflib.unified_diff(command.lines, lines, "the document", "printed", lineterm="")
         )[:20]:
@@ -285,5 +285,5 @@ def main(words: list[str]) -> int:
             typist.stop()
     for line in typist.left:
         print("documents: not typed: " + line)
-    print("documents: %d commands typed, %d differ" % (typist.typed, typist.faults))
+    print(f"documents: {typist.typed} commands typed, {typist.faults} differ")
     return 1 if typist.faults else 0

@@ -84,7 +84,7 @@ def without_a_pause(server: Server, _: object, beside: Beside) -> int:
     """Peers make calls that do nothing, again and again, while another call waits in vain."""
     with beside.turn:
         late = latest(server)
-    server.found.row("the latest of %d deadlines, after it" % DEADLINES, max(0.0, late))
+    server.found.row(f"the latest of {DEADLINES} deadlines, after it", max(0.0, late))
     return PROCESSES * EACH
 
 
@@ -158,7 +158,7 @@ def attack(server: Server, chance: random.Random) -> int:
     found.head()
     for name, behind in ("without room", FURTHER), ("at fault", TOO_LONG):
         found.row(
-            "sixteen that are gone, %s: a new client is served after" % name,
+            f"sixteen that are gone, {name}: a new client is served after",
             all_gone(server, behind),
         )
     half_closed(server)
@@ -172,7 +172,7 @@ def attack(server: Server, chance: random.Random) -> int:
             known = beside.replies
             count = stage(server, chance, beside)
             if not server.alive():
-                raise Lost("the server ended: %d" % server.process.returncode)
+                raise Lost(f"the server ended: {server.process.returncode}")
             if beside.fault:
                 raise Lost(beside.fault)
             found.row(name + ": connections", count)
@@ -218,12 +218,12 @@ def main(words: list[str]) -> int:
             replies = attack(server, random.Random(seed))
             recorded = server.compare()
         except (OSError, Lost) as fault:
-            print("hostile: seed %d: %s" % (seed, fault), file=sys.stderr)
+            print(f"hostile: seed {seed}: {fault}", file=sys.stderr)
             return 1
         finally:
             server.close()
-    print("hostile: %s" % recorded)
-    print("hostile: %d replies beside, none lost; the server goes on" % replies)
+    print(f"hostile: {recorded}")
+    print(f"hostile: {replies} replies beside, none lost; the server goes on")
     if kept and not server.found.keep():
         return 2
     return told("hostile", server.found.missed)

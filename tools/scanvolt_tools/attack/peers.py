@@ -121,14 +121,14 @@ def interrupt_channel(server: Server, chance: random.Random) -> None:
             listener.close()
         found = peer.result(where)
         if found not in server.outcomes(NOT_ESTABLISHED if kind == "refuse" else 0):
-            raise Lost("create_intr_chan returns something else: %s" % found.hex())
+            raise Lost(f"create_intr_chan returns something else: {found.hex()}")
         if kind == "reset" and found == words(0):
             reset(listener.accept()[0])
             peer.do(calls.device_enable_srq(peer.link, b"hostile"))
             raise_once(peer)
             found = peer.result(calls.destroy_intr_chan())
             if found != words(NOT_ESTABLISHED):
-                raise Lost("an interrupt channel that was reset still exists: %s" % found.hex())
+                raise Lost(f"an interrupt channel that was reset still exists: {found.hex()}")
 
 
 def take_the_lock(server: Server, chance: random.Random) -> None:
@@ -150,7 +150,7 @@ def fill_channel(server: Server, chance: random.Random) -> None:
         peer.make_link()
         found = peer.result(remote(listener))
         if found not in server.outcomes(0):
-            raise Lost("create_intr_chan returns something else: %s" % found.hex())
+            raise Lost(f"create_intr_chan returns something else: {found.hex()}")
         if found != words(0):
             return
         peer.do(calls.device_enable_srq(peer.link, b"filled"))
@@ -206,7 +206,7 @@ def all_gone(server: Server, behind: bytes) -> float:
         except BlockingIOError:
             continue
         raise Lost(
-            "a call that should wait was answered, or its connection closed: %s" % answer.hex()
+            f"a call that should wait was answered, or its connection closed: {answer.hex()}"
         )
     for peer in peers:
         reset(peer.socket)
@@ -217,7 +217,7 @@ def all_gone(server: Server, behind: bytes) -> float:
             peer.make_link()
             peer.session()
     except OSError as fault:
-        raise Lost("sixteen peers that are gone keep their places: %s" % fault) from None
+        raise Lost(f"sixteen peers that are gone keep their places: {fault}") from None
     return 1000 * (time.monotonic() - begun)
 
 
@@ -234,11 +234,11 @@ def half_closed(server: Server) -> None:
             found = peer.take(len(wanted))
         except OSError as fault:
             raise Lost(
-                "a call that waits isn't answered where its peer sends no more: %s" % fault
+                f"a call that waits isn't answered where its peer sends no more: {fault}"
             ) from None
         if found != wanted:
             raise Lost(
-                "where its peer sends no more, a call returns something else: %s" % found.hex()
+                f"where its peer sends no more, a call returns something else: {found.hex()}"
             )
 
 
@@ -259,7 +259,7 @@ def urgent(server: Server, chance: random.Random) -> None:
         except socket.timeout:
             raise Lost("a call after a byte of urgent data isn't answered") from None
         if found != wanted:
-            raise Lost("calls around a byte of urgent data return something else: %s" % found.hex())
+            raise Lost(f"calls around a byte of urgent data return something else: {found.hex()}")
 
 
 def all_places(server: Server, taken: int = 1) -> None:
@@ -278,4 +278,4 @@ def all_places(server: Server, taken: int = 1) -> None:
                 peer.session()
                 peer.socket.close()
     except OSError as fault:
-        raise Lost("one of the %d places doesn't serve: %s" % (PLACES, fault)) from None
+        raise Lost(f"one of the {PLACES} places doesn't serve: {fault}") from None

@@ -42,7 +42,7 @@ def entries(path: Path) -> Iterator[tuple[int, int, int, bytes]]:
             kind, descriptor, number, length = HEAD.unpack(head)
             data = file.read(length)
             if kind not in KINDS:
-                raise Lost("the tap has an entry of kind %d" % kind)
+                raise Lost(f"the tap has an entry of kind {kind}")
             if len(data) == length:
                 yield kind, descriptor, number, data
 
@@ -103,7 +103,7 @@ def replayed(program: str, record: Path, ports: Sequence[int]) -> list[Stream]:
             command, stdin=script, stdout=output, stderr=subprocess.PIPE, check=False
         )
     if ended.returncode != 0:
-        raise Lost("the record isn't replayed: %s" % ended.stderr.decode(errors="replace").strip())
+        raise Lost(f"the record isn't replayed: {ended.stderr.decode(errors='replace').strip()}")
     now = {}
     opening = iter(begun)
     with printed.open() as lines:
@@ -149,10 +149,9 @@ def fault(tap: Stream, record: Stream) -> str:
         (at for at, (one, other) in enumerate(zip(tap.sent, record.sent)) if one != other),
         min(len(tap.sent), len(record.sent)),
     )
-    return "the socket took %d bytes, the replay sends %d; they differ from byte %d on" % (
-        len(tap.sent),
-        len(record.sent),
-        place,
+    return (
+        f"the socket took {len(tap.sent)} bytes, the replay sends {len(record.sent)}; "
+        f"they differ from byte {place} on"
     )
 
 
@@ -170,16 +169,15 @@ def compare(program: str, folder: Path, ports: Sequence[int]) -> str:
         ]
         if len(taken) != len(sent):
             raise Lost(
-                "%d streams of the kind %s were opened, the record has %d"
-                % (len(taken), role, len(sent))
+                f"{len(taken)} streams of the kind {role} were opened, the record has {len(sent)}"
             )
         for number, (tap, record) in enumerate(zip(taken, sent)):
             told = fault(tap, record)
             if told:
-                raise Lost("the record, stream %d of the kind %s: %s" % (number, role, told))
+                raise Lost(f"the record, stream {number} of the kind {role}: {told}")
             count += len(tap.sent)
             whole += tap.sent == record.sent
     return (
-        "the record's replay sends what the sockets took: %d streams, %d of them whole, %d bytes"
-        % (len(found), whole, count)
+        f"the record's replay sends what the sockets took: {len(found)} streams, "
+        f"{whole} of them whole, {count} bytes"
     )

@@ -38,17 +38,15 @@ def whose_aims(name: str) -> str | None:
         return None
     with open(name, "rb") as file:
         checked = b"__asan_" in file.read()
-    return "the aims are of the proved program; %s %s" % (
-        name,
-        "is built with run-time checks" if checked else "may be another",
-    )
+    what = "is built with run-time checks" if checked else "may be another"
+    return f"the aims are of the proved program; {name} {what}"
 
 
 def told(tool: str, missed: Iterable[str]) -> int:
     """Prints the values that miss their aims. Returns the status."""
     status = 0
     for what in missed:
-        print("%s: beyond its aim: %s" % (tool, what), flush=True)
+        print(f"{tool}: beyond its aim: {what}", flush=True)
         status = 3
     return status
 
@@ -94,16 +92,16 @@ class Server(program.Server):
 
     def memory(self) -> int:
         """The resident memory in KiB."""
-        with open("/proc/%d/status" % self.process.pid) as status:
+        with open(f"/proc/{self.process.pid}/status") as status:
             return next(int(line.split()[1]) for line in status if line.startswith("VmRSS:"))
 
     def descriptors(self) -> int:
         """How many file descriptors the process has."""
-        return len(os.listdir("/proc/%d/fd" % self.process.pid))
+        return len(os.listdir(f"/proc/{self.process.pid}/fd"))
 
     def seconds(self) -> float:
         """How many seconds of processor time it has used so far."""
-        with open("/proc/%d/stat" % self.process.pid) as stat:
+        with open(f"/proc/{self.process.pid}/stat") as stat:
             fields = stat.read().rsplit(")", 1)[1].split()
         return (int(fields[11]) + int(fields[12])) / os.sysconf("SC_CLK_TCK")
 
@@ -135,7 +133,7 @@ def becoming(
     script.write_text(
         BECOMES.format(
             program=shlex.quote(name),
-            limit="" if descriptors is None else "ulimit -n %d" % descriptors,
+            limit="" if descriptors is None else f"ulimit -n {descriptors}",
             tap=shlex.quote(str(folder / "tap")),
             libraries=shlex.quote(libraries),
         )

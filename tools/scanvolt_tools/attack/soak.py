@@ -82,14 +82,14 @@ class Attack:
             except NoRoom:
                 self.refused += 1
             except Lost as fault:
-                self.lost = "%s: %s" % (action.__name__, fault)
+                self.lost = f"{action.__name__}: {fault}"
             except (OSError, Dropped):
                 pass  # it was the seventeenth connection, or its bytes weren't a call
 
     def fault(self) -> str | None:
         """What went wrong; None if nothing did."""
         status = self.server.process.poll()
-        ended = None if status is None else "the server ended: %d" % status
+        ended = None if status is None else f"the server ended: {status}"
         return ended or self.beside.fault or self.requests.fault or self.lost
 
     def check(self) -> None:
@@ -114,7 +114,7 @@ class Attack:
 
     def row(self, name: str, value: float) -> None:
         """Prints a value of this run."""
-        self.server.found.row("%s: %s" % (self.name, name), value)
+        self.server.found.row(f"{self.name}: {name}", value)
 
     def start(self) -> None:
         self.beside.start()
@@ -130,10 +130,7 @@ class Attack:
             raise Lost("a client beside still waits")
         self.row("replies beside", self.beside.replies)
         self.row("requests for service beside", self.requests.asked)
-        return "%d replies and %d requests beside, none lost" % (
-            self.beside.replies,
-            self.requests.asked,
-        )
+        return f"{self.beside.replies} replies and {self.requests.asked} requests beside, none lost"
 
 
 def soak(attack: Attack, minutes: float) -> str:
@@ -157,7 +154,7 @@ def soak(attack: Attack, minutes: float) -> str:
     for name, count in sorted(attack.counts.items()):
         attack.row("attacks, " + name, count)
     if attack.refused:
-        raise Lost("%d links were refused" % attack.refused)
+        raise Lost(f"{attack.refused} links were refused")
     if after - memory > MOST or others != descriptors:
         raise Lost("memory or file descriptors grew")
     return came
@@ -187,8 +184,7 @@ def few_descriptors(attack: Attack, _: object) -> str:
         one.close()
     if not met:
         raise Lost(
-            "%d channels were open at once, under a limit of %d descriptors"
-            % (len(held), DESCRIPTORS)
+            f"{len(held)} channels were open at once, under a limit of {DESCRIPTORS} descriptors"
         )
     attack.go_on(LIMITED)
     server.refusals = ()
@@ -253,12 +249,12 @@ def run(title: str, name: str, server: Server, seed: int, play: Callable[[Attack
         came = play(Attack(server, seed, name))
         recorded = server.compare()
     except (OSError, Lost) as fault:
-        print("soak: seed %d: %s" % (seed, fault), file=sys.stderr)
+        print(f"soak: seed {seed}: {fault}", file=sys.stderr)
         return 1
     finally:
         server.close()
-    print("soak: %s" % recorded, flush=True)
-    print("soak: %s; the server goes on" % came, flush=True)
+    print(f"soak: {recorded}", flush=True)
+    print(f"soak: {came}; the server goes on", flush=True)
     return told("soak", server.found.missed[begun:])
 
 
@@ -284,7 +280,7 @@ def main(words: list[str]) -> int:
         try:
             statuses = [
                 run(
-                    "%g minutes" % minutes,
+                    f"{minutes:g} minutes",
                     "long run",
                     Server(program, folder, found),
                     seed,
@@ -294,7 +290,7 @@ def main(words: list[str]) -> int:
             server = Server(program, folder, found, descriptors=DESCRIPTORS)
             statuses.append(
                 run(
-                    "a limit of %d file descriptors" % DESCRIPTORS,
+                    f"a limit of {DESCRIPTORS} file descriptors",
                     "few file descriptors",
                     server,
                     seed,

@@ -66,7 +66,7 @@ def cell(text: str) -> str:
 
 
 def link(path: str, text: str) -> str:
-    return "[%s](../crates/%s)" % (text, path)
+    return f"[{text}](../crates/{path})"
 
 
 def exported(crate: Crate) -> list[Function]:
@@ -105,9 +105,9 @@ def implementers(repository: Repository, trait: str) -> list[str]:
     found: set[str] = set()
     for path in repository.names("crates/sv_*/src/**/*.rt"):
         found |= set(
-            re.findall(r"^impl.* %s for (\w\w+)[ <]" % trait, repository.text(path), flags=re.M)
+            re.findall(rf"^impl.* {trait} for (\w\w+)[ <]", repository.text(path), flags=re.M)
         )
-    return sorted("`%s`" % one for one in found)
+    return sorted(f"`{one}`" for one in found)
 
 
 def memory_faults(repository: Repository) -> set[str]:
@@ -122,7 +122,7 @@ def memory_faults(repository: Repository) -> set[str]:
     return faults | {
         name
         for name, body in texts.items()
-        if any(re.search(r"\(.*\b%s\b" % fault, body) for fault in faults)
+        if any(re.search(rf"\(.*\b{fault}\b", body) for fault in faults)
     }
 
 
@@ -134,8 +134,13 @@ def may_lack(one: Function, faults: Iterable[str]) -> bool:
     return (
         system
         or MEMORY.search(errors) is not None
-        or any(re.search(r"\b%s\b" % fault, errors) for fault in faults)
+        or any(re.search(rf"\b{fault}\b", errors) for fault in faults)
     )
+
+
+def quoted(names: Iterable[str]) -> str:
+    """Names in back quotes, with commas between them."""
+    return ", ".join(f"`{name}`" for name in names)
 
 
 def named(sources: Sources, one: Function) -> str:
@@ -145,8 +150,7 @@ def named(sources: Sources, one: Function) -> str:
     for cited in sorted(set(sources.definitions.cited("", one.head, brought))):
         by_file[sources.definitions.file[cited]].append(cited[1])
     return "; ".join(
-        "%s: %s"
-        % (link(path, os.path.basename(path)[:-5]), ", ".join("`%s`" % name for name in names))
+        f"{link(path, os.path.basename(path)[:-5])}: {quoted(names)}"
         for path, names in sorted(by_file.items())
         if "/Inside/" not in path
     )
@@ -158,14 +162,15 @@ def claims(sources: Sources) -> Iterator[str]:
     for name, crate in reversed(list(sources.libraries.items())):
         found = list(functions(sources.repository, crate))
         if found:
-            yield "\n## %s\n\n| Function | What it answers | Clauses | Definitions |\n|---|---|---|---|" % name
+            yield f"\n## {name}\n\n| Function | What it answers | Clauses | Definitions |"
+            yield "|---|---|---|---|"
         for function, said, clauses, one in found:
             listed = ", ".join(
-                "`%s`%s" % (clause, " (%s)" % cell(of_it) if of_it else "")
+                f"`{clause}`" + (f" ({cell(of_it)})" if of_it else "")
                 for clause, of_it in clauses
                 if clause
             )
-            yield "| `%s` | %s | %s | %s |" % (function, cell(said), listed, named(sources, one))
+            yield f"| `{function}` | {cell(said)} | {listed} | {named(sources, one)} |"
     yield from wants(sources)
 
 
@@ -175,16 +180,13 @@ def wants(sources: Sources) -> Iterator[str]:
     required, lacking = [], []
     for name, crate in sources.libraries.items():
         required += [
-            "| `%s` | `%s` | `%s` |"
-            % (name, shown(crate, one), cell(" ".join(clause.text.split())))
+            f"| `{name}` | `{shown(crate, one)}` | `{cell(' '.join(clause.text.split()))}` |"
             for one in exported(crate)
             for clause in one.required()
         ]
         lack = {shown(crate, one) for one in exported(crate) if may_lack(one, faults)}
         if lack:
-            lacking.append(
-                "| `%s` | %s |" % (name, ", ".join("`%s`" % one for one in sorted(lack)))
-            )
+            lacking.append(f"| `{name}` | {quoted(sorted(lack))} |")
     yield "\n## Conditions\n\nAll that exported functions require.\n"
     yield "| Crate | Function | It requires |\n|---|---|---|"
     yield from required
@@ -197,7 +199,7 @@ def code_of(sources: Sources) -> dict[str, list[str]]:
     """For each file of definitions, the files of code whose contracts name one of its definitions."""
     found = collections.defaultdict(list)
     for crate in sources.order:
-        for path in sources.repository.names("crates/%s/src/**/*.rt" % crate):
+        for path in sources.repository.names(f"crates/{crate}/src/**/*.rt"):
             brought = imports(sources.repository.text(path))
             for module in sorted({module for module, _ in brought.values() if ".specs." in module}):
                 found[module].append(path[len("crates/") :])
@@ -219,13 +221,12 @@ def rules(sources: Sources) -> Iterator[str]:
         for path in paths:
             module = files[path][0][0]
             own = [name for name in code[module] if name.startswith(crate + "/")] or code[module]
-            yield "\n## %s %s\n" % (crate, path[len(crate) + 7 : -5])
+            yield f"\n## {crate} {path[len(crate) + 7 : -5]}\n"
             said = sentence(head(sources.repository.text("crates/" + path), "--"))
-            yield "| [Definition](../crates/%s) | %s | |\n|---|---|---|" % (path, cell(said))
+            yield f"| [Definition](../crates/{path}) | {cell(said)} | |\n|---|---|---|"
             if own:
-                yield "| code | %s | |" % ", ".join(
-                    link(name, name[name.index("/src/") + 5 :]) for name in own[:6]
-                )
+                found = (link(name, name[name.index("/src/") + 5 :]) for name in own[:6])
+                yield f"| code | {', '.join(found)} | |"
             for one in files[path]:
                 mark = (
                     "p"
@@ -236,7 +237,7 @@ def rules(sources: Sources) -> Iterator[str]:
                     if one in others
                     else ""
                 )
-                yield "| `%s` | %s | %s |" % (one[1], cell(definitions.rule[one]), mark)
+                yield f"| `{one[1]}` | {cell(definitions.rule[one])} | {mark} |"
 
 
 def lemmas(repository: Repository) -> dict[str, set[str]]:
@@ -252,7 +253,7 @@ def lemmas(repository: Repository) -> dict[str, set[str]]:
             repository.text(path),
             flags=re.M,
         ):
-            there = "%s/proofs/%s.antt" % (other, rest.replace(".", "/"))
+            there = f"{other}/proofs/{rest.replace('.', '/')}.antt"
             if other != crate and repository.has("crates/" + there):
                 found[there].add(crate)
     return found
@@ -265,13 +266,13 @@ def counts(repository: Repository, known: Crates, crate: str) -> tuple[int, int,
     if crate in known and crate != "failing_alloc":
         found = list(known.clauses(crate))
     laws = sum(is_law for _, _, is_law in found)
-    rows = lines_like(repository, "crates/%s/rows/*.rows" % crate, r"title |singly$")
+    rows = lines_like(repository, f"crates/{crate}/rows/*.rows", r"title |singly$")
     if not rows:
-        rows = lines_like(repository, "crates/%s/src/**/*.rt" % crate, r" *#\[test\]")
+        rows = lines_like(repository, f"crates/{crate}/src/**/*.rt", r" *#\[test\]")
     return (
         len(found) - laws,
         laws,
-        len(repository.names("crates/%s/must-fail/*.edit" % crate)),
+        len(repository.names(f"crates/{crate}/must-fail/*.edit")),
         rows,
     )
 
@@ -301,25 +302,22 @@ def crate_page(sources: Sources) -> Iterator[str]:
     for name, below in sources.order.items():
         found = counts(repository, sources.crates, name)
         sums = [one + more for one, more in zip(sums, found)]
-        yield "| [%s](../crates/%s/README.md) | %s | %s | %s |" % (
-            name,
-            name,
+        cells = (
+            f"[{name}](../crates/{name}/README.md)",
             cell(told(repository, name)),
             ", ".join(below),
-            " | ".join("{:,}".format(count) if count else "" for count in found),
+            *(f"{count:,}" if count else "" for count in found),
         )
-    yield "| all | | | %s |" % " | ".join("{:,}".format(count) for count in sums)
+        yield f"| {' | '.join(cells)} |"
+    yield f"| all | | | {' | '.join(f'{count:,}' for count in sums)} |"
     yield "\n## Lemmas that other crates cite\n\n| Crate | File of lemmas | What they say | Cited by |\n|---|---|---|---|"
     cited = lemmas(repository)
     for path in sorted(cited, key=lambda path: (order.index(path.split("/")[0]), path)):
         crate = path.split("/")[0]
         said = sentence(head(repository.text("crates/" + path), "--"))
-        yield "| %s | %s | %s | %s |" % (
-            crate,
-            link(path, path[len(crate) + 8 : -5]),
-            cell(said),
-            ", ".join(sorted(cited[path], key=order.index)),
-        )
+        file = link(path, path[len(crate) + 8 : -5])
+        by = ", ".join(sorted(cited[path], key=order.index))
+        yield f"| {crate} | {file} | {cell(said)} | {by} |"
 
 
 def squeezed(text: str) -> str:
@@ -342,7 +340,7 @@ def unsaid(repository: Repository) -> Iterator[str]:
     said = "\n".join(squeezed(repository.text(path)) for path in names)
     for number, line in fenced(repository.text("docs/THEOREMS.md")):
         if squeezed(line) not in said:
-            yield "docs/THEOREMS.md:%d: no source says this" % number
+            yield f"docs/THEOREMS.md:{number}: no source says this"
 
 
 def miscounted(repository: Repository, known: Crates, there: int) -> Iterator[str]:
@@ -353,14 +351,14 @@ def miscounted(repository: Repository, known: Crates, there: int) -> Iterator[st
         found = re.match(r"\| `crates/(\w+)` \|.*\| ([\d,]+) (rows|lines|tests) \|$", line)
         if found:
             crate, told, what = found.groups()
-            counted = "{:,}".format(counts(repository, known, crate)[3])
+            counted = f"{counts(repository, known, crate)[3]:,}"
             if counted != told:
-                yield "%s:%d: %s has %s %s" % (EVIDENCE, number, crate, counted, what)
+                yield f"{EVIDENCE}:{number}: {crate} has {counted} {what}"
     if not re.search(
-        r"Of the driver's definitions only [^.:]*\b%d\slines" % there,
+        rf"Of the driver's definitions only [^.:]*\b{there}\slines",
         repository.text("docs/THEOREMS.md"),
     ):
-        yield "docs/THEOREMS.md: the laws rest on %d lines of the driver's definitions" % there
+        yield f"docs/THEOREMS.md: the laws rest on {there} lines of the driver's definitions"
 
 
 def with_figures(repository: Repository) -> str | None:
@@ -377,7 +375,7 @@ def figures(repository: Repository, check: bool) -> list[str]:
     """Writes the table of figures, or compares it. Returns what is wrong."""
     text = with_figures(repository)
     if text is None:
-        return ["%s: there is no place for the figures" % EVIDENCE]
+        return [f"{EVIDENCE}: there is no place for the figures"]
     return settled(repository, EVIDENCE, text, check, "tools/book writes")
 
 

@@ -14,14 +14,14 @@ from .rattle import Crates
 def lines(crates: Crates, name: str) -> Iterator[str]:
     """The lines about a crate."""
     for function, clause, is_law in crates.clauses(name):
-        yield "%s %s %s%s" % (name, function, clause, " law" if is_law else "")
+        yield f"{name} {function} {clause}{' law' if is_law else ''}"
 
 
 def main(words: list[str]) -> int:
     crates = Crates(Repository())
     for name in words:
         if name not in crates:
-            print("clauses: there is no crates/%s/src/lib.rt" % name, file=sys.stderr)
+            print(f"clauses: there is no crates/{name}/src/lib.rt", file=sys.stderr)
             return 2
         for line in lines(crates, name):
             print(line)

@@ -9,7 +9,7 @@ With --check it writes nothing, and prints a line if the file isn't what it woul
 Status: 0, or 1 if something is printed.
 """
 import re
-from collections.abc import Mapping
+from collections.abc import Iterable, Mapping
 from typing import Any
 
 from ..repository import Repository
@@ -44,7 +44,7 @@ def order(sources: Sources) -> list[int]:
         text,
     )
     if not found:
-        raise Fault("%s: it doesn't say in which order the server checks for errors" % INSTRUMENT)
+        raise Fault(f"{INSTRUMENT}: it doesn't say in which order the server checks for errors")
     return [int(one) for one in found.groups()]
 
 
@@ -112,7 +112,7 @@ def others(sources: Sources) -> dict[str, tuple[int, ...]]:
         )
     }
     if not found:
-        raise Fault("%s: it doesn't say which calls the other channels have" % INSTRUMENT)
+        raise Fault(f"{INSTRUMENT}: it doesn't say which calls the other channels have")
     return found
 
 
@@ -124,7 +124,7 @@ def reads(sources: Sources) -> dict[str, int]:
         text,
     )
     if not found:
-        raise Fault("%s: it doesn't say how a read ends" % INSTRUMENT)
+        raise Fault(f"{INSTRUMENT}: it doesn't say how a read ends")
     return {
         **{name: int(weight) for name, weight in re.findall(r"([A-Z]+) (\d)", found[1])},
         found[2]: 0,
@@ -143,7 +143,7 @@ def written(sources: Sources) -> str:
     tables = (
         (
             "HEADERS: Tuple[str, ...]",
-            "(\n%s)" % "".join("    %r,\n" % one for one in headers(sources)),
+            listed(headers(sources)),
         ),
         ("CALLS: Dict[str, Tuple[int, ...]]", lines(calls(sources, kinds))),
         (
@@ -154,15 +154,20 @@ def written(sources: Sources) -> str:
         ("READS: Dict[str, int]", lines(reads(sources))),
         (
             "STATES: Tuple[Tuple[str, str, str], ...]",
-            "(\n%s)" % "".join("    %r,\n" % (one,) for one in states(sources)),
+            listed(states(sources)),
         ),
     )
-    return HEAD + "".join("%s = %s\n" % (name, table) for name, table in tables)
+    return HEAD + "".join(f"{name} = {table}\n" for name, table in tables)
+
+
+def listed(entries: Iterable[object]) -> str:
+    """A tuple as Python has it, each entry on a line."""
+    return "(\n" + "".join(f"    {entry!r},\n" for entry in entries) + ")"
 
 
 def lines(table: Mapping[Any, Any]) -> str:
     """A table as Python has it, each entry on a line."""
-    return "{\n%s}" % "".join("    %r: %r,\n" % pair for pair in table.items())
+    return "{\n" + "".join(f"    {key!r}: {value!r},\n" for key, value in table.items()) + "}"
 
 
 def main(words: list[str]) -> int:

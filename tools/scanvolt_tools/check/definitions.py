@@ -37,9 +37,9 @@ def types(
             if match:
                 found.add(match.groups())
     for crate, name in sorted(found):
-        for path in repository.names("crates/%s/src/**/*.rt" % crate):
+        for path in repository.names(f"crates/{crate}/src/**/*.rt"):
             match = re.search(
-                r"\npub (?:enum|struct) %s\b.*?\n?[};]\n" % name, repository.text(path), flags=re.S
+                rf"\npub (?:enum|struct) {name}\b.*?\n?[}};]\n", repository.text(path), flags=re.S
             )
             if match:
                 lines = match.group(0).strip().split("\n")
@@ -53,8 +53,8 @@ def show(definitions: Definitions, title: str, seen: set[Name], each: bool) -> N
         files[definitions.file[one]] += len(definitions.lines[one])
     if each:
         for path in sorted(files):
-            print("%5d %s" % (files[path], path))
-    print("%s: %d definitions, %d lines" % (title, len(seen), sum(files.values())))
+            print(f"{files[path]:5} {path}")
+    print(f"{title}: {len(seen)} definitions, {sum(files.values())} lines")
 
 
 def main(words: list[str]) -> int:
@@ -70,7 +70,7 @@ def main(words: list[str]) -> int:
         show(definitions, title, seen, words == ["-v"])
     cited = list(types(repository, definitions, claims))
     print(
-        "the Rust types that these cite: %d types, %d lines"
-        % (len(cited), sum(lines for _, lines in cited))
+        f"the Rust types that these cite: {len(cited)} types, "
+        f"{sum(lines for _, lines in cited)} lines"
     )
     return 0

@@ -79,17 +79,17 @@ def faults(repository: Repository, known: Clauses) -> Iterator[str]:
         if name in NAMED:
             continue
         if not function:
-            yield "%s: it has no line 'turns:'" % edit
+            yield f"{edit}: it has no line 'turns:'"
         if not name.startswith(function.rpartition("::")[2] + "_"):
-            yield "%s: its name doesn't begin with a function's" % edit
+            yield f"{edit}: its name doesn't begin with a function's"
     there = set(known.keys)
     for key, edit in turns:
         if key not in there:
-            yield "%s: there is no clause %s %s" % (edit, key[1], key[2])
+            yield f"{edit}: there is no clause {key[1]} {key[2]}"
     met = {key for key, _ in turns}
     for key in dict.fromkeys(known.keys):
         if key not in met and " ".join(key) not in WITHOUT:
-            yield "%s: no edit turns this clause" % " ".join(key)
+            yield f"{' '.join(key)}: no edit turns this clause"
     for edit in names:
         yield from misplaced(repository, edit)
 
@@ -100,9 +100,9 @@ def misplaced(repository: Repository, edit: str) -> Iterator[str]:
     for line in repository.text("crates/" + edit).splitlines():
         kind, _, text = line.partition(": ")
         if kind == "file":
-            source = repository.text("crates/%s/%s" % (edit.split("/")[0], text))
+            source = repository.text(f"crates/{edit.split('/')[0]}/{text}")
         if kind == "old" and source.count(text) != 1:
-            yield "%s: not once in its file: %s" % (edit, text.strip())
+            yield f"{edit}: not once in its file: {text.strip()}"
 
 
 def miscounted(repository: Repository, known: Clauses) -> Iterator[str]:
@@ -116,12 +116,12 @@ def miscounted(repository: Repository, known: Clauses) -> Iterator[str]:
         "without turns:": sum(not turned(repository.text("crates/" + edit)) for edit in names),
     }
     readme = repository.text("README.md")
-    if "rejects all %d mutants." % len(names) not in readme:
-        yield "README.md: there are %d mutants" % len(names)
-    row = "\n| %s |" % " | ".join(map(str, counts.values()))
+    if f"rejects all {len(names)} mutants." not in readme:
+        yield f"README.md: there are {len(names)} mutants"
+    row = f"\n| {' | '.join(map(str, counts.values()))} |"
     if row not in "\n" + repository.text("docs/EVIDENCE.md"):
         yield "docs/EVIDENCE.md: there are " + ", ".join(
-            "%d %s" % (count, what) for what, count in counts.items()
+            f"{count} {what}" for what, count in counts.items()
         )
     if readme.count("\n") > MOST:
-        yield "README.md: above %d lines" % MOST
+        yield f"README.md: above {MOST} lines"

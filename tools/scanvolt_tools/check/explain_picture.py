@@ -35,15 +35,15 @@ def lanes(page: str) -> tuple[list[str], int]:
             "--disable-gpu",
             "--disable-dev-shm-usage",
             "--user-data-dir=" + folder,
-            "--window-size=%d,%d" % (WIDE, HIGH),
+            f"--window-size={WIDE},{HIGH}",
             "--virtual-time-budget=2000",
             "--dump-dom",
-            "file://%s#at=9999&why=poll.6" % path,
+            f"file://{path}#at=9999&why=poll.6",
         ]
         told = subprocess.run(
             command, capture_output=True, text=True, check=True, timeout=120
         ).stdout
-    parts = [part(r'(?s)<svg id="%s"[^>]*>(.*?)</svg>' % name, told) for name in ("over", "svg")]
+    parts = [part(rf'(?s)<svg id="{name}"[^>]*>(.*?)</svg>', told) for name in ("over", "svg")]
     return parts, int(part(r'<svg id="svg"[^>]*height="(\d+)', told))
 
 
@@ -60,11 +60,12 @@ def drawn(repository: Repository) -> str:
     (over, below), height = lanes(page)
     wide = WIDE - TABLE
     return (
-        '<svg xmlns="http://www.w3.org/2000/svg" width="%d" height="%d" viewBox="0 0 %d %d" font-family="sans-serif">\n'
+        f'<svg xmlns="http://www.w3.org/2000/svg" width="{wide}" height="{height + 58}" '
+        f'viewBox="0 0 {wide} {height + 58}" font-family="sans-serif">\n'
         "<title>A read that hangs: links, program units, lock, scan, errors and status bits over the steps of a session</title>\n"
-        "<style>%s text.m{font-family:monospace}</style>\n"
-        '<rect width="100%%" height="100%%" fill="var(--panel)"/>\n<g>%s</g>\n<g transform="translate(0 58)">%s</g>\n</svg>\n'
-        % (wide, height + 58, wide, height + 58, colours(page), over, below)
+        f"<style>{colours(page)} text.m{{font-family:monospace}}</style>\n"
+        '<rect width="100%" height="100%" fill="var(--panel)"/>\n'
+        f'<g>{over}</g>\n<g transform="translate(0 58)">{below}</g>\n</svg>\n'
     ).replace("&nbsp;", "&#160;")
 
 
@@ -76,7 +77,7 @@ def main(words: list[str]) -> int:
     try:
         picture = drawn(repository)
     except ProgramError as fault:
-        print("explain-picture: %s" % fault, file=sys.stderr)
+        print(f"explain-picture: {fault}", file=sys.stderr)
         return 2
     return printed(
         settled(repository, TARGET, picture, words == ["--check"], "tools/explain-picture draws")

@@ -83,7 +83,7 @@ def errors(text: str) -> dict[int, str]:
     found: dict[int, str] = {}
     for number, words in pairs:
         if found.setdefault(int(number), words) != words:
-            raise Fault("%s: two texts of error %s" % (INSTRUMENT, number))
+            raise Fault(f"{INSTRUMENT}: two texts of error {number}")
     return dict(sorted(found.items(), reverse=True))
 
 
@@ -102,7 +102,7 @@ def start(text: str) -> dict[str, object]:
     ):
         value = value.strip("`")
         for one in (
-            ["%s.%s" % (register, name) for register in ("oper", "ques", "lim")] if each else [name]
+            [f"{register}.{name}" for register in ("oper", "ques", "lim")] if each else [name]
         ):
             found[one] = int(value) if value.lstrip("-").isdigit() else value
     return found
@@ -119,7 +119,7 @@ def written(sources: Sources) -> str:
         ("REFUSED: Dict[int, str]", refused(sources)),
         ("START: Dict[str, object]", start(sources.text(STEPS))),
     )
-    return HEAD + "".join("%s = %s\n" % (name, shown(table, "")) for name, table in tables)
+    return HEAD + "".join(f"{name} = {shown(table, '')}\n" for name, table in tables)
 
 
 def shown(value: object, indent: str) -> str:
@@ -129,7 +129,7 @@ def shown(value: object, indent: str) -> str:
     deeper = indent + "    "
     return (
         "{\n"
-        + "".join("%s%r: %s,\n" % (deeper, key, shown(one, deeper)) for key, one in value.items())
+        + "".join(f"{deeper}{key!r}: {shown(one, deeper)},\n" for key, one in value.items())
         + indent
         + "}"
     )

@@ -140,7 +140,7 @@ class Lint:
         unformatted = child.communicate()[1].splitlines()
         if child.returncode and not unformatted:
             raise Ended(1, [])
-        return ["%s (run rt fmt)" % line for line in unformatted]
+        return [f"{line} (run rt fmt)" for line in unformatted]
 
     def tool(self, *words: str) -> list[str]:
         """The lines of a tool, whose status is 1 if it prints some."""
@@ -193,7 +193,7 @@ def main(words: list[str]) -> int:
         return 127
     guide = subprocess.run(["rt", "doc"], stdout=subprocess.PIPE, text=True)
     if guide.returncode:
-        print("lint: `rt doc` ended with status %d" % guide.returncode, file=sys.stderr)
+        print(f"lint: `rt doc` ended with status {guide.returncode}", file=sys.stderr)
         return guide.returncode
     rattle = os.path.join(os.path.dirname(guide.stdout.strip()), "bin", "rattle")
     try:

@@ -36,7 +36,7 @@ def anchors(lines: Sequence[str]) -> set[str]:
             anchor = re.sub(r"[^\w\- ]", "", text).replace(" ", "-")
             found[anchor] = found.get(anchor, -1) + 1
     return {
-        name if not count else "%s-%d" % (name, count)
+        name if not count else f"{name}-{count}"
         for name, most in found.items()
         for count in range(most + 1)
     }
@@ -51,22 +51,23 @@ def links(repository: Repository, name: str, lines: Sequence[str]) -> Iterator[s
         target = link.group(1)
         if re.match(r"[a-z]+:", target):
             continue
-        where = "%s:%d" % (name, text.count("\n", 0, link.end()) + 1)
+        number = text.count("\n", 0, link.end()) + 1
+        where = f"{name}:{number}"
         path, _, anchor = target.partition("#")
         whole = os.path.normpath(os.path.join(os.path.dirname(name), path)) if path else name
         if not repository.has(whole):
-            yield "%s: the link leads nowhere: %s" % (where, target)
+            yield f"{where}: the link leads nowhere: {target}"
         elif anchor and (
             not whole.endswith(".md") or anchor not in anchors(repository.text(whole).splitlines())
         ):
-            yield "%s: the link's heading isn't there: %s" % (where, target)
+            yield f"{where}: the link's heading isn't there: {target}"
 
 
 def columns(name: str, lines: Sequence[str]) -> Iterator[str]:
     """Lines of prose that are too long."""
     for number, line in outside_fences(lines):
         if len(line) > COLUMNS and not line.startswith(("|", "#")):
-            yield "%s:%d: prose above %d columns" % (name, number, COLUMNS)
+            yield f"{name}:{number}: prose above {COLUMNS} columns"
 
 
 def faults(repository: Repository) -> list[str]:

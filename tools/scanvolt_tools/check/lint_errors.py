@@ -18,10 +18,9 @@ def faults(repository: Repository) -> Iterator[str]:
     for crate in libraries(repository).values():
         for one in crate.exported():
             if re.match(r"(?:\w+::)*Result<", one.answer) and "# Errors" not in one.comment:
-                yield "%s:%d: %s answers a Result, and its comment has no '# Errors'" % (
-                    one.path,
-                    one.line,
-                    shown(crate, one),
+                yield (
+                    f"{one.path}:{one.line}: {shown(crate, one)} answers a Result, "
+                    "and its comment has no '# Errors'"
                 )
 
 

@@ -58,12 +58,7 @@ def spelled(name: str, lines: Iterable[str]) -> Iterator[str]:
         for what, pattern in SPELLED:
             found = pattern.search(line)
             if found:
-                yield "%s:%d: %s, %s: scanvolt.vxi11 has it" % (
-                    name,
-                    number,
-                    what,
-                    found.group().strip(),
-                )
+                yield f"{name}:{number}: {what}, {found.group().strip()}: scanvolt.vxi11 has it"
 
 
 def main(words: list[str]) -> int:

@@ -107,7 +107,7 @@ def main(words: list[str]) -> int:
                 if KEY + text in file.read():
                     return 0
             print(
-                "%s: the page or the session has changed since tools/panel-picture drew it" % TARGET
+                f"{TARGET}: the page or the session has changed since tools/panel-picture drew it"
             )
             return 1
         if CHROMIUM is None:
@@ -115,7 +115,7 @@ def main(words: list[str]) -> int:
             return 2
         picture = with_text(drawn(session), text)
     except ProgramError as fault:
-        print("panel-picture: %s" % fault, file=sys.stderr)
+        print(f"panel-picture: {fault}", file=sys.stderr)
         return 2
     with open(path, "wb") as file:
         file.write(picture)

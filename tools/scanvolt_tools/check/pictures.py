@@ -42,8 +42,8 @@ def drawn(name: str, sources: Sources, check: bool) -> list[str]:
         return [str(fault)]
     except (AttributeError, IndexError, KeyError, StopIteration, ValueError) as fault:
         place = traceback.extract_tb(fault.__traceback__)[-1]
-        where = (FOLDER + name, os.path.basename(place.filename), place.lineno, fault)
-        return ["%s: what it is drawn from can't be read, at %s:%s: %r" % where]
+        where = f"{os.path.basename(place.filename)}:{place.lineno}"
+        return [f"{FOLDER}{name}: what it is drawn from can't be read, at {where}: {fault!r}"]
     return settled(sources.repository, FOLDER + name, picture, check, "tools/pictures draws")
 
 
@@ -56,7 +56,7 @@ def faults(repository: Repository, check: bool) -> list[str]:
         *OTHERS,
     }
     return found + [
-        "%s: tools/pictures draws no such picture" % (FOLDER + name) for name in sorted(others)
+        f"{FOLDER + name}: tools/pictures draws no such picture" for name in sorted(others)
     ]
 
 

@@ -53,7 +53,7 @@ def docstring(what: Any, name: str) -> str:
     """The docstring, without indentation."""
     text = inspect.getdoc(what)
     if not text:
-        raise Lacking("%s: it has no docstring" % name)
+        raise Lacking(f"{name}: it has no docstring")
     return text
 
 
@@ -134,14 +134,14 @@ def members(kind: type) -> Iterator[tuple[str, Any]]:
 def of_class(kind: type, name: str) -> Iterator[str]:
     """The lines about a class."""
     is_raised = issubclass(kind, Exception)
-    yield from ["### %s" % name, ""]
+    yield from [f"### {name}", ""]
     if not is_raised:
-        yield from ["`%s`" % signature(kind, name), ""]
+        yield from [f"`{signature(kind, name)}`", ""]
     yield from paragraphs(docstring(kind, name))
     listed = list(members(kind))
     for member, what in listed:
         shown = member if isinstance(what, property) else signature(what, member)
-        first, *rest = docstring(what, "%s.%s" % (name, member)).split("\n\n")
+        first, *rest = docstring(what, f"{name}.{member}").split("\n\n")
         yield from item(shown, first, rest)
     if listed:
         yield ""
@@ -149,7 +149,7 @@ def of_class(kind: type, name: str) -> Iterator[str]:
 
 def item(shown: str, first: str, rest: Iterable[str] = ()) -> Iterator[str]:
     """The lines of an entry of a list."""
-    text = "- `%s`: %s" % (shown, " ".join(first.split()))
+    text = f"- `{shown}`: {' '.join(first.split())}"
     yield from textwrap.wrap(
         text, WIDTH, subsequent_indent="  ", break_long_words=False, break_on_hyphens=False
     )
@@ -161,13 +161,13 @@ def item(shown: str, first: str, rest: Iterable[str] = ()) -> Iterator[str]:
 def of_module(name: str, told: list[type]) -> Iterator[str]:
     """The lines about a module: what it has, functions and constants, and then classes, unless they were told before."""
     module = importlib.import_module(name)
-    yield from ["## %s" % name, "", *paragraphs(docstring(module, name))]
+    yield from [f"## {name}", "", *paragraphs(docstring(module, name))]
     entries = [(one, getattr(module, one)) for one in public(module)]
     for one, what in entries:
         if inspect.isfunction(what):
-            first, *rest = docstring(what, "%s.%s" % (name, one)).split("\n\n")
+            first, *rest = docstring(what, f"{name}.{one}").split("\n\n")
             yield from item(signature(what, one), first, rest)
-    constants = ["`%s` = %r" % pair for pair in entries if isinstance(pair[1], (int, str))]
+    constants = [f"`{one}` = {what!r}" for one, what in entries if isinstance(what, (int, str))]
     if constants:
         yield from textwrap.wrap(
             "- Constants: " + ", ".join(constants), WIDTH, subsequent_indent="  "
@@ -190,7 +190,7 @@ def of_plugin(repository: Repository) -> Iterator[str]:
         ):
             text = ast.get_docstring(one)
             if not text:
-                raise Lacking("%s: it has no docstring" % one.name)
+                raise Lacking(f"{one.name}: it has no docstring")
             yield from item(one.name, text)
     yield ""
     yield from of_class(importlib.import_module(FIXTURE).VisaMeter, "VisaMeter")

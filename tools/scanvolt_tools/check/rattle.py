@@ -62,7 +62,7 @@ class Function:
     @property
     def shown(self) -> str:
         """Its name, with that of its type or trait."""
-        return "%s::%s" % (self.owner, self.name) if self.owner else self.name
+        return f"{self.owner}::{self.name}" if self.owner else self.name
 
     def ensured(self) -> list[Clause]:
         """What it ensures."""
@@ -208,12 +208,12 @@ class Crate:
     def __init__(self, repository: Repository, name: str) -> None:
         self.repository = repository
         self.name = name
-        self.root = "crates/%s/src/lib.rt" % name
+        self.root = f"crates/{name}/src/lib.rt"
 
     @cached_property
     def files(self) -> list[str]:
         """Its files of code."""
-        return self.repository.names("crates/%s/src/**/*.rt" % self.name)
+        return self.repository.names(f"crates/{self.name}/src/**/*.rt")
 
     @cached_property
     def functions(self) -> list[Function]:

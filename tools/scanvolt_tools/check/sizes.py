@@ -38,7 +38,7 @@ def columns(repository: Repository, names: list[str], kind: str) -> Iterator[str
     for name in names:
         for number, line in enumerate(lines_of(repository, name) if name.endswith(kind) else (), 1):
             if len(line) > COLUMNS[kind] and not USE[kind].match(line):
-                yield "%s:%d: above %d columns" % (name, number, COLUMNS[kind])
+                yield f"{name}:{number}: above {COLUMNS[kind]} columns"
 
 
 def lengths(repository: Repository, names: list[str]) -> Iterator[str]:
@@ -46,7 +46,7 @@ def lengths(repository: Repository, names: list[str]) -> Iterator[str]:
     for name in names:
         count = len(lines_of(repository, name))
         if count > LINES:
-            yield "%s: %d lines" % (name, count)
+            yield f"{name}: {count} lines"
     for name in names:
         if "/specs/" in name:
             yield from definitions(name, lines_of(repository, name))
@@ -58,7 +58,7 @@ def definitions(name: str, lines: list[str]) -> Iterator[str]:
     for number, line in enumerate([*lines, ""], 1):
         if not line:
             if count > DEFINITION and word not in TABLES:
-                yield "%s:%d: %s has %d lines" % (name, first, word, count)
+                yield f"{name}:{first}: {word} has {count} lines"
             count = 0
         elif not APART.match(line):
             if count == 0:

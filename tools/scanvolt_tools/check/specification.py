@@ -50,7 +50,7 @@ def libraries(repository: Repository) -> dict[str, Crate]:
 def told(repository: Repository, crate: str) -> str:
     """The first sentence of a crate."""
     for name in ("lib.rt", "main.rt"):
-        path = "crates/%s/src/%s" % (crate, name)
+        path = f"crates/{crate}/src/{name}"
         if repository.has(path):
             return sentence(head(repository.text(path), "//!"))
     return ""
@@ -71,7 +71,7 @@ class Definitions:
             crate, _, rest = path[len("crates/") :].partition("/specs/")
             self._read(
                 path[len("crates/") :],
-                "Rattle.%s.specs.%s" % (crate, rest[:-5].replace("/", ".")),
+                f"Rattle.{crate}.specs.{rest[:-5].replace('/', '.')}",
                 repository.text(path),
             )
 

@@ -10,7 +10,7 @@ def settled(repository: Repository, name: str, text: str, check: bool, tool: str
     if repository.is_text(name, text):
         return []
     if check:
-        return ["%s: it differs from what %s" % (name, tool)]
+        return [f"{name}: it differs from what {tool}"]
     repository.write(name, text)
     return []
 

@@ -25,8 +25,8 @@ def text(date: int) -> str | None:
     if not sections or not items(sections[0]) or sections[0].split("\n")[0] != version:
         return None
     maintainer = re.findall(r"^Maintainer: (.*)$", there.text("packaging/control"), re.MULTILINE)[0]
-    lines = ["scanvolt (%s) unstable; urgency=medium\n" % version]
+    lines = [f"scanvolt ({version}) unstable; urgency=medium\n"]
     for item in items(sections[0]):
         lines.append(textwrap.fill(item, COLUMNS, initial_indent="  * ", subsequent_indent="    "))
     written = email.utils.formatdate(date, usegmt=False).replace("-0000", "+0000")
-    return "\n".join([*lines, "\n -- %s  %s\n" % (maintainer, written)])
+    return "\n".join([*lines, f"\n -- {maintainer}  {written}\n"])

@@ -48,7 +48,7 @@ def run(*words: str | pathlib.Path, **options: Any) -> str:
     """Runs a command, whose status has to be 0. Returns what it prints."""
     done = subprocess.run(words, stdout=subprocess.PIPE, text=True, **options)
     if done.returncode:
-        raise Failed("%s ended with status %d" % (" ".join(map(str, words)), done.returncode))
+        raise Failed(f"{' '.join(map(str, words))} ended with status {done.returncode}")
     printed: str = done.stdout
     return printed
 
@@ -75,17 +75,14 @@ def depends(program: str) -> str:
     needed = sorted(re.findall(r"\(NEEDED\).*\[(.*)\]", run("readelf", "-d", program)))
     unknown = [name for name in needed if name not in LIBRARIES]
     if unknown:
-        raise Failed("it isn't known which package has %s" % unknown[0])
+        raise Failed(f"it isn't known which package has {unknown[0]}")
     glibc = [
         version(text) for text in re.findall(r"GLIBC_([0-9.]+)", run("readelf", "-V", program))
     ]
     least = max(glibc, default=(2,))
     if least > NEWEST:
-        raise Failed("%s needs a newer glibc than %s" % (program, ".".join(map(str, NEWEST))))
-    return "%slibc6 (>= %s)" % (
-        "".join(LIBRARIES[name] for name in needed),
-        ".".join(map(str, least)),
-    )
+        raise Failed(f"{program} needs a newer glibc than {'.'.join(map(str, NEWEST))}")
+    return f"{''.join(LIBRARIES[name] for name in needed)}libc6 (>= {'.'.join(map(str, least))})"
 
 
 def version(text: str) -> tuple[int, ...]:
@@ -103,7 +100,7 @@ class Packing:
         self.depends = depends(program)
         changelog = debian_changelog.text(int(self.date))
         if changelog is None:
-            raise Failed("CHANGELOG.md doesn't begin with %s" % self.version)
+            raise Failed(f"CHANGELOG.md doesn't begin with {self.version}")
         put(changelog, work / "changelog")
         put(self.kit(), work / "KIT")
 
@@ -116,11 +113,7 @@ class Packing:
         told = "named by SERVER: whether it is proved is not known here"
         if self.program == str(PROVED):
             told = "crates/scanvolt/out/scanvolt, which rt leaves there proved"
-        return "%scommit %s\nprogram %s\nIts symbols are left out.\n" % (
-            run(RT, "version"),
-            commit,
-            told,
-        )
+        return f"{run(RT, 'version')}commit {commit}\nprogram {told}\nIts symbols are left out.\n"
 
     def stage(self, target: pathlib.Path, prefix: str) -> None:
         """Installs into the folder, with the prefix."""
@@ -133,20 +126,20 @@ class Packing:
             "install",
             "SERVER=" + self.program,
             "PREFIX=" + prefix,
-            "DESTDIR=%s" % target,
+            f"DESTDIR={target}",
         )
         run(
             "install",
             "-m",
             "644",
             self.work / "KIT",
-            "%s%s/share/doc/scanvolt/KIT" % (target, prefix),
+            f"{target}{prefix}/share/doc/scanvolt/KIT",
         )
-        run("strip", "%s%s/bin/scanvolt" % (target, prefix))
+        run("strip", f"{target}{prefix}/bin/scanvolt")
 
     def archive(self, out: pathlib.Path) -> None:
         """Writes the archive into the folder, using tar/ in it."""
-        name = "scanvolt-%s-x86_64" % self.version
+        name = f"scanvolt-{self.version}-x86_64"
         self.stage(out / "tar", "/" + name)
         run(
             "tar",
@@ -181,14 +174,14 @@ class Packing:
         copied(
             ["packaging/postinst", "packaging/prerm", "packaging/postrm"], root / "DEBIAN", "755"
         )
-        self.debian(root, out / ("scanvolt_%s_amd64.deb" % self.version))
+        self.debian(root, out / (f"scanvolt_{self.version}_amd64.deb"))
 
     def python_package(self, out: pathlib.Path) -> None:
         """Writes the wheels, the sdist and Debian's package of the Python package into the folder, using tree/ and inside/ in it."""
         self.stage(out / "inside", "/program")
         if not dist_python.pack(out, self.version, out / "inside/program"):
             raise Failed(
-                "python/pyproject.toml has another version than VERSION, which is %s" % self.version
+                f"python/pyproject.toml has another version than VERSION, which is {self.version}"
             )
         shutil.rmtree(out / "inside")
         root = out / "tree"
@@ -208,14 +201,14 @@ class Packing:
         self.control(root, "packaging/python-control")
         run("install", "-m", "755", TOP / "packaging/python-postinst", root / "DEBIAN/postinst")
         run("install", "-m", "755", TOP / "packaging/python-prerm", root / "DEBIAN/prerm")
-        self.debian(root, out / ("python3-scanvolt_%s_all.deb" % self.version))
+        self.debian(root, out / (f"python3-scanvolt_{self.version}_all.deb"))
 
     def control(self, root: pathlib.Path, name: str) -> None:
         """Writes what a package of Debian says of itself: the form, and the sums of its files."""
         files = sorted(str(path.relative_to(root)) for path in root.rglob("*") if path.is_file())
         size = sum(-(-(root / path).stat().st_size // 1024) for path in files)
         sums = "".join(
-            "%s  %s\n" % (hashlib.md5((root / path).read_bytes()).hexdigest(), path)
+            f"{hashlib.md5((root / path).read_bytes()).hexdigest()}  {path}\n"
             for path in files
             if path.startswith("usr/")
         )
@@ -258,11 +251,11 @@ class Packing:
                 os.umask(mask)
                 part(out)
         except Failed as fault:
-            print("dist: %s" % fault, file=sys.stderr)
+            print(f"dist: {fault}", file=sys.stderr)
             sys.exit(2)
         put((self.work / "KIT").read_text(), out / "KIT")
         sums = [
-            "%s  %s\n" % (hashlib.sha256(path.read_bytes()).hexdigest(), path.name)
+            f"{hashlib.sha256(path.read_bytes()).hexdigest()}  {path.name}\n"
             for path in sorted(out.iterdir())
         ]
         put("".join(sums), out / "SHA256SUMS")
@@ -304,12 +297,12 @@ def main(words: list[str]) -> int:
     try:
         for command in NEEDED:
             if shutil.which(command) is None:
-                raise Failed("%s is missing" % command)
+                raise Failed(f"{command} is missing")
         program = os.path.abspath(words[0])
         if "X86-64" not in run("readelf", "-h", program):
-            raise Failed("%s is no program for x86-64" % words[0])
+            raise Failed(f"{words[0]} is no program for x86-64")
         with tempfile.TemporaryDirectory(prefix="dist.") as work:
             return packed(program, pathlib.Path(work))
     except Failed as fault:
-        print("dist: %s" % fault, file=sys.stderr)
+        print(f"dist: {fault}", file=sys.stderr)
         return 2

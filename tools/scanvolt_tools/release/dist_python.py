@@ -75,7 +75,7 @@ def tree(wheel: pathlib.Path, folder: pathlib.Path) -> None:
             text.replace("\\", r"\e").replace("-", r"\-").replace("\n.", "\n\\&."),
         )
         for place, content in ("bin/" + command, SCRIPT % module), (
-            "share/man/man1/%s.1" % command,
+            f"share/man/man1/{command}.1",
             manual,
         ):
             made = folder / "usr" / place
@@ -95,7 +95,7 @@ def pack(out: pathlib.Path, version: str, prefix: pathlib.Path) -> bool:
     os.chdir(TOP / "python")
     names = scanvolt_build.build_wheel(str(out)), scanvolt_build.build_sdist(str(out))
     scanvolt_build.build_wheel(str(out), {scanvolt_build.PROGRAM: str(prefix)})
-    if names != ("scanvolt-%s-py3-none-any.whl" % version, "scanvolt-%s.tar.gz" % version):
+    if names != (f"scanvolt-{version}-py3-none-any.whl", f"scanvolt-{version}.tar.gz"):
         return False
     tree(out / names[0], out / "tree")
     return True

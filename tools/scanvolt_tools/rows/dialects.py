@@ -57,7 +57,7 @@ class Scripts(Reading):
             return self.sent(connection, [verb, *more])
         plain = self.alone(line, more)
         if took:
-            return ["took %s%s %s" % ("i" if took[3] else "c", took[1], took[2])]
+            return [f"took {'i' if took[3] else 'c'}{took[1]} {took[2]}"]
         if connection.isdigit():
             if verb == "close" or verb.startswith("open"):
                 self.numbering.opened(connection)
@@ -94,7 +94,7 @@ class Explained(Scripts):
 
     def called(self, connection: str, line: str) -> tuple[bytes, dict[str, str]]:
         record, beside = super().called(connection, line)
-        self.last["- call c" + connection] = "- call c%s %s" % (connection, record[4:].hex())
+        self.last["- call c" + connection] = f"- call c{connection} {record[4:].hex()}"
         return record, beside
 
     def wanted(self, line: str, more: Sequence[str] = ()) -> str:
@@ -103,7 +103,7 @@ class Explained(Scripts):
             return super().wanted(line, more)
         unit = self.UNIT.fullmatch(line)
         if unit:
-            return "%s %s" % (unit[1], bytes_of(unit[2]).hex())
+            return f"{unit[1]} {bytes_of(unit[2]).hex()}"
         return self.last.get(line, self.alone(line, more))
 
 
@@ -161,11 +161,11 @@ class Sockets(Reading):
         if line.split(" ", 1)[0] in ("reply", "request"):
             wanted = super().wanted(line, more)
             name, sent = wanted.split(" ")
-            return ["%s > %d" % (name, len(sent) // 2)], [wanted]
+            return [f"{name} > {len(sent) // 2}"], [wanted]
         if line.startswith("answer "):
             _, name, text = self.alone(line, more).split(" ", 2)
             data = bytes_of(text)
-            return ["%s > %d" % (name, len(data))], ["%s %s" % (name, data.hex())]
+            return [f"{name} > {len(data)}"], [f"{name} {data.hex()}"]
         return super().read_one(line, more)
 
     def asked(self, line: str, more: Sequence[str] = ()) -> list[str]:

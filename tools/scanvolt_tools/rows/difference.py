@@ -48,12 +48,10 @@ def explained(line: str) -> str:
     """A line, with names after its numbers."""
     error = re.search(r" error=(\d+)", line)
     if error:
-        return "%s (%s)" % (line, fields.error_name(int(error[1])))
+        return f"{line} ({fields.error_name(int(error[1]))})"
     if line.startswith("refused "):
-        return "%s (%s)" % (
-            line,
-            REFUSALS.get(line[8:].partition(":")[0], "no number of a refusal"),
-        )
+        refusal = REFUSALS.get(line[8:].partition(":")[0], "no number of a refusal")
+        return f"{line} ({refusal})"
     return line
 
 
@@ -127,7 +125,7 @@ def shown(lines: Sequence[str]) -> list[str]:
         else [line for line in front if not is_wanted(line)][-BEFORE:]
     )
     left = len(front) - len(asked)
-    return [*asked, *([".. and %d more" % left] if left else []), *last]
+    return [*asked, *([f".. and {left} more"] if left else []), *last]
 
 
 def source(rows: Mapping[str, Row], title: str, index: int) -> tuple[Row, int]:
@@ -152,7 +150,7 @@ def told(
     row, place = source(rows, title, index)
     lines, text, numbering = context(row, place)
     first, second = (some[index] if index < len(some) else None for some in (wanted, came))
-    made = ["%s: %s" % (row.place, title)]
+    made = [f"{row.place}: {title}"]
     made += ["  kind " + row.kind] if row.kind else []
     made += ["  | " + line[:WIDEST] for line in shown(lines)]
     call = call_of(numbering, first) or call_of(numbering, second)
@@ -168,11 +166,11 @@ def differences(rows: Iterable[Row], wanted: str, printed: str) -> list[list[str
     for title, lines in parts(wanted, known):
         if title not in known:
             found.append(
-                ["%s: no row of the text has this title; make stdout anew with tools/rows" % title]
+                [f"{title}: no row of the text has this title; make stdout anew with tools/rows"]
             )
         elif title not in came:
             found.append(
-                ["%s: %s" % (known[title].place, title), "  came    nothing: the program had ended"]
+                [f"{known[title].place}: {title}", "  came    nothing: the program had ended"]
             )
         elif came[title] != lines:
             found.append(told(known, title, lines, came[title]))

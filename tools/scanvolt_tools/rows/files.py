@@ -42,9 +42,7 @@ class Row:
             try:
                 asked, wanted = reading.read(first, more)
             except ValueError as fault:
-                raise TextError(
-                    "%s:%d: %s" % (self.place.rpartition(":")[0], number, fault)
-                ) from None
+                raise TextError(f"{self.place.rpartition(':')[0]}:{number}: {fault}") from None
             self.asked += asked
             self.wanted += wanted
         if "unended" not in self.marks:
@@ -65,11 +63,11 @@ def rows_of(path: str) -> list[Row]:
 def _take(rows: list[Row], line: str, path: str, number: int) -> None:
     """Adds a line to the last row, or begins a row with it."""
     word, _, rest = line.partition(" ")
-    place = "%s:%d" % (path, number)
+    place = f"{path}:{number}"
     if word == "title":
         rows.append(Row(rest.strip(), place))
     elif not rows:
-        raise TextError("%s: a line before the first title" % place)
+        raise TextError(f"{place}: a line before the first title")
     elif word == "kind" and not rows[-1].lines:
         rows[-1].kind = rest
     elif line in MARKS and not rows[-1].lines:

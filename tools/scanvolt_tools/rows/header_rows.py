@@ -149,7 +149,7 @@ def main(words: list[str]) -> int:
     if old == text():
         return 0
     if words == ["--check"]:
-        print("%s: not what tools/header-rows writes" % os.path.relpath(PATH, TOP), file=sys.stderr)
+        print(f"{os.path.relpath(PATH, TOP)}: not what tools/header-rows writes", file=sys.stderr)
         return 1
     with open(PATH, "w", encoding="utf-8") as file:
         file.write(text())

@@ -117,7 +117,7 @@ class Reading:
                 piece, beside = self.called(connection, line)
             data, front = data + piece, beside if front is None else front
         if front is None or "singly" in front:
-            return [self.BYTES % (connection, "%02x" % byte) for byte in data]
+            return [self.BYTES % (connection, f"{byte:02x}") for byte in data]
         joined = front.get("joined", "" if self.joined else None)
         return [
             (how or self.BYTES)
@@ -175,7 +175,7 @@ class Telling:
                 told = [getattr(self, kind)(found[2], body) for body in bodies or ()]
             except XdrError:
                 continue
-            return ["%s %s %s" % (kind, found[2], told[0])] + ["and " + text for text in told[1:]]
+            return [f"{kind} {found[2]} {told[0]}"] + ["and " + text for text in told[1:]]
         return []
 
     def reply(self, connection: str, body: bytes) -> str:
@@ -191,9 +191,9 @@ class Telling:
             raise XdrError("no request for service")
         words = [text_of(calls.read_service_request(call.arguments))]
         if call.program != calls.INTERRUPT:
-            words.append("prog=%s" % plain_number(call.program))
+            words.append(f"prog={plain_number(call.program)}")
         if call.version != calls.VERSIONS.get(call.program, 0):
-            words.append("vers=%d" % call.version)
+            words.append(f"vers={call.version}")
         if self.always or call.xid != self.numbering.next_request(connection):
             words.append("xid=" + plain_number(call.xid))
         self.numbering.request(connection, call.xid)

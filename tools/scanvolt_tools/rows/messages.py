@@ -60,7 +60,7 @@ def said(
         elif word[-1] == '"' and any(name in fields.OPAQUE for name in names):
             found[[name for name in names if name in fields.OPAQUE][0]] = bytes_of(word)
         else:
-            raise TextError("no field %s: there are %s" % (word, " ".join(list(names) + list(may))))
+            raise TextError(f"no field {word}: there are {' '.join(list(names) + list(may))}")
     return found, beside
 
 
@@ -103,9 +103,9 @@ def shown(values: Iterable[tuple[str, Any]]) -> list[str]:
         elif name == "hostAddr":
             made.append("hostAddr=" + fields.address_text(value))
         elif name in fields.SUMS:
-            made.append("%s=%s" % (name, sum_of(value, fields.WORDS[name])))
+            made.append(f"{name}={sum_of(value, fields.WORDS[name])}")
         else:
-            made.append("%s=%s" % (name, word_of(value, fields.WORDS.get(name, {}))))
+            made.append(f"{name}={word_of(value, fields.WORDS.get(name, {}))}")
     return made
 
 
@@ -168,7 +168,7 @@ def framed(body: bytes, sizes: str | None) -> bytes:
     """The record of a body, in fragments of these sizes or in one; `3*0` means three fragments of 0 bytes."""
     made, each = b"", sizes_of(sizes) if sizes else [len(body)]
     if sum(each) != len(body):
-        raise TextError("fragments of %d bytes in all, where %d are sent" % (sum(each), len(body)))
+        raise TextError(f"fragments of {sum(each)} bytes in all, where {len(body)} are sent")
     for at, size in enumerate(each):
         made += mark(size, at + 1 == len(each)) + body[:size]
         body = body[size:]
@@ -184,20 +184,18 @@ def call_text(body: bytes) -> tuple[str, int, Called]:
     program, version, procedure = reader.word(), reader.word(), reader.word()
     beside: list[str] = []
     if version_of_rpc != rpc.RPC_VERSION:
-        beside.append("rpcvers=%d" % version_of_rpc)
+        beside.append(f"rpcvers={version_of_rpc}")
     for key in ("cred", "verf"):
         flavor, inner = reader.word(), reader.opaque()
-        beside += ["%s=%d" % (key, flavor)] * bool(flavor) + [
-            "%sBody=%s" % (key, text_of(inner))
-        ] * bool(inner)
+        beside += [f"{key}={flavor}"] * bool(flavor) + [f"{key}Body={text_of(inner)}"] * bool(inner)
     name, names = fields.name_of(program, procedure), fields.arguments(program, procedure)
     if name is None or names is None:
         name, names = "call", []
-        beside += ["prog=" + word_of(program, fields.PROGRAMS), "proc=%d" % procedure]
+        beside += ["prog=" + word_of(program, fields.PROGRAMS), f"proc={procedure}"]
     elif name == "null" and program != calls.CORE:
         beside.append("prog=" + word_of(program, fields.PROGRAMS))
     if version != calls.VERSIONS.get(program, 0):
-        beside.append("vers=%d" % version)
+        beside.append(f"vers={version}")
     made = shown(read(names, reader))
     rest = reader.rest()
     return (
@@ -259,7 +257,7 @@ def reply_text(body: bytes, called: Called | None) -> str:
 def refusal_text(statuses: Mapping[str, int], reader: Reader) -> str:
     name = word_of(reader.word(), statuses)
     return " ".join(
-        [name] + ["%s=%s" % (one, plain_number(reader.word())) for one in DETAILS.get(name, [])]
+        [name] + [f"{one}={plain_number(reader.word())}" for one in DETAILS.get(name, [])]
     )
 
 

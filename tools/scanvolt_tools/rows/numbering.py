@@ -37,7 +37,7 @@ class Numbering:
         self.last = xid
         self.open.setdefault(connection, []).append(xid)
         self.calls[connection, xid] = called
-        self.texts[connection, xid] = "%s %s" % (connection, text)
+        self.texts[connection, xid] = f"{connection} {text}"
 
     def next_reply(self, connection: str) -> int:
         waiting = self.open.get(connection)

@@ -30,15 +30,8 @@ def compare(stdout: str, printed: str) -> int:
     for lines in found[:MOST]:
         print("\n".join(lines) + "\n")
     if found:
-        print(
-            "%s: %d of %d rows differ%s"
-            % (
-                printed,
-                len(found),
-                len(rows),
-                "; the first %d are shown" % MOST if len(found) > MOST else "",
-            )
-        )
+        first = f"; the first {MOST} are shown" if len(found) > MOST else ""
+        print(f"{printed}: {len(found)} of {len(rows)} rows differ{first}")
     return len(found)
 
 
@@ -50,7 +43,7 @@ def pairs(words: list[str]) -> list[tuple[str, str]]:
         os.path.relpath(os.path.dirname(path)) for path in glob.glob(TOP + "/crates/*/rows")
     )
     found = [
-        (folder, "%s/out/%s" % (folder, name))
+        (folder, f"{folder}/out/{name}")
         for folder in folders
         for name in ("stdout", "stdout.by-rattle")
     ]
@@ -64,11 +57,9 @@ def main(words: list[str]) -> int:
     try:
         compared = pairs(words)
         if words and not compared:
-            print(
-                "row-diff: there is no %s/out/stdout: `rt ci` makes it" % words[0], file=sys.stderr
-            )
+            print(f"row-diff: there is no {words[0]}/out/stdout: `rt ci` makes it", file=sys.stderr)
             return 2
         return 1 if sum([compare(*pair) for pair in compared]) else 0
     except (OSError, ValueError) as fault:
-        print("row-diff: %s" % fault, file=sys.stderr)
+        print(f"row-diff: {fault}", file=sys.stderr)
         return 2

@@ -34,7 +34,7 @@ def faults(rows: Iterable[Row]) -> Iterator[str]:
     lengths: dict[str, list[int]] = {}
     for row in rows:
         if row.title in titles:
-            yield "%s: another row has this title" % row.place
+            yield f"{row.place}: another row has this title"
         titles.add(row.title)
         if row.lines and row.place:
             name, _, first = row.place.rpartition(":")
@@ -43,7 +43,7 @@ def faults(rows: Iterable[Row]) -> Iterator[str]:
         with open(name, encoding="utf-8") as file:
             length = sum(1 for _ in file)
         if length > MOST and len(firsts) > 1:
-            yield "%s: %d lines" % (name, length)
+            yield f"{name}: {length} lines"
 
 
 def main(words: list[str]) -> int:

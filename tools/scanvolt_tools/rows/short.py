@@ -48,26 +48,26 @@ def answered(
     if not (result and (result[0] in ACCEPTED or result[0] in DENIED)):
         result = [call[0] if call and call[0] in fields.NAMES else "null", *result]
     return [
-        "%s %s" % (connection, " ".join(call)),
+        f"{connection} {' '.join(call)}",
         *between,
-        "reply %s %s" % (connection, " ".join(result)),
+        f"reply {connection} {' '.join(result)}",
     ]
 
 
 def _check(connection: str, numbering: Numbering) -> None:
     if numbering.open.get(connection):
         raise TextError(
-            "a call waits on connection %s: write this call, its turn and the replies line by line"
-            % connection
+            f"a call waits on connection {connection}: "
+            "write this call, its turn and the replies line by line"
         )
 
 
 def _turned(connection: str, call: Sequence[str], reply: Sequence[str]) -> list[str]:
     """The lines of a call that a turn answers."""
     return [
-        "%s %s" % (connection, " ".join(call)),
+        f"{connection} {' '.join(call)}",
         connection + " turn",
-        "reply %s %s" % (connection, " ".join(reply)),
+        f"reply {connection} {' '.join(reply)}",
     ]
 
 
@@ -86,9 +86,9 @@ def _parts(
     texts = [word for word in words if word[-1] == '"' and "=" not in word.partition('"')[0]]
     links = [word for word in words if word.startswith("lid=")]
     if not links and connection not in numbering.links:
-        raise TextError("no link was made on connection %s; say which, by `lid=`" % connection)
+        raise TextError(f"no link was made on connection {connection}; say which, by `lid=`")
     return (
-        links or ["lid=%d" % numbering.links[connection]],
+        links or [f"lid={numbering.links[connection]}"],
         texts,
         [word for word in words if word not in links and word not in texts],
     )
@@ -98,12 +98,12 @@ def _link(connection: str, words: list[str], numbering: Numbering) -> list[str]:
     lid = numbering.last_link + 1
     for word in words[1:]:
         if not word.startswith("lid="):
-            raise TextError("a link can have `lid=`, and not %s" % word)
+            raise TextError(f"a link can have `lid=`, and not {word}")
         lid = number_of(word[4:])
     return [connection + " open core"] + _turned(
         connection,
         ["create_link", 'device="inst0"'],
-        ["create_link", "lid=%d" % lid, "abortPort=4097", "maxRecvSize=4096"],
+        ["create_link", f"lid={lid}", "abortPort=4097", "maxRecvSize=4096"],
     )
 
 
@@ -113,11 +113,11 @@ def _write(connection: str, words: list[str], numbering: Numbering) -> list[str]
         raise TextError("a write has one text in quotes, and no answer: " + " ".join(words))
     size = len(bytes_of(texts[0]))
     if size > LONGEST:
-        raise TextError("a write of %d bytes, where %d are taken" % (size, LONGEST))
+        raise TextError(f"a write of {size} bytes, where {LONGEST} are taken")
     return _turned(
         connection,
         ["device_write", *link, *more, "end", *texts],
-        ["device_write", "size=%d" % size],
+        ["device_write", f"size={size}"],
     )
 
 
@@ -128,12 +128,10 @@ def _read(connection: str, words: list[str], numbering: Numbering) -> list[str]:
         raise TextError("a read has one text in quotes, its answer: " + " ".join(words))
     data = bytes_of(answer[0]) + b"\n"
     if len(data) > MOST:
-        raise TextError(
-            "an answer of %d bytes with its new line, where %d are read" % (len(data), MOST)
-        )
+        raise TextError(f"an answer of {len(data)} bytes with its new line, where {MOST} are read")
     return _turned(
         connection,
-        ["device_read", *link, "requestSize=%d" % MOST, *more],
+        ["device_read", *link, f"requestSize={MOST}", *more],
         ["device_read", "reason=end", text_of(data)],
     )
 

@@ -52,7 +52,7 @@ def _pieces(connection: str, xid: int, front: bytes, flags: int, text: bytes) ->
         last = at + 1 == len(text)
         arguments = front + words(flags if last else flags & ~calls.END) + opaque(text[at : at + 1])
         record = encode_call(xid, calls.CORE, 1, calls.DEVICE_WRITE, arguments)
-        made += ["bytes %s %s" % (connection, record.hex())] + ["turn " + connection] * (not last)
+        made += [f"bytes {connection} {record.hex()}"] + ["turn " + connection] * (not last)
     return made
 
 
@@ -67,7 +67,8 @@ def cut(asked: Iterable[str], wanted: Iterable[str]) -> tuple[list[str], list[st
         if write is None or len(write[4]) < 2:
             made.append(line)
             continue
-        reply = "c%s %s" % (write[0], encode_reply(write[1], words(0, len(write[4]))).hex())
+        record = encode_reply(write[1], words(0, len(write[4])))
+        reply = f"c{write[0]} {record.hex()}"
         if reply not in rest:  # the write waits, or takes nothing
             made.append(line)
             continue

@@ -63,14 +63,14 @@ def _spelled(byte: int) -> str:
     character = chr(byte)
     if character in '"\\':
         return "\\" + character
-    return character if 32 <= byte < 127 else NAMED.get(character, "\\x%02x" % byte)
+    return character if 32 <= byte < 127 else NAMED.get(character, f"\\x{byte:02x}")
 
 
 def _piece(data: bytes) -> str:
     plain = sum(32 <= byte < 127 or byte in b"\r\n\t" for byte in data)
     if plain * 2 < len(data):
-        return 'hex"%s"' % data.hex()
-    return '"%s"' % "".join(map(_spelled, data))
+        return f'hex"{data.hex()}"'
+    return f'"{"".join(map(_spelled, data))}"'
 
 
 def _repeated(data: bytes, place: int) -> tuple[int, int]:
@@ -107,7 +107,7 @@ def text_of(data: bytes) -> str:
         shift, count = _shifted(data, place, period, count)
         plain, place = plain + data[place : place + shift], place + shift
         pieces += [_piece(plain)] * bool(plain)
-        pieces.append("%d*%s" % (count, _piece(data[place : place + period])))
+        pieces.append(f"{count}*{_piece(data[place : place + period])}")
         plain, place = b"", place + period * count
     if plain or not pieces:
         pieces.append(_piece(plain))
@@ -144,4 +144,4 @@ def sum_of(number: int, names: Mapping[str, int]) -> str:
 
 
 def plain_number(number: int) -> str:
-    return "%d" % number if number < 2**24 else "0x%x" % number
+    return f"{number}" if number < 2**24 else f"0x{number:x}"

@@ -67,9 +67,10 @@ def wrapped(text: str, room: float, size: float = 12, look: str = "") -> list[st
 def style(dark: bool) -> Iterator[str]:
     """The style rules for light, or for dark."""
     for name, inks in INKS.items():
-        yield ".%s{fill:%s}.line-%s{stroke:%s}" % (name, inks[dark], name, inks[dark])
+        yield f".{name}{{fill:{inks[dark]}}}.line-{name}{{stroke:{inks[dark]}}}"
     for name, grounds in GROUNDS.items():
-        yield ".on-%s{fill:%s;stroke:%s}" % ((name,) + grounds[2 * dark : 2 * dark + 2])
+        fill, stroke = grounds[2 * dark : 2 * dark + 2]
+        yield f".on-{name}{{fill:{fill};stroke:{stroke}}}"
 
 
 class Canvas:
@@ -86,12 +87,12 @@ class Canvas:
         self, x: float, y: float, wide: float, high: float, look: str = "plain", corner: float = 6
     ) -> None:
         if x < 0 or x + wide > self.wide:
-            raise Fault("%s: a box leaves the picture" % self.title)
+            raise Fault(f"{self.title}: a box leaves the picture")
         self.lowest = max(self.lowest, y + high)
         dashes = ' stroke-dasharray="5 4"' if look == "room" else ""
         self.parts.append(
-            '<rect x="%g" y="%g" width="%g" height="%g" rx="%g" class="on-%s"%s/>'
-            % (x, y, wide, high, corner, look, dashes)
+            f'<rect x="{x:g}" y="{y:g}" width="{wide:g}" height="{high:g}" rx="{corner:g}" '
+            f'class="on-{look}"{dashes}/>'
         )
 
     def words(
@@ -108,12 +109,12 @@ class Canvas:
         wide = width(text, size, look)
         left = {"start": x, "middle": x - wide / 2, "end": x - wide}[anchor]
         if wide > (room or self.wide) or left < 0 or left + wide > self.wide:
-            raise Fault("%s: there is no room for '%s'" % (self.title, text))
+            raise Fault(f"{self.title}: there is no room for '{text}'")
         self.lowest = max(self.lowest, y)
-        where = "" if anchor == "start" else ' text-anchor="%s"' % anchor
+        where = "" if anchor == "start" else f' text-anchor="{anchor}"'
         self.parts.append(
-            '<text x="%g" y="%g" font-size="%g" class="%s"%s>%s</text>'
-            % (x, y, size, look, where, escape(text))
+            f'<text x="{x:g}" y="{y:g}" font-size="{size:g}" class="{look}"{where}>'
+            f"{escape(text)}</text>"
         )
 
     def lines(
@@ -136,9 +137,9 @@ class Canvas:
         self, points: Sequence[Point], ink: str = "soft", heads: str = "end", dashed: bool = False
     ) -> None:
         """Draws a line through these points, with an arrowhead at its end, at both ends, or at none."""
-        path = "M" + "L".join("%g %g" % point for point in points)
+        path = "M" + "L".join(f"{x:g} {y:g}" for x, y in points)
         dashes = ' stroke-dasharray="5 4"' if dashed else ""
-        self.parts.append('<path d="%s" class="way line-%s"%s/>' % (path, ink, dashes))
+        self.parts.append(f'<path d="{path}" class="way line-{ink}"{dashes}/>')
         if heads in ("end", "both"):
             self.head(points[-2], points[-1], ink)
         if heads == "both":
@@ -153,12 +154,11 @@ class Canvas:
             if across
             else ((x - 4, y + back), (x + 4, y + back))
         )
-        self.parts.append(
-            '<path d="M%g %gL%g %gL%g %gZ" class="%s"/>' % (at + sides[0] + sides[1] + (ink,))
-        )
+        path = "M" + "L".join(f"{x:g} {y:g}" for x, y in (at, *sides)) + "Z"
+        self.parts.append(f'<path d="{path}" class="{ink}"/>')
 
     def dot(self, x: float, y: float, ink: str = "soft", radius: float = 5) -> None:
-        self.parts.append('<circle cx="%g" cy="%g" r="%g" class="%s"/>' % (x, y, radius, ink))
+        self.parts.append(f'<circle cx="{x:g}" cy="{y:g}" r="{radius:g}" class="{ink}"/>')
 
     def heading(self, further: str) -> None:
         """Writes the title, and further words after it."""
@@ -174,22 +174,22 @@ class Canvas:
             + "".join(style(True))
             + "}"
         )
-        fonts = "text{font-family:%s}.fixed{font-family:%s}.bold{font-weight:bold}" % (FONTS, FIXED)
+        fonts = f"text{{font-family:{FONTS}}}.fixed{{font-family:{FIXED}}}.bold{{font-weight:bold}}"
         fixed = fonts + ".way{fill:none;stroke-width:1.5}"
         head = (
-            '<svg xmlns="http://www.w3.org/2000/svg" viewBox="0 0 %g %g" width="%g" height="%g" role="img" aria-label=%s>'
-            % (wide, high, wide, high, quoteattr(self.title))
+            f'<svg xmlns="http://www.w3.org/2000/svg" viewBox="0 0 {wide:g} {high:g}" '
+            f'width="{wide:g}" height="{high:g}" role="img" aria-label={quoteattr(self.title)}>'
         )
+        page = f'<rect x="0.5" y="0.5" width="{wide - 1:g}" height="{high - 1:g}" rx="10"'
         return (
             "\n".join(
                 (
                     head,
                     "<!-- Written by tools/pictures from the sources and documents; change those and run it. -->",
-                    "<title>%s</title>" % escape(self.title),
-                    "<desc>%s</desc>" % escape(self.told),
-                    "<style>%s</style>" % (fixed + rules),
-                    '<rect x="0.5" y="0.5" width="%g" height="%g" rx="10" class="on-page"/>'
-                    % (wide - 1, high - 1),
+                    f"<title>{escape(self.title)}</title>",
+                    f"<desc>{escape(self.told)}</desc>",
+                    f"<style>{fixed + rules}</style>",
+                    page + ' class="on-page"/>',
                     *self.parts,
                     "</svg>",
                 )

@@ -12,7 +12,7 @@ def part(pattern: str, text: str) -> str:
     """What the group of a pattern matches in a text. Raises ValueError if that has no such part."""
     found = re.search(pattern, text)
     if found is None:
-        raise ValueError("no '%s' in '%s'" % (pattern, text))
+        raise ValueError(f"no '{pattern}' in '{text}'")
     return found.group(1)
 
 
@@ -32,16 +32,14 @@ class Sources:
         head = "\n| " + " | ".join(columns) + " |\n"
         text = self.text(path)
         if text.count(head) != 1:
-            raise Fault("%s: it has no one table with the columns %s" % (path, ", ".join(columns)))
+            raise Fault(f"{path}: it has no one table with the columns {', '.join(columns)}")
         rows: list[list[str]] = []
         for line in text[text.index(head) + len(head) :].split("\n")[1:]:
             if not line.startswith("|"):
                 break
             cells = [cell.strip().replace("`", "") for cell in line.strip("|").split("|")]
             if len(cells) != len(columns):
-                raise Fault(
-                    "%s: a row has %d cells of %d: %s" % (path, len(cells), len(columns), line)
-                )
+                raise Fault(f"{path}: a row has {len(cells)} cells of {len(columns)}: {line}")
             cells[0] = cells[0] or rows[-1][0]
             rows.append(cells)
         return rows
@@ -49,9 +47,9 @@ class Sources:
     def definition(self, place: str, name: str) -> str:
         """The lines of a definition, joined; `place` is a file such as `sv_scan/Scan`."""
         crate, _, file = place.partition("/")
-        found = self.definitions.lines.get(("Rattle.%s.specs.%s" % (crate, file), name))
+        found = self.definitions.lines.get((f"Rattle.{crate}.specs.{file}", name))
         if found is None:
-            raise Fault("crates/%s/specs/%s.antt: it has no %s" % (crate, file, name))
+            raise Fault(f"crates/{crate}/specs/{file}.antt: it has no {name}")
         return "\n".join(found)
 
     def equations(self, place: str, name: str) -> dict[str, str]:
@@ -61,9 +59,9 @@ class Sources:
 
     def variants(self, path: str, name: str) -> dict[str, str]:
         """The variants of an enum of the code, each with the first sentence of its comment."""
-        found = re.search(r"\npub enum %s \{\n(.*?)\n\}" % name, self.text(path), flags=re.S)
+        found = re.search(rf"\npub enum {name} \{{\n(.*?)\n\}}", self.text(path), flags=re.S)
         if not found:
-            raise Fault("%s: it has no enum %s" % (path, name))
+            raise Fault(f"{path}: it has no enum {name}")
         told: list[str] = []
         variants: dict[str, str] = {}
         for line in found.group(1).split("\n"):
@@ -79,6 +77,6 @@ class Sources:
 def agree(path: str, what: str, here: Iterable[str], there: Iterable[str], other: str) -> None:
     """Raises Fault if a document doesn't say the same as a source."""
     for one in sorted(set(there) - set(here)):
-        raise Fault("%s: %s: %s is only in %s" % (path, what, one, other))
+        raise Fault(f"{path}: {what}: {one} is only in {other}")
     for one in sorted(set(here) - set(there)):
-        raise Fault("%s: %s: %s isn't in %s" % (path, what, one, other))
+        raise Fault(f"{path}: {what}: {one} isn't in {other}")

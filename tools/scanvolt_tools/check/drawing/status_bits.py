@@ -48,7 +48,7 @@ def word(sources: Sources, place: str, text: str) -> dict[int, str]:
             for right in sources.equations(there, other.group(2)).values():
                 bits.update(word(sources, there, right))
         else:
-            raise Fault("crates/%s: '%s' is no bit and no word" % (place, term))
+            raise Fault(f"crates/{place}: '{term}' is no bit and no word")
     return bits
 
 
@@ -60,13 +60,13 @@ def conditions(sources: Sources) -> dict[str, dict[int, str]]:
         place, "scan_word"
     )
     for name in sources.variants(REGISTERS, "RegisterName"):
-        told = measured.get("scan_word %s acts" % name)
-        right = equations.get("condition %s log" % name) or equations.get(
+        told = measured.get(f"scan_word {name} acts")
+        right = equations.get(f"condition {name} log") or equations.get(
             "condition name log", ""
         ).replace("name", name)
-        own = "word %s log" % name
+        own = f"word {name} log"
         if told is None or own not in right or name not in WORDS:
-            raise Fault("%s: there is no place for the register %s" % (REGISTERS, name))
+            raise Fault(f"{REGISTERS}: there is no place for the register {name}")
         found[WORDS[name]] = word(sources, place, right.replace(own, told))
     return found
 
@@ -82,7 +82,7 @@ def standard_events(sources: Sources) -> dict[int, str | None]:
     there = sources.definition("sv_errors/Code", "class_event")
     here.update(
         {
-            int(bit): "-%sxx" % kind
+            int(bit): f"-{kind}xx"
             for kind, bit in re.findall(r"class == (\d+) then 2 \^ (\d+)", there)
         }
     )
@@ -94,10 +94,10 @@ def status_byte(sources: Sources) -> Byte:
     found: dict[int, str | None] = {}
     text = sources.definition("sv_layers/StatusByte", "SummaryBit")
     for bit, said in re.findall(r"\(k ≡ (\d+)\) × (.*?log)", text):
-        name = re.search(r"Summary (%s)|(StandardSummary|response|entries)" % "|".join(WORDS), said)
+        name = re.search(rf"Summary ({'|'.join(WORDS)})|(StandardSummary|response|entries)", said)
         if not name:
             raise Fault(
-                "crates/sv_layers/specs/StatusByte.antt: it isn't known what bit %s sums up" % bit
+                f"crates/sv_layers/specs/StatusByte.antt: it isn't known what bit {bit} sums up"
             )
         found[int(bit)] = WORDS[name.group(1)] if name.group(1) else SUMMED[name.group(2)]
     for whole in ("PolledBit", "MasterBit"):
@@ -116,7 +116,7 @@ def named(sources: Sources) -> Names:
     found: dict[str, dict[int, tuple[str, str]]] = {}
     for register, bit, weight, name, stands in sources.table(PAGE, *COLUMNS):
         if int(weight) != 2 ** int(bit):
-            raise Fault("%s: %s: the weight of bit %s isn't %s" % (PAGE, register, bit, weight))
+            raise Fault(f"{PAGE}: {register}: the weight of bit {bit} isn't {weight}")
         found.setdefault(register, {})[int(bit)] = (name, stands)
     return found
 
@@ -125,7 +125,7 @@ def polling(sources: Sources) -> list[str]:
     """The first sentences of the page about requests and polls."""
     found = re.search(r"\n- \*\*Polling\.\*\* (.*?)\n- ", sources.text(PAGE), flags=re.S)
     if not found:
-        raise Fault("%s: it has no item 'Polling.'" % PAGE)
+        raise Fault(f"{PAGE}: it has no item 'Polling.'")
     return re.split(r"(?<=\.) ", " ".join(found.group(1).replace("`", "").split()))[:2]
 
 
@@ -143,13 +143,13 @@ def read(sources: Sources) -> tuple[Names, Byte, Nested]:
         agree(
             PAGE,
             register,
-            ["bit %d" % bit for bit in names[register]],
-            ["bit %d" % bit for bit in bits],
+            [f"bit {bit}" for bit in names[register]],
+            [f"bit {bit}" for bit in bits],
             "the sources",
         )
     for bit, kind in standard.items():
         if kind and kind not in names[STANDARD][bit][1]:
-            raise Fault("%s: standard events: bit %d doesn't say %s" % (PAGE, bit, kind))
+            raise Fault(f"{PAGE}: standard events: bit {bit} doesn't say {kind}")
     nested = {
         WORDS[found.group(1)]: (register, bit)
         for register, bits in words.items()

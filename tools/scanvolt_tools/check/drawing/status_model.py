@@ -150,7 +150,7 @@ def status_byte(canvas: Canvas, bits: Byte, said: Bits) -> float:
     summed = [bit for bit, what in bits.items() if what]
     whole = [bit for bit, what in bits.items() if not what]
     if len(whole) != 1 or not min(summed) < whole[0] < max(summed):
-        raise Fault("%s: MSS isn't one bit between others" % canvas.title)
+        raise Fault(f"{canvas.title}: MSS isn't one bit between others")
     top, end = byte_y(max(summed)) - 18, byte_y(min(summed)) + 18
     gate(canvas, LAST[0], LAST[1], top, end - top)
     y = byte_y(whole[0])
@@ -211,7 +211,7 @@ def nested(
         y = tops[register] + HEAD + ROW * place + CELL / 2
         between, left = tops[name] - 12, 30
         if not tops[register] < tops[name]:
-            raise Fault("%s: %s is above %s" % (canvas.title, name, register))
+            raise Fault(f"{canvas.title}: {name} is above {register}")
         turn = start[0] + 14
         canvas.way(
             [start, (turn, start[1]), (turn, between), (left, between), (left, y), (SOURCE[0], y)],
@@ -234,7 +234,7 @@ def draw(sources: Sources) -> str:
         - {status_bits.BYTE}
     )
     if unplaced:
-        raise Fault("%s: there is no place for %s" % (canvas.title, ", ".join(unplaced)))
+        raise Fault(f"{canvas.title}: there is no place for {', '.join(unplaced)}")
     tops, summaries = blocks(canvas, names, bits)
     end = status_byte(canvas, bits, names[status_bits.BYTE])
     request(canvas, end, status_bits.polling(sources))

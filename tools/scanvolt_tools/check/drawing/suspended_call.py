@@ -103,11 +103,13 @@ def rows(sources: Sources) -> tuple[dict[str, str], dict[str, list[str]]]:
     for column, said in ((3, late(sources, waits)), (4, aborted(sources, waits))):
         for wait, answer in said.items():
             if found[wait][column] != answer:
-                where = (PAGE, word(wait), COLUMNS[column + 1], answer, found[wait][column])
-                raise Fault("%s: %s: %s: by the definitions '%s', not '%s'" % where)
+                raise Fault(
+                    f"{PAGE}: {word(wait)}: {COLUMNS[column + 1]}: "
+                    f"by the definitions '{answer}', not '{found[wait][column]}'"
+                )
     for wait, call in calls.items():
         if call not in re.findall(r"\w+", found[wait][0]):
-            raise Fault("%s: %s: %s waits for it" % (PAGE, word(wait), call))
+            raise Fault(f"{PAGE}: {word(wait)}: {call} waits for it")
     closing = sources.equations("sv_history/History", "own_acts").get(
         "own_acts config polled (Close (Conn c)) log", ""
     )
@@ -132,7 +134,7 @@ def lanes(canvas: Canvas, bottom: float) -> None:
             x,
             TOP - 1 - 17 * len(lines),
             lines,
-            "%s bold" % ("ink" if ink == "soft" else ink),
+            f"{'ink' if ink == 'soft' else ink} bold",
             13,
             "middle",
             ENDS + 4,

@@ -26,9 +26,7 @@ def product(text: str, values: Mapping[str, int]) -> int:
     whole = 1
     for name in text.split("*"):
         if name.strip() not in NUMBERS:
-            raise Fault(
-                "crates/sv_scan/specs/Scan.antt: state_by: '%s' can't be read" % text.strip()
-            )
+            raise Fault(f"crates/sv_scan/specs/Scan.antt: state_by: '{text.strip()}' can't be read")
         whole *= values[name.strip()]
     return whole
 
@@ -72,9 +70,7 @@ def guards(sources: Sources, states: Iterable[str], acts: Iterable[str]) -> Guar
     rules = sources.equations(COUNTED, "counts")
     found = {}
     for act in acts:
-        own = [
-            right for left, right in rules.items() if re.match(r"counts log \(?%s\b" % act, left)
-        ]
+        own = [right for left, right in rules.items() if re.match(rf"counts log \(?{act}\b", left)]
         right = own[0] if own else rules["counts log _"]
         fault = re.match(r"is_none \((\w+_fault)", right)
         if fault:
@@ -143,7 +139,7 @@ def refused(sources: Sources) -> Iterator[tuple[str, list[str], str]]:
     found = re.findall(
         r"entry (\w+) = \((\d+), codes \"(.*?)\"\)", sources.definition("sv_errors/Code", "entry")
     )
-    entries = {name: '-%s,"%s"' % (number, text) for name, number, text in found}
+    entries = {name: f'-{number},"{text}"' for name, number, text in found}
     for act, (good, code) in guards(sources, states, sources.variants(ACTS, "ScanAct")).items():
         if code and good != set(states):
             yield act, [state for state in states if state not in good], entries[code]

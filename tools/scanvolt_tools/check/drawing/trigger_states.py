@@ -32,9 +32,7 @@ def rows(sources: Sources) -> Moves:
     table = sources.table(PAGE, *COLUMNS)
     states = list(sources.variants(trigger_moves.STATES, "State"))
     if set(states) != set(PLACES):
-        raise Fault(
-            "%s: there is no place for the states %s" % (trigger_moves.STATES, ", ".join(states))
-        )
+        raise Fault(f"{trigger_moves.STATES}: there is no place for the states {', '.join(states)}")
     here = {
         (one, act.strip(), to)
         for start, by, to, _ in table
@@ -45,8 +43,8 @@ def rows(sources: Sources) -> Moves:
     agree(
         PAGE,
         "the table of moves",
-        ["%s by %s to %s" % one for one in here],
-        ["%s by %s to %s" % one for one in there],
+        [f"{start} by {by} to {to}" for start, by, to in here],
+        [f"{start} by {by} to {to}" for start, by, to in there],
         "crates/sv_scan/specs",
     )
     return {(start, to): (by, when) for start, by, to, when in table}
@@ -69,7 +67,7 @@ def states(canvas: Canvas, sources: Sources) -> None:
             x + BOX[0] / 2, TOP + 49, wrapped(told, BOX[0] - 24), "ink", 12, "middle", BOX[0] - 16
         )
         canvas.words(
-            x + BOX[0] / 2, y + 7, "STAT:OPER:COND? %d" % words[name], "soft fixed", 11, "middle"
+            x + BOX[0] / 2, y + 7, f"STAT:OPER:COND? {words[name]}", "soft fixed", 11, "middle"
         )
 
 
@@ -135,13 +133,11 @@ def draw(sources: Sources) -> str:
     under(canvas, moves)
     back(canvas, moves)
     if moves:
-        raise Fault(
-            "%s: there is no way for %s"
-            % (canvas.title, ", ".join("%s to %s" % one for one in moves))
-        )
+        without = ", ".join(f"{start} to {to}" for start, to in moves)
+        raise Fault(f"{canvas.title}: there is no way for {without}")
     y = TOP + BOX[1] + DEEP["Idle"] + 40
     for act, where, error in trigger_moves.refused(sources):
         if act in TOLD:
-            canvas.words(40, y, "%s in %s: %s" % (TOLD[act], " or ".join(where), error), "soft", 12)
+            canvas.words(40, y, f"{TOLD[act]} in {' or '.join(where)}: {error}", "soft", 12)
             y += 19
     return canvas.svg()

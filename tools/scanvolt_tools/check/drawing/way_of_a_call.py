@@ -41,12 +41,12 @@ def read(sources: Sources) -> tuple[Rows, list[str]]:
     for place, (crate, (callers, _, _)) in enumerate(rows.items()):
         for caller in callers if place else ():
             if crate not in stands_on.get(caller, ()):
-                raise Fault("%s: by crates.txt %s doesn't depend on %s" % (PAGE, caller, crate))
+                raise Fault(f"{PAGE}: by crates.txt {caller} doesn't depend on {crate}")
         if place and callers[0] not in list(rows)[:place]:
-            raise Fault("%s: %s is above its caller" % (PAGE, crate))
+            raise Fault(f"{PAGE}: {crate} is above its caller")
     line = re.search(BESIDE + r"(.*?)\.\n", sources.text(PAGE), flags=re.S)
     if not line:
-        raise Fault("%s: it has no line 'Beside the way:'" % PAGE)
+        raise Fault(f"{PAGE}: it has no line 'Beside the way:'")
     beside = re.findall(r"`(\w+)`", line.group(1))
     agree(
         PAGE, "the way of a call", [*rows, *beside], {first, *below(first, stands_on)}, "crates.txt"
