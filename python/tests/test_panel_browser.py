@@ -152,6 +152,15 @@ class InABrowser(WithPanel):
         link.query("*IDN?")
         page.wait("flashes > 0 || " + LIT % ("STB", "MAV"))
 
+    def test_a_bit_flashes_that_was_lit_before_the_first_state_is_drawn(self) -> None:
+        flashes = self.page().run(
+            "(() => { const first = JSON.stringify(state), next = JSON.parse(first), register = next.registers.STB; "
+            "register.rises = {MAV: ((register.rises || {}).MAV || 0) + 1}; state = null; seen.clear(); "
+            "stream.onmessage({data: first}); stream.onmessage({data: JSON.stringify(next)}); drawFront(); "
+            "return document.querySelector('[data-lamp=STB][data-bit=MAV]').classList.contains('flash'); })()"
+        )
+        self.assertTrue(flashes)
+
     def test_who_waits_for_whom(self) -> None:
         page, one, other = self.page(), self.link(), self.link()
         one.lock()

@@ -2,7 +2,7 @@
 // The front: shows the state as it comes, and sends what the knobs say.
 const token = new URLSearchParams(location.search).get("token") || "";
 const MINUS = "\u2212", OVERLOAD = {"+over": "+9.9E+37", "-over": "-9.9E+37"};
-let state = null, came = 0, chosen = 1, tab = "front", seen = {};
+let state = null, came = 0, chosen = 1, tab = "front";
 const front = id => document.getElementById(id);
 const put = (id, text) => { const one = front(id); if (one.textContent !== text) one.textContent = text; };
 const made = (tag, kind, text) => { const one = document.createElement(tag); if (kind) one.className = kind; if (text !== undefined) one.textContent = text; return one; };
@@ -80,19 +80,20 @@ function drawSettings() {
   put("message", said.join(", ") || "none under way");
 }
 
-// Lamps. One that was lit and is off again flashes.
+// Lamps. One that was lit and is off again flashes. `seen` has how often each had been lit when it was drawn last, or else in the
+// first state that came: the next state can come before that one is drawn.
 const lamps = [...document.querySelectorAll("[data-lamp]")], numbers = [...document.querySelectorAll("[data-value]")];
 const register = where => where.split(".").reduce((found, part) => found[part], state.registers);
+const seen = new Map(), rises = lamp => (register(lamp.dataset.lamp).rises || {})[lamp.dataset.bit] || 0;
 function drawLamps() {
   for (const lamp of lamps) {
-    const found = register(lamp.dataset.lamp), bit = lamp.dataset.bit, on = found.bits.includes(bit), key = lamp.dataset.lamp + bit;
-    const rises = found.rises ? found.rises[bit] || 0 : 0;
+    const bit = lamp.dataset.bit, on = register(lamp.dataset.lamp).bits.includes(bit), count = rises(lamp);
     if (lamp.classList.toggle("on", on) !== (lamp.ariaLabel || "").endsWith("on")) lamp.ariaLabel = `${lamp.dataset.lamp} ${bit}: ${on ? "on" : "off"}`;
-    if (!on && seen[key] !== undefined && rises > seen[key]) {
+    if (!on && count > seen.get(lamp)) {
       lamp.classList.add("flash");
       setTimeout(() => lamp.classList.remove("flash"), 350);
     }
-    seen[key] = rises;
+    seen.set(lamp, count);
   }
   for (const one of numbers) { const text = String(register(one.dataset.value).value); if (one.textContent != text) one.textContent = text; }
 }
@@ -225,7 +226,9 @@ function drawFront() {
 }
 const stream = new EventSource("/events");
 stream.onmessage = event => {
+  const first = state === null;
   state = JSON.parse(event.data);
+  if (first) lamps.forEach(lamp => seen.set(lamp, rises(lamp)));
   came = performance.now();
   lostAt = false;
   due = true;
