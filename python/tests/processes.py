@@ -9,6 +9,7 @@ import signal
 import tempfile
 import threading
 import time
+import unittest
 from collections.abc import Iterator
 
 TOP = str(pathlib.Path(__file__).resolve().parent.parent)
@@ -30,6 +31,11 @@ def is_there(number: int) -> bool:
         return pathlib.Path(f"/proc/{number}/stat").read_text().rpartition(")")[2].split()[0] != "Z"
     except FileNotFoundError:
         return False
+
+
+def hear_hangups(test: unittest.TestCase) -> None:
+    """Lets SIGHUP end the programs that a test starts: under nohup they would inherit that it is ignored."""
+    test.addCleanup(signal.signal, signal.SIGHUP, signal.signal(signal.SIGHUP, signal.SIG_DFL))
 
 
 def goes(number: int, seconds: float = 10.0) -> bool:

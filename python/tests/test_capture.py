@@ -13,7 +13,7 @@ from scanvolt.capturing import compare
 from scanvolt.vxi11 import calls, encode_reply, opaque, words
 
 from .captures import START, Capture, Folder, call
-from .processes import goes, kill
+from .processes import goes, hear_hangups, kill
 
 
 def told(start: int) -> tuple[str, str]:
@@ -257,6 +257,9 @@ exec {self.folder.replay} replay
 
 class Signals(unittest.TestCase):
     """If the command is ended by a signal, no replaying program remains, whatever that does."""
+
+    def setUp(self) -> None:
+        hear_hangups(self)
 
     def test_a_program_that_is_busy(self) -> None:
         for how in (signal.SIGTERM, signal.SIGINT, signal.SIGHUP, signal.SIGKILL):

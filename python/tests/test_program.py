@@ -20,7 +20,7 @@ from scanvolt import program
 from scanvolt.program import ProgramError, Server, find_program
 from scanvolt.virtual import Meter
 
-from .processes import TOP, goes, is_there, kill, script, stop
+from .processes import TOP, goes, hear_hangups, is_there, kill, script, stop
 
 # A program that replays as scanvolt does, and does something else in place of serving.
 OTHERWISE = '[ "$1" = replay ] && exec "%s" replay\n%s\n'
@@ -59,6 +59,9 @@ def fault_of(path: str) -> str:
 
 class NothingLeft(unittest.TestCase):
     """No program remains."""
+
+    def setUp(self) -> None:
+        hear_hangups(self)
 
     def leaves(self, how: signal.Signals | None, stopped: bool = False, text: str = "") -> None:
         """Ends a process that has started a server in a thread that has ended, by a signal or by its own end."""
