@@ -174,7 +174,7 @@ class Packing:
         copied(
             ["packaging/postinst", "packaging/prerm", "packaging/postrm"], root / "DEBIAN", "755"
         )
-        self.debian(root, out / (f"scanvolt_{self.version}_amd64.deb"))
+        self.debian(root, out / f"scanvolt_{self.version}_amd64.deb")
 
     def python_package(self, out: pathlib.Path) -> None:
         """Writes the wheels, the sdist and Debian's package of the Python package into the folder, using tree/ and inside/ in it."""
@@ -201,7 +201,7 @@ class Packing:
         self.control(root, "packaging/python-control")
         run("install", "-m", "755", TOP / "packaging/python-postinst", root / "DEBIAN/postinst")
         run("install", "-m", "755", TOP / "packaging/python-prerm", root / "DEBIAN/prerm")
-        self.debian(root, out / (f"python3-scanvolt_{self.version}_all.deb"))
+        self.debian(root, out / f"python3-scanvolt_{self.version}_all.deb")
 
     def control(self, root: pathlib.Path, name: str) -> None:
         """Writes what a package of Debian says of itself: the form, and the sums of its files."""
