@@ -70,6 +70,7 @@ impl Listener {
     }
 
     /// Accepts a connection, if one might be waiting.
+    #[inline(always)]
     pub(crate) fn accept(&self) -> Answer<TcpStream> {
         if !self.readable.get() {
             return Answer::Pending;

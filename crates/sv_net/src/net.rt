@@ -218,6 +218,7 @@ impl<N: Network + Drop, A: Allocator, S: Stream> Wire for Net<N, A, S> {
 
     ghost hears = { Hears S.remaining S.contents };
 
+    #[inline(always)]
     fn accept(&mut self, role: Role, conn: Option<u8>) -> Answer<()> {
         match (self.listeners[listener_number(role)].accept(), conn) {
             (Answer::Got(stream), Some(conn)) => {

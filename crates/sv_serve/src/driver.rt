@@ -172,6 +172,7 @@ impl<W: Wire + Drop, A: Allocator, J: Journal + Drop> Driver<W, A, J> {
 
     /// Applies an event to the server. The caller must know from the server's query functions that
     /// the server doesn't refuse the event now.
+    #[inline(always)]
     pub(crate) fn apply(&mut self, event: Event<'_>)
         ensures { From J.notes (IsSuited (plain event.entry)) (IsApplied (plain event.entry))
             self.old self.new }
@@ -181,6 +182,7 @@ impl<W: Wire + Drop, A: Allocator, J: Journal + Drop> Driver<W, A, J> {
     }
 
     /// Gives the server an event that it can refuse, and returns the server's answer.
+    #[inline(always)]
     pub(crate) fn give(&mut self, event: Event<'_>) -> Result<Did, Refused>
         ensures { Steps J.notes (Given (plain event.entry) result) self.old self.new }
     {
