@@ -35,8 +35,7 @@ fn has_input<N: Network + Drop, A: Allocator, S: Stream, J: Journal + Drop>(
     socket: &Socket<S>,
 ) -> bool {
     let server = driver.server();
-    socket.is_broken()
-        || socket.is_readable() && (server.room(conn) > 0 || server.overlong(conn))
+    socket.is_broken() || socket.is_readable() && (server.room(conn) > 0 || server.overlong(conn))
 }
 
 /// Whether the next sweep has something to do on a connection's interrupt channel even if no report
