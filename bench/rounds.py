@@ -11,6 +11,10 @@ import time
 
 HERE = pathlib.Path(__file__).resolve().parent
 TOP = HERE.parent
+sys.path.append(str(TOP / "tools"))
+
+from scanvolt_tools.command import status  # noqa: E402
+
 # Scripts: what bench/scripts takes, and the ticks that are counted; without these, all lines are.
 SCRIPTS = {
     "writes and reads": (("pairs", 20000), None),
@@ -29,6 +33,12 @@ def end_at_signals():
     """Lets a signal end this process as an exception does, so that no server and no folder is left."""
     for number in (signal.SIGHUP, signal.SIGINT, signal.SIGTERM):
         signal.signal(number, lambda *_: sys.exit(1))
+
+
+def run(main, text):
+    """Runs a command's `main` with the words of the command line, and ends with its status. `--help` prints the text."""
+    end_at_signals()
+    sys.exit(status(main, text))
 
 
 class Failure(Exception):

@@ -199,6 +199,17 @@ class Measures(unittest.TestCase):
             self.assertRegex(kept, f"^({measures.FORMS['value']})$")
 
 
+class Commands(unittest.TestCase):
+    def test_help_is_that_of_the_command(self) -> None:
+        for name in "run", "scripts", "serve", "turn":
+            told = subprocess.run(
+                [f"{TOP}/bench/{name}", "--help"], capture_output=True, text=True, check=False
+            )
+            with self.subTest(name):
+                self.assertRegex(told.stdout, rf"^(usage: )?{name} \[?[-A-Zh]")
+                self.assertEqual((told.returncode, told.stderr), (0, ""))
+
+
 class Run(Folders):
     """The parts of bench/run, with programs that print what they read, or something else."""
 
