@@ -7,6 +7,7 @@ from __future__ import annotations
 
 import collections
 import concurrent.futures
+import contextlib
 import pathlib
 import subprocess
 import sys
@@ -23,6 +24,7 @@ from scanvolt.explaining.explanation import Explanation
 from scanvolt.explaining.reasons import Reasons
 from scanvolt.explaining.tables import ERRORS
 from scanvolt.explaining.telling import Telling
+from scanvolt.explaining.trial import Trial
 from scanvolt.program import find_program
 from scanvolt.virtual import Meter
 from scanvolt.vxi11 import calls
@@ -59,6 +61,13 @@ def text_of(name: str) -> str:
     with mock.patch.object(tries, "LIMIT", 60):  # what is tried may take long on a busy machine
         parts = [found.text()] + [f"$ --why {one}\n{found.why(one)}" for one in ASKED.get(name, ())]
     return "\n".join(parts) + "\n"
+
+
+def lasts(trial: Trial) -> None:
+    """A try that goes on until its program is ended, but at most a minute."""
+    with contextlib.suppress(subprocess.TimeoutExpired):
+        trial.program.process.wait(60)
+    trial.do("tick\n")
 
 
 def checked(seed: int) -> Checks:
@@ -185,8 +194,8 @@ class Limits(unittest.TestCase):
             connection.start(link.calls.read())
             found = meter.explain()
             threads = threading.active_count()
-            with mock.patch.object(tries, "LIMIT", 0.01):
-                self.assertIn("not tried", found.end())
+            with mock.patch.object(tries, "LIMIT", 0.01), mock.patch.object(tries, "_time", lasts):
+                self.assertRegex(found.end(), "not tried +.*time alone")
             self.assertEqual(threading.active_count(), threads)
             connection.close()
 
